@@ -1,10 +1,10 @@
-//! What a derivation says of a core.
+//! What a derivation states about a core.
 
 use pc_caps::{Cap, Form, List};
 use pc_masks::Mask;
 
-/// The typing rules. Each belongs to one kind of node, or to a few. Those that the paper of 2015 has no rule for are
-/// this project's profile.
+/// The typing rules. Each applies to one kind of node, or to a few. Rules that the paper of 2015 does not have are this
+/// project's profile.
 #[derive(Clone, Copy, Debug, PartialEq, Eq)]
 pub enum Rule {
     /// A number.
@@ -21,28 +21,28 @@ pub enum Rule {
     Local,
     /// `consume` of a local or parameter.
     Consume,
-    /// A field that is read.
+    /// Reading a field.
     Get,
-    /// A field of `this` that is read in a constructor, before all fields are set.
+    /// Reading a field of `this` in a constructor, before all fields are set.
     GetOwn,
-    /// A field that is written.
+    /// Writing a field.
     Put,
-    /// A field of `this` that is written in a constructor, before all fields are set.
+    /// Writing a field of `this` in a constructor, before all fields are set.
     PutOwn,
     /// The definition of a local.
     Define,
     /// The assignment to a local or parameter.
     Assign,
-    /// A constructor of a class.
+    /// Constructing an object of a class.
     New,
-    /// A constructor of an actor.
+    /// Constructing an actor.
     Spawn,
-    /// The call of a method.
+    /// Calling a method.
     Call,
-    /// The call of a method on an isolated receiver that the method does not take as it is (receiver recovery, in the
-    /// Pony tutorial).
+    /// Calling a method on an isolated receiver that does not fit the method's receiver as it is (receiver recovery, in
+    /// the Pony tutorial).
     CallRecover,
-    /// The message to an actor.
+    /// Sending a message to an actor.
     Send,
     /// The text of a number or of a truth value.
     Builtin,
@@ -52,11 +52,11 @@ pub enum Rule {
     Compare,
     /// Equality of numbers, truth values or texts.
     Equal,
-    /// Two texts as one.
+    /// Concatenating two texts.
     Join,
     /// `xor` and `not`.
     Logic,
-    /// `and` and `or`, whose right side is looked at only where it is needed.
+    /// `and` and `or`, whose right side is evaluated only if needed.
     Lazy,
     /// `is` and `isnt`.
     Identity,
@@ -72,13 +72,13 @@ pub enum Rule {
     Body,
 }
 
-/// What a derivation says of a node. The live masks tell the slots that hold a value, the set masks the fields of
-/// `this` that have one; bit i stands for the slot or field of index i.
+/// What a derivation states about a node. The live masks contain the slots that hold a value, the set masks the fields
+/// of `this` that have one; bit i is the slot or field with index i.
 #[derive(Clone, Copy, Debug, PartialEq, Eq)]
 pub struct Note {
-    /// The rule that the node meets.
+    /// The rule that the node satisfies.
     pub rule: Rule,
-    /// The entity and the form of the node's value, or none where the value can't be used.
+    /// The entity and the form of the node's value, or none if the value can't be used.
     pub ty: Option<(u32, Form)>,
     /// The live slots before the node is evaluated.
     pub live_before: Mask,
@@ -90,7 +90,7 @@ pub struct Note {
     pub set_after: Mask,
 }
 
-/// An annotation of a core: for each slot its entity and capability, for each node its note, in the core's order.
+/// An annotation of a core: an entity and a capability for each slot, and a note for each node, in the core's order.
 #[derive(Debug, Drop, PartialEq)]
 pub struct Ann {
     pub slots: List<(u32, Cap)>,

@@ -1,4 +1,4 @@
-//! Annotations: what a derivation says of each slot and each node of a core. These are types alone.
+//! Annotations: what a derivation states about each slot and each node of a core. Types only.
 #![tactic(auto)]
 
 mod annotation;

@@ -1,4 +1,4 @@
--- An arena stays sound, and what its values are then.
+-- An arena stays sound, and its values afterwards.
 use Rattle.std.proofs.Common.{◌≡◌, ℕ, zero, suc, ◌+◌, ◌-◌, ◌*◌, ◌/◌, ◌%◌, ◌<◌, ◌≤◌, List, [], ◌∷◌, ◌++◌, length, set, get_or, replicate, slice_get, sym, ap, ◌∙◌, subst, arith, refl, length-append, length-set}
 use Rattle.pc_arena.specs.Chunks.{chunk_size}
 use Rattle.pc_arena.specs.Arenas.{place_limit, joined, chunked, Grown, Sound}

@@ -1,4 +1,4 @@
--- A row without values: it owns what an allocator hands over, and what the allocator asks back.
+-- A row without values: it owns what an allocator hands over, and what the allocator requires back.
 use Rattle.pc_arena.proofs.Steps.{◌≡◌, refl, sym, ℕ, ◌+◌, ◌*◌, ◌<◌, ◌^◌, arith, List, [], ◌∷◌, Ura, Fml, froom, ent, sep, emp, never, id⊢, Ty, ty_array, bare, align, capped, vstruct, vnil, WT, Logic, sem, Goal, Item, Seq, ‵, ◌$◌, ◌∵◌, !, qed, by, drop, use0, fsplit, fsplit3, fjoin, flt_i, flt_l, rewrite, done, lone, param, RattleType, block_ptr, in_a_block, makes_shadow, nothing, type_size, Ghosts, Ok, Err}
 use Rattle.std.specs.contracts.alloc.AllocError as error
 use Rattle.std.specs.contracts.result.Result as result
@@ -37,7 +37,7 @@ module _ (T Z : RattleType) (g : Ghosts Z.Denot) where
   abbrev pub Empty : Z.Denot → ℕ → ℕ → Fml
   Empty a b o = row_owned R (g.dealloc_token a) (block_ptr b o) []
 
-  -- what `new` answers
+  -- the result of `new`
   abbrev pub Answer : RattleType
   Answer = result.the_row Self error.the_row
 
@@ -64,7 +64,7 @@ module _ (T Z : RattleType) (g : Ghosts Z.Denot) where
       qed 𝓛 [] ∵ use0 𝓛 (‵ (error.the_row.own_val (record {}) (vstruct vnil ∷ []))) (makes_shadow 𝓛 (error.the_row.own_val (record {}) (vstruct vnil ∷ [])) (λ vss. (tt, tt)) (tt, (refl, tt))) $
       by ! (err_owns Self error.the_row 𝓛 (record {}) (vstruct vnil))
 
-  -- and such a row is what its allocator asks back
+  -- and such a row is what its allocator requires back
   pub emptied : {M : Type 1} {𝓤 : Ura M} {𝓛 : Logic 𝓤} {K : Type 0} {Γ : List (Item 𝓤)} {G : Goal 𝓤 𝓛.H} → K → (d : Self.Denot) (a : Z.Denot) → (d.values ≡ []) × (d.from ≡ a)
       → ((b o : ℕ) → d.first ≡ block_ptr b o → bytes < 2 ^ 63 → Seq K 𝓛 (‵ (Room b o) ∷ ‵ (Token a b o) ∷ Γ) G) → Seq K 𝓛 (‵ (row_owned R (g.dealloc_token d.from) d.first d.values) ∷ Γ) G
   emptied {𝓤} {𝓛} t d a (none, from) next =

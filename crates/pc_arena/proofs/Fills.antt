@@ -1,4 +1,4 @@
--- The values of a row and the memory behind them: one value more, one less, another in the place of one.
+-- The values of a row and the memory after them: one value more, one less, or one replaced.
 use Rattle.pc_arena.proofs.Steps.{◌≡◌, refl, sym, ap, ◌∙◌, ℕ, zero, suc, ◌+◌, ◌-◌, ◌*◌, ◌<◌, ◌≤◌, ◌^◌, arith, List, [], ◌∷◌, ◌++◌, length, set, get_or, Some, slice_get, Ura, full_share, Fml, Lft, froom, ent, sep, Ty, ty_array, bare, size, align, capped, capped_is, Logic, sem, ‵, ◌⊛◌, ◌$◌, ◌∵◌, !, qed, by, move, keep, use1, use2, split, fsplit, fjoin, rewrite, done, lone, part_at, shares, shared_of, param, Laws, RattleType, nothing, row, others, place_is, takes, puts, type_size, El, no_al, row_cut, row_glue, spare, unspare}
 use prog.RawLaws.{size-raw, align-raw}
 use Rattle.std.proofs.Common.{mul-le-mul_right, zero-mul, suc-mul}
@@ -8,7 +8,7 @@ use Rattle.pc_arena.specs.Ownership.{row_size, lent_from}
 pub within_word : (i s : ℕ) → i < row_size → row_size * s < 2 ^ 63 → (i * s < 2 ^ 64) × (s < 2 ^ 64)
 within_word i s lt short = let far : i * s ≤ row_size * s = mul-le-mul_right s (omega arith) in (omega arith, omega arith)
 
--- what an allocator is asked for
+-- what is requested of an allocator
 pub row_bytes : (τ : Ty) → row_size * size τ < 2 ^ 63 → capped (size (bare (ty_array τ row_size))) ≡ row_size * size τ
 row_bytes τ short = ap capped (size-raw (ty_array τ row_size)) ∙ capped_is (row_size * size τ) (omega arith)
 
@@ -45,7 +45,7 @@ module _ (T : RattleType) (L : Laws T) {M : Type 1} {𝓤 : Ura M} (𝓛 : Logic
   abbrev τ : Ty
   τ = lone R.mir
 
-  -- the memory behind n values
+  -- the memory after n values
   abbrev pub Behind : ℕ → Fml
   Behind n = froom (bare (ty_array τ (row_size - n))) b (o + n * s)
 
@@ -92,7 +92,7 @@ module _ (T : RattleType) (L : Laws T) {M : Type 1} {𝓤 : Ura M} (𝓛 : Logic
   one_in xs i x lt =
       qed 𝓛 (‵ (Lies x i) ∷ ‵ (Others xs i) ∷ []) ∵ rewrite ! 0 (λ (k : ℕ). ‵ (part_at R full_share x b k)) (sym (place_is s o i)) refl $ by ! (puts (shares R) full_share 𝓛 xs i x b o lt)
 
--- a value that is lent, among the others
+-- one lent value among the others
 pub one_lent : (R : RattleType) {M : Type 1} {𝓤 : Ura M} (𝓛 : Logic 𝓤) (κ : Lft) (b : ℕ) (xs : List R.Denot) (i : ℕ) (x : R.Denot) (o at : ℕ) → i < length xs → get_or xs i x ≡ x → at ≡ i * type_size R + o
     → ent 𝓤 (sem 𝓛 (lent_from R b o xs κ)) (sem 𝓛 (shared_of R x b at κ))
 one_lent R 𝓛 κ b [] i x o at lt is far = absurd (omega arith)

@@ -1,4 +1,4 @@
--- An allocator that is lent: a row is asked for, and its block is given back.
+-- An allocator that is lent: a row is requested, and its block is given back.
 use Rattle.pc_arena.proofs.Steps.{Post, runs, lands, settles, Opds, Env, Dict, Place, Operand, ◌≡◌, sym, subst, ℕ, ◌<◌, ◌^◌, arith, List, [], ◌∷◌, Ura, Lft, Share, flft, ent, sep, Ty, Body, align, capped_fits, Val, vint, vptr, vunit, vstruct, vnil, w64, Logic, sem, Item, Seq, Step, step, ‵, raw, later, given, ◌⊛◌, ◌$◌, use1, use2, split, group, learn, await, lone, hidden_shr, param, Laws, RattleType, calls_at, calls_at_last, tables, framed, Ghosts, ◌⊑◌}
 use contract.Running.{MachineTables, Running}
 use denote.Triple.Statement.{Contract}

@@ -1,4 +1,4 @@
--- What holds inside a chunk.
+-- The invariant inside a chunk.
 use Rattle.std.specs.Prelude.{◌≡◌, ℕ}
 use Rattle.pc_arena.specs.declared.row.Row.{Row}
 use Rattle.pc_arena.specs.Ownership.{row_size}
@@ -6,6 +6,6 @@ use Rattle.pc_arena.specs.Ownership.{row_size}
 abbrev pub chunk_size : ℕ
 chunk_size = row_size
 
--- The allocator is the one that gave the row.
+-- The allocator is the one that the row came from.
 pub record Sound {X Z : Type 0} (row : Row X Z) (alloc : Z) : Type 0 where
   pub owed : row.from ≡ alloc

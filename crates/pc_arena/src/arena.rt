@@ -28,7 +28,7 @@ impl<T> Model for Arena<T> {
     ghost invariant = { λ inside. Sound inside.chunks.items inside.count inside.spare };
 }
 
-/// Adds chunks until there are so many. A refusal may leave some of them.
+/// Adds chunks until there are `wanted`. If memory runs out, some of them may stay.
 fn grow<T>(chunks: &mut Vec<Chunk<T>>, wanted: usize) -> Result<(), AllocError>
     ensures grown { Grown chunks.old.items chunks.new.items }
     ensures ok { OnOk result (wanted ≤ length chunks.new.items) }
@@ -64,13 +64,13 @@ impl<T> Arena<T> {
         self.count
     }
 
-    /// Makes room for so many pushes. A refusal takes nothing away.
+    /// Makes room for `more` pushes. If memory runs out, no room is lost.
     pub fn reserve(&mut self, more: u32) -> Result<(), AllocError>
         requires { length self.old.items + more < place_limit }
         ensures items { self.new.items ≡ self.old.items }
         ensures ok { OnOk result (more ≤ self.new.spare) }
         ensures kept { self.old.spare ≤ self.new.spare }
-        // Where there is room already it cannot run out of memory.
+        // If there is room already, it cannot run out of memory.
         ensures enough { more ≤ self.old.spare → IsOk result }
     {
         if more <= self.spare {
@@ -82,7 +82,7 @@ impl<T> Arena<T> {
         Ok(())
     }
 
-    /// Puts a value at the next place, and answers the place. It cannot run out of memory.
+    /// Puts a value at the next place, and returns the place. It cannot run out of memory.
     pub fn push(&mut self, value: T) -> u32
         requires { 0 < self.old.spare }
         ensures place { result ≡ length self.old.items }
@@ -105,7 +105,7 @@ impl<T> Arena<T> {
         chunk.get(place as usize % CHUNK_SIZE)
     }
 
-    /// Puts a value in the place of another, and answers the one before. It cannot run out of memory.
+    /// Replaces the value at a place, and returns the old one. It cannot run out of memory.
     pub fn exchange(&mut self, place: u32, value: T) -> T
         requires { place < length self.old.items }
         ensures before { slice_get self.old.items place ≡ Some result }

@@ -1,4 +1,4 @@
-//! Rows of 256 places, as the lists of their values.
+//! Rows of 256 places, seen as the lists of their values.
 ghost use Rattle.std.specs.Prelude.{◌≡◌, ◌<◌, [], ◌∷◌, ◌++◌, length, Some, slice_get, slice_set, IfOk};
 ghost use Rattle.pc_arena.specs.Chunks.{chunk_size};
 
@@ -10,7 +10,7 @@ use std_alloc::room::may_hold;
 /// How many places a chunk has.
 pub(crate) const CHUNK_SIZE: usize = ROW_SIZE;
 
-/// 256 places that never move, of which the first ones hold values. Contracts see it as their list.
+/// 256 places that never move, the first of which hold values. Contracts see a chunk as the list of its values.
 pub struct Chunk<T> {
     row: Row<T, Global>,
     alloc: Global,
@@ -63,7 +63,7 @@ impl<T> Chunk<T> {
         self.row.get(place)
     }
 
-    /// Puts a value in the place of another, and answers the one before. It cannot run out of memory.
+    /// Replaces the value at a place, and returns the old one. It cannot run out of memory.
     pub(crate) fn exchange(&mut self, place: usize, value: T) -> T
         requires { place < length self.old }
         ensures before { slice_get self.old place ≡ Some result }
@@ -89,7 +89,7 @@ impl<T> Chunk<T> {
     }
 }
 
-/// Drops each value once, the last first, and frees the row.
+/// Drops each value once, the last first, and then frees the row.
 impl<T: Drop> Drop for Chunk<T> {
     fn drop(mut self) {
         while self.len() > 0 {

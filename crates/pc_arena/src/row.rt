@@ -1,4 +1,4 @@
-//! A row of memory for 256 values, which is written from its beginning on.
+//! A row of memory for 256 values, which is written from the start.
 ghost use Rattle.std.specs.Prelude.{◌≡◌, ◌<◌, ◌≤◌, List, [], ◌∷◌, ◌++◌, length, Some, slice_get, slice_set, IfOk};
 ghost use Rattle.std.specs.Vec.Ownership.{FitsInBlock};
 ghost use Rattle.pc_arena.specs.Ownership.{row_size, row_owned, row_lent};
@@ -10,10 +10,10 @@ use std::mem::{align_of, size_of};
 /// How many values a row has memory for.
 pub(crate) const ROW_SIZE: usize = 256;
 
-/// Memory for 256 values, of which the first ones are written. It owns these values, the memory behind them, and the
-/// right to give all of it back to the allocator that it came from. It never moves, and can be neither copied nor
-/// dropped: whoever has it is to take its values out and to give it back. That memory does come back is not proved, as
-/// the logic lets what is owned be forgotten.
+/// Memory for 256 values, the first of which are written. It owns these values, the memory after them, and the right to
+/// give all of it back to the allocator that it came from. It never moves, and can be neither copied nor dropped: its
+/// owner has to take the values out and give it back. That memory is given back is not proved, since in the logic what
+/// is owned may be forgotten.
 pub struct Row<T, A: Allocator> {
     first: *mut T,
     count: usize,
@@ -52,7 +52,7 @@ impl<T, A: Allocator> Row<T, A> {
         self.count
     }
 
-    /// Writes a value behind the last one.
+    /// Writes a value after the last one.
     pub(crate) fn push(&mut self, value: T)
         requires { length self.old.values < row_size }
         ensures { (self.new.values ≡ self.old.values ++ value ∷ []) × (self.new.from ≡ self.old.from) }
@@ -71,7 +71,7 @@ impl<T, A: Allocator> Row<T, A> {
         unsafe { &*self.first.add(place) }
     }
 
-    /// Writes a value over another, which is answered.
+    /// Replaces a value, and returns the old one.
     pub(crate) fn exchange(&mut self, place: usize, value: T) -> T
         requires { place < length self.old.values }
         ensures before { slice_get self.old.values place ≡ Some result }
@@ -92,7 +92,7 @@ impl<T, A: Allocator> Row<T, A> {
         unsafe { self.first.add(self.count).read() }
     }
 
-    /// Gives a row without values back.
+    /// Gives the memory of a row without values back.
     pub(crate) fn free(self, alloc: &A)
         requires { (self.values ≡ []) × (self.from ≡ alloc.now) }
     {

@@ -320,7 +320,7 @@ forms_taken = record { checks = checks; judges = judges; runs = runs; shows = sh
 
 -- ---- each subcommand asks for something
 
--- With whatever values a subcommand of this name asks for something.
+-- A subcommand with this name asks for something, whatever its values are.
 abbrev Asks : Text → Type 0
 Asks name = (rows : List Row) → named (name, rows) ≡ None → ⊥
 

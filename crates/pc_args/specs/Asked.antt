@@ -9,11 +9,11 @@ use Rattle.pc_args.specs.Line.{rcap}
 use Rattle.pc_args.specs.declared.words.Command.{Command}
 use Rattle.pc_args.specs.declared.words.Command.TheVariants.{Check, Judge, Run, Show, Make, Swap, Trace, Sends, Upgrade, Schedule, Play, Outcomes, Places, Events, Explain}
 
--- the words, each as its bytes
+-- the words, as their bytes
 abbrev pub texts : List (Bor Text) → List Text
 texts words = map (λ w. w.now) words
 
--- What words ask for, with the names and numbers as given.
+-- What words ask for, with names and numbers as written.
 pub data Asked : Type 0 where
   check : Text → Asked
   judge : Text → Text → Asked
@@ -48,11 +48,11 @@ asked_by (Schedule source seed) = schedule_of source.now seed.now
 asked_by (Play source seed) = play source.now seed.now
 asked_by (Outcomes source count) = outcomes source.now count.now
 
--- the value of the argument of this name
+-- the value of the argument with this name
 abbrev pub value : Text → List Row → Text
 value id rows = unwrap_or (first_of id rows) []
 
--- What a subcommand asks for with the values of its arguments. There are no others.
+-- What a subcommand asks for, given the values of its arguments. There are no other subcommands.
 abbrev pub named : Text × List Row → Option Asked
 named p = if bytes_eq p.0 (codes "check") then Some (check (value (codes "SRC") p.1))
     else if bytes_eq p.0 (codes "judge") then Some (judge (value (codes "SRC") p.1) (value (codes "DERIV") p.1))
@@ -76,10 +76,10 @@ abbrev pub has_fault : Kinds → Bool
 has_fault [] = false
 has_fault (k ∷ ks) = true
 
--- Words are refused that the command line does not take, and with which it finds a fault.
+-- The command line does not take the words, and reports a fault in them.
 unfoldable pub is_refused : List Text → Bool
 is_refused words = not (takes rcap words) && has_fault (fault_of rcap words)
 
--- The command that words ask for: what the subcommand in them asks for, unless they are refused.
+-- The command that words ask for: that of their subcommand, unless they are refused.
 unfoldable pub command_of : List Text → Option Asked
 command_of words = if is_refused words then None else option_and_then named (subcommand_of rcap words)

@@ -59,7 +59,7 @@ outcomes_words source count = codes "outcomes" ∷ source ∷ count ∷ []
 abbrev pub AskFor : List Text → Asked → Type 0
 AskFor words asked = (takes rcap words ≡ true) × (command_of words ≡ Some asked)
 
--- Each form with plain names and numbers asks for its command.
+-- Each form, with plain names and numbers, asks for its command.
 pub record WrittenFormsAreTaken : Type 0 where
   pub checks : (source : Text) → is_plain source ≡ true → AskFor (check_words source) (check source)
   pub judges : (source derivation : Text) → is_plain source ≡ true → is_plain derivation ≡ true

@@ -1,4 +1,4 @@
--- The command line of the program, in clap's words: a required subcommand, each with required arguments of one value.
+-- The command line of the program, in clap's terms: a required subcommand, with required arguments of one value each.
 use Rattle.std.specs.Prelude.{List, [], ◌∷◌, true, codes}
 use Rattle.clap.specs.Simple.{on_top}
 use Rattle.clap.specs.Words.{App, Rule, Text, new_app, new_rule, with_rule, with_subcommand}
@@ -66,7 +66,7 @@ play = with_rule (with_rule (new_app (codes "play")) (positional (codes "SRC")))
 abbrev pub outcomes : App
 outcomes = with_rule (with_rule (new_app (codes "outcomes")) (positional (codes "SRC"))) (positional (codes "COUNT"))
 
--- The words begin after the program's name, and no `help` is added as a subcommand.
+-- The words begin after the program's name, and `help` is not added as a subcommand.
 abbrev pub bare : App
 bare = on_top (λ s. record s { no_binary_name = true; disable_help_subcommand = true; subcommand_required = true }) (new_app (codes "rcap"))
 
@@ -74,7 +74,7 @@ bare = on_top (λ s. record s { no_binary_name = true; disable_help_subcommand =
 abbrev pub subcommands : List App
 subcommands = check ∷ judge ∷ run ∷ show ∷ make ∷ swap ∷ trace ∷ sends ∷ upgrade ∷ schedule ∷ play ∷ outcomes ∷ places ∷ events ∷ explain ∷ []
 
--- A command line with these subcommands more.
+-- A command line with these additional subcommands.
 abbrev pub with_all : App → List App → App
 with_all line [] = line
 with_all line (leaf ∷ leaves) = with_all (with_subcommand line leaf.top) leaves

@@ -1,4 +1,4 @@
-//! Which words are taken for sure.
+//! Which words are certain to be taken.
 ghost use Rattle.pc_args.specs.Forms.{WrittenFormsAreTaken};
 ghost use Rattle.pc_args.specs.Refused.{OnlyRefusedAskForNothing};
 
@@ -8,7 +8,7 @@ pub fn written_forms_are_taken()
     ensures { WrittenFormsAreTaken }
 {}
 
-/// Words ask for nothing exactly where they are refused: the command line does not take them, and finds a fault.
+/// Words ask for nothing iff they are refused, that is, the command line does not take them and reports a fault.
 pub fn only_refused_words_ask_for_nothing()
     ensures { OnlyRefusedAskForNothing }
 {}

@@ -2,16 +2,16 @@
 ghost use Rattle.std.specs.Prelude.{◌<◌, ◌^◌};
 ghost use Rattle.pc_args.specs.Numbers.{IsNumber, IsSeed, IsSize, Reads};
 
-/// How many digits at most spell a seed.
+/// The greatest number of digits of a seed.
 const SEED_DIGITS: usize = 20;
 
-/// How many digits at most spell a size.
+/// The greatest number of digits of a size.
 const SIZE_DIGITS: usize = 3;
 
 /// The largest size.
 const LARGEST: u64 = 900;
 
-/// The number that a text spells with at most this number of digits, and at least one, if it is below 2^64.
+/// The number that a text denotes with at least one digit and at most this many, if it is below 2^64.
 pub fn number_of(text: &str, most: usize) -> Option<u64>
     ensures { Reads (λ n. IsNumber most text.now n × (n < 2 ^ 64)) result }
 {
@@ -22,14 +22,14 @@ pub fn number_of(text: &str, most: usize) -> Option<u64>
     }
 }
 
-/// The seed that a text spells: one to twenty digits, of a number below 2^64.
+/// The seed that a text denotes: one to twenty digits, of a number below 2^64.
 pub fn seed_of(text: &str) -> Option<u64>
     ensures { Reads (IsSeed text.now) result }
 {
     number_of(text, SEED_DIGITS)
 }
 
-/// The size that a text spells: one to three digits, of a number from 1 to 900.
+/// The size that a text denotes: one to three digits, of a number from 1 to 900.
 pub fn size_of(text: &str) -> Option<u32>
     ensures { Reads (IsSize text.now) result }
 {

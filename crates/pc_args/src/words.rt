@@ -13,7 +13,7 @@ use clap::error::ErrorKind;
 use clap::{Arg, ArgMatches, Error};
 use std::alloc::{AllocError, Global};
 
-/// What words ask for, with the names and numbers as given.
+/// What words ask for, with names and numbers as written.
 #[derive(Clone, Copy, Debug)]
 pub enum Command<'a> {
     /// To check a source.
@@ -34,7 +34,7 @@ pub enum Command<'a> {
     Show {
         source: &'a str,
     },
-    /// To make a program from a number, and to run it.
+    /// To generate a program from a number, and to run it.
     Make {
         seed: &'a str,
         size: &'a str,
@@ -67,7 +67,7 @@ pub enum Command<'a> {
     Sends {
         source: &'a str,
     },
-    /// To write a derivation of a source anew, in version 2 of its text.
+    /// To rewrite a derivation of a source, in version 2 of its text.
     Upgrade {
         source: &'a str,
         derivation: &'a str,
@@ -82,7 +82,7 @@ pub enum Command<'a> {
         source: &'a str,
         seed: &'a str,
     },
-    /// To play a source by some seeds, and to write each different outcome.
+    /// To play a source by some seeds, and to write each different outcome once.
     Outcomes {
         source: &'a str,
         count: &'a str,
@@ -122,7 +122,7 @@ fn make_leaf<'a>(
     Ok(leaf)
 }
 
-// A command with one subcommand more, with these required arguments.
+// A command with one more subcommand, with these required arguments.
 fn with_leaf<'a>(
     command: clap::Command<'a>,
     alloc: Global,
@@ -177,8 +177,8 @@ fn read_matches<'a>(alloc: Global, words: &'a [&'a str]) -> Result<ArgMatches<'a
     make_rcap(alloc)?.try_get_matches_from(words)
 }
 
-/// Reads the words after the program's name. Whatever they ask for by their definition is the answer, or they are refused,
-/// or memory ran out.
+/// Reads the words after the program's name. The answer is what they ask for by definition, or they are refused, or
+/// memory ran out.
 pub fn read_words<'a>(alloc: Global, words: &'a [&'a str]) -> Result<Command<'a>, WordsFault>
     ensures { ReadingEnds (texts words.entry.now) result }
 {

@@ -1,4 +1,4 @@
--- What a body names is visible there.
+-- What a body refers to is visible there.
 use Rattle.std.proofs.Common.{◌≡◌, ℕ, List, [], ◌∷◌, ◌++◌, Option, Some, None, Bool, true, false, refl, sym, subst, inl, inr}
 use Rattle.std.specs.Prelude.{◌⊎◌}
 use Rattle.std.proofs.lemmas.Option.{same_Some, none-some}
@@ -16,7 +16,7 @@ use Rattle.pc_lists.specs.Places.{IsIn}
 use Rattle.pc_body_spec.specs.Laws.{BodiesAreScoped, AddedBodiesAreScoped}
 use Rattle.pc_body_spec.proofs.Scopes.{expr_ok, items_ok, sequence_ok}
 
--- ---- where more is visible
+-- ---- if more is visible
 
 -- What is in the first list is in the second.
 abbrev Sub : List ℕ → List ℕ → Type 0

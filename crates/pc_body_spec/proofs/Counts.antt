@@ -80,7 +80,7 @@ module _ (c : Context) (z : ℕ → ℕ → Bool) where
   read_type_n n d (created actor cs) = new_none actor n.span d (constructor_named cs create_name)
   read_type_n n d no_value = refl
 
-  -- What a bare name or a type name is alone, where a chain begins with it, defines nothing.
+  -- If a chain starts with a bare name or a type name, what that is on its own defines nothing.
   abbrev Begun : Start → Next → Rose → Type 0
   Begun (with_method n) x r = times z r ≡ 0
   Begun (with_type (created actor cs)) arguments r = (times z r ≡ 0) × ((place : Span) × (unless_some (constructor_named cs create_name) (unknown place) ≡ []))
@@ -158,7 +158,7 @@ module _ (c : Context) (z : ℕ → ℕ → Bool) where
   if_n true s d a b r = omega arith
   if_n false s d a b r = omega arith
 
-  -- What begins a chain defines as often as its locals, whether or not it is called at once.
+  -- The start of a chain has as many definitions as locals, whether or not it is called at once.
   head_n : (sc : Scope) (d : ℕ) (e : t.Expr) (x : Next) → (faults_of c sc e ≡ [] → times z (expr_of c sc d e) ≡ local_times c z (locals_of d e)) → start_faults (start_of c sc e) x (faults_of c sc e) ≡ [] → times z (expr_of c sc d e) ≡ local_times c z (locals_of d e)
   head_n sc d (t.name n) x alone f = read_name_n n d (resolve c sc n.text)
   head_n sc d (t.type_name n) x alone f = read_type_n n d (type_meaning c n.text)

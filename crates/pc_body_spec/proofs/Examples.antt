@@ -1,4 +1,4 @@
--- The small bodies compute.
+-- The small bodies, computed.
 use Rattle.std.proofs.Common.{refl}
 use Rattle.pc_body_spec.specs.Roses.{push}
 use Rattle.pc_body_spec.specs.Example.{FirstStands, SecondStands, ThirdStands}

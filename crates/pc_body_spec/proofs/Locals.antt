@@ -1,4 +1,4 @@
--- Locals among the nodes: what uses one comes after its definition, in the same sequence.
+-- Locals among the nodes: every use of one comes after its definition, in the same sequence.
 use Rattle.std.proofs.Common.{◌≡◌, ℕ, suc, ◌+◌, ◌<◌, ◌≤◌, List, [], ◌∷◌, ◌++◌, length, Some, refl, ap, ◌∙◌, sym, subst, arith, inl, inr}
 use Rattle.std.specs.Prelude.{slice_get, ◌⊎◌}
 use Rattle.std.proofs.lemmas.Bool.{cases_lt}
@@ -16,13 +16,13 @@ use Rattle.pc_body_spec.specs.Laws.{IsItem, IsDefined, LocalsAreDefined}
 use Rattle.pc_body_spec.proofs.PostOrders.{Parts, parts, Pushed, pushed, AllStand, posts}
 use Rattle.pc_body_spec.proofs.Nodes.{beyond}
 
--- ---- what a kind asks, by cases
+-- ---- what a kind requires, by cases
 
 abbrev IsDefine : NodeKind → Type 0
 IsDefine (node.Define n) = Unit {0}
 IsDefine k = ⊥
 
--- Its own slot is visible; it is no definition; and its children are those of a sequence, or define nothing.
+-- Its own slot is visible; it is not a definition; and its children are those of a sequence, or define nothing.
 record Asked (k : NodeKind) (vis : List ℕ) (all items : Type 0) : Type 0 where
   uses : (s : ℕ) → Uses s k → IsIn s vis
   other : (s : ℕ) → k ≡ node.Define s → ⊥
@@ -95,7 +95,7 @@ record IsEarly (ns : List Node) (ks : List ℕ) (i s : ℕ) : Type 0 where
   before : define < i
   item : Has ks define
 
--- What is known while the sequence around it, with these items, has not come.
+-- What is known while the sequence around it, with these items, has not come yet.
 record Good (vis : List ℕ) (ns : List Node) (ks : List ℕ) (i : ℕ) (x : Node) : Type 0 where
   uses : (s : ℕ) → Uses s x.kind → IsIn s vis ⊎ (IsDefined ns i s ⊎ IsEarly ns ks i s)
   item : (s : ℕ) → x.kind ≡ node.Define s → IsItem ns i ⊎ Has ks i
@@ -150,7 +150,7 @@ one_more j ks k h = (suc h.0, h.1)
 same_items : (ks : List ℕ) (k : ℕ) → Has ks k → Has ks k
 same_items ks k h = h
 
--- New nodes behind new nodes.
+-- New nodes after new nodes.
 both : (vis ks js : List ℕ) (before mid own : List Node) → ((k : ℕ) → Has ks k → Has js k) → New vis ks before mid → New vis js mid (mid ++ own) → New vis js before (mid ++ own)
 both vis ks js before mid own sub a b i x from e =
     elim (cases_lt i (length mid)) [
@@ -158,7 +158,7 @@ both vis ks js before mid own sub a b i x from e =
       | inr l ↦ b i x l e
     ]
 
--- The node around other parts than items.
+-- The node around parts other than items.
 close : (vis : List ℕ) (before mid : List Node) (y : Node) → ((s : ℕ) → Uses s y.kind → IsIn s vis) → ((s : ℕ) → y.kind ≡ node.Define s → ⊥) → New vis [] before mid → New vis [] before (mid ++ y ∷ [])
 close vis before mid y own other a i x from e =
     elim (get_push mid y i x e) [
@@ -205,7 +205,7 @@ split [] y x (inr e) = absurd e
 split (z ∷ zs) y x (inl e) = inl (inl e)
 split (z ∷ zs) y x (inr e) = elim (split zs y x e) [ inl l ↦ inl (inr l) | inr r ↦ inr r ]
 
--- The items behind one that defines a local.
+-- The items after one that defines a local.
 after_define : (vis bs : List ℕ) (s a : ℕ) (mid all : List Node) (y : Node) → slice_get all a ≡ Some y → y.kind ≡ node.Define s → a < length mid → New (vis ++ s ∷ []) bs mid all → New vis (a ∷ bs) mid all
 after_define vis bs s a mid all y at is below later i x from e =
     let g : Good (vis ++ s ∷ []) all bs i x = later i x from e in
@@ -224,7 +224,7 @@ after_define vis bs s a mid all y at is below later i x from e =
       item = λ z d. elim (g.item z d) [ inl v ↦ inl v | inr b ↦ inr (one_more a bs i b) ];
     }
 
--- One more item before those behind it.
+-- One more item before the later ones.
 widen : (vis bs : List ℕ) (a : ℕ) (mid all : List Node) → New vis bs mid all → New vis (a ∷ bs) mid all
 widen vis bs a mid all later i x from e = subst (λ ns. Good vis ns (a ∷ bs) i x) (append-nil all) (good_more vis all [] bs (a ∷ bs) i x (one_more a bs) (later i x from e))
 

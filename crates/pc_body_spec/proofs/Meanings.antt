@@ -1,4 +1,4 @@
--- Where there is no fault, what the numbers in an expression name is there.
+-- If there is no fault, what the numbers in an expression refer to exists.
 use Rattle.std.proofs.Common.{◌≡◌, ℕ, suc, ◌+◌, ◌<◌, ◌≤◌, length, List, [], ◌∷◌, ◌++◌, Option, Some, None, Bool, true, false, refl, sym, subst, inl, inr, arith, if◌then◌else◌}
 use Rattle.std.specs.Prelude.{slice_get, nat_eq, nat_le, ◌⊎◌}
 use Rattle.std.specs.Str.{bytes_eq}
@@ -47,7 +47,7 @@ text_below at (x ∷ xs) n all h g =
     by true r = omega (arith, h)
     by false r = r
 
--- What a type name means is there.
+-- What a type name means exists.
 abbrev creator : Bool → EntityKind
 creator true = kind.Actor
 creator false = kind.Class
@@ -181,7 +181,7 @@ module _ (c : Context) (some_text : 0 < length c.texts) where
   StartKnown (with_type m) = TypeKnown c m
   StartKnown with_value = Unit {0}
 
-  -- The beginning of a chain: what it is alone matters only where it is not called at once.
+  -- The start of a chain: what it is on its own matters only if it is not called at once.
   abbrev Begun : Start → Next → Rose → Type 0
   Begun (with_method n) arguments r = Unit {0}
   Begun (with_method n) x r = Fine r
@@ -205,7 +205,7 @@ module _ (c : Context) (some_text : 0 < length c.texts) where
   call_named_ok (with_type no_value) s n d args r k b f h = call_ok s n.text d args r h b
   call_named_ok with_value s n d args r k b f h = call_ok s n.text d args r h b
 
-  -- What begins a chain is a value where nothing calls it.
+  -- The start of a chain is a value if nothing calls it.
   ended_ok : (st : Start) (r : Rose) → Begun st end r → Fine r
   ended_ok (with_method n) r b = b
   ended_ok (with_type (primitive e)) r b = b
@@ -265,7 +265,7 @@ module _ (c : Context) (some_text : 0 < length c.texts) where
   start_known sc (t.recover k b s) = tt
   start_known sc (t.assign l r s) = tt
 
-  -- The value that is written at the end of a chain.
+  -- The value that is assigned to the end of a chain.
   abbrev UseFine : Use → Type 0
   UseFine read = Unit {0}
   UseFine (write s v) = Fine v

@@ -19,7 +19,7 @@ abbrev IsOk : Outcome → Type 0
 IsOk (Ok a) = Unit {0}
 IsOk (Err e) = ⊥
 
--- What has an outcome has no fault of its body, few slots, and its nodes.
+-- What has an outcome has no fault of its body, few enough slots, and its nodes.
 record Passed (fs : List Fault) (names : List Name) (rest : Outcome) (n : ℕ) (after : List Node) : Type 0 where
   no_fault : fs ≡ []
   few : 1 + length names ≤ 64

@@ -1,4 +1,4 @@
--- From what is true of a rose to its nodes.
+-- From facts about a rose to facts about its nodes.
 use Rattle.std.proofs.Common.{◌≡◌, ℕ, zero, suc, ◌+◌, ◌-◌, ◌≤◌, List, [], ◌∷◌, ◌++◌, length, Some, refl, ap, ◌∙◌, sym, subst, arith, inl, inr}
 use Rattle.std.specs.Prelude.{slice_get, ◌^◌}
 use Rattle.std.proofs.lemmas.Bool.{cases_lt}
@@ -52,7 +52,7 @@ mutual
 
 -- ---- children
 
--- Some children stand in the list, at this depth.
+-- Some children are in the list, at this depth.
 abbrev AllAt : List Node → ℕ → List ℕ → Type 0
 AllAt ns d ks = Each (λ i k. (y : Node) × (slice_get ns k ≡ Some y) × (y.depth ≡ d)) ks
 
@@ -66,7 +66,7 @@ at_more ns d k y ks g e h (suc i) j f = h i j f
 front_children : (ns extra : List Node) (x : Node) → HasChildren ns x → HasChildren (ns ++ extra) x
 front_children ns extra x h = record { arity = h.arity; depths = at_front ns extra (inner_depth x.kind x.depth) x.children h.depths }
 
--- The nodes behind the first ones have their children.
+-- The nodes after the first ones have their children.
 abbrev New : List Node → List Node → Type 0
 New before after = (i : ℕ) (x : Node) → length before ≤ i → slice_get after i ≡ Some x → HasChildren after x
 
@@ -143,7 +143,7 @@ inside_below (node.Recover n) d many h =
     let e : deeper d ≡ d + 1 = min-eq_left l in
     omega (arith, e, h)
 
--- One more node behind those inside it.
+-- One more node after those inside it.
 close : (m : ℕ) (k : NodeKind) (s : Span) (d many : ℕ) (ks : List ℕ) (before mid : List Node) → d + 1 ≤ 2 ^ 32 - 1 → HasArity k many → AllDone (depth_inside k d) many ks before mid → New before (mid ++ node_of m k s d ks ∷ [])
 close m k s d many ks before mid low arity a i x from e =
     elim (get_push mid (node_of m k s d ks) i x e) [
@@ -154,7 +154,7 @@ close m k s d many ks before mid low arity a i x from e =
       })
     ]
 
--- One list of new nodes behind another.
+-- One list of new nodes after another.
 both : (before mid own : List Node) → New before mid → New mid (mid ++ own) → New before (mid ++ own)
 both before mid own a b i x from e =
     elim (cases_lt i (length mid)) [
@@ -216,7 +216,7 @@ nodes_have_children m r n before after shape h =
 -- ---- kinds
 
 module _ (P : NodeKind → Type 0) where
-  -- The nodes behind the first ones are of these kinds.
+  -- The nodes after the first ones are of these kinds.
   abbrev pub NewAre : List Node → List Node → Type 0
   NewAre before after = (i : ℕ) (x : Node) → length before ≤ i → slice_get after i ≡ Some x → P x.kind
 

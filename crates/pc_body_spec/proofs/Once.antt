@@ -141,7 +141,7 @@ tells z node.While d = inr (λ e. subst IsDefine (sym e) tt, refl)
 tells z (node.Recover n) d = inr (λ e. subst IsDefine (sym e) tt, refl)
 tells z node.Body d = inr (λ e. subst IsDefine (sym e) tt, refl)
 
--- No node of these defines it.
+-- None of these nodes defines it.
 never : (z : ℕ) (xs : List Node) → node_times (has_slot z) xs ≡ 0 → (k : ℕ) (w : Node) → slice_get xs k ≡ Some w → w.kind ≡ node.Define z → ⊥
 never z [] e k w g d = none-some w g
 never z (x ∷ xs) e zero w g d = elim (tells z x.kind x.depth) [

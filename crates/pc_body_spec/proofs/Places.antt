@@ -17,7 +17,7 @@ use Rattle.pc_body_spec.specs.Slots.{Local, locals_of, exprs_locals, suffixes_lo
 use Rattle.pc_body_spec.specs.Places.{written_places, places, exprs_places, suffixes_places, arm_places, arms_places, other_places, seq_places, items_places, item_places, value_places, initial_places, written_body_places, body_places, fault_start, local_start}
 use Rattle.pc_body_spec.specs.Laws.{FirstIsLeast, LocalsHaveSlots}
 
--- Things that stand at some of these places, in this order.
+-- Things at some of these places, in this order.
 module _ {A : Type 0} (f : A → ℕ) where
   pub data Sub : List A → List ℕ → Type 0 where
     none : Sub [] []
@@ -33,7 +33,7 @@ module _ {A : Type 0} (f : A → ℕ) where
   nothing_at [] = none
   nothing_at (n ∷ ns) = skip [] n ns (nothing_at ns)
 
-  -- Each stands before those behind it.
+  -- Each comes before the later ones.
   abbrev pub Rising : List A → Type 0
   Rising [] = Unit {0}
   Rising (g ∷ gs) = Each (λ i h. f g < f h) gs × Rising gs

@@ -1,4 +1,4 @@
--- The nodes of a rose stand in post-order behind those that are there.
+-- The nodes of a rose are in post-order after the existing ones.
 use Rattle.std.proofs.Common.{◌≡◌, ℕ, zero, suc, ◌+◌, ◌-◌, ◌<◌, List, [], ◌∷◌, ◌++◌, length, Some, None, nat_lt, refl, ap, ◌∙◌, sym, subst, append_assoc, append-nil, arith, if◌then◌else◌, true, false, Bool, inl, inr}
 use Rattle.std.specs.Prelude.{slice_get}
 use Rattle.std.proofs.lemmas.List.{length-append}
@@ -15,7 +15,7 @@ use Rattle.pc_body_spec.specs.Roses.{Rose, Roses, rose, more, no_roses, Numbered
 use Rattle.pc_caps.specs.Limits.{node_limit}
 use Rattle.pc_body_spec.specs.Laws.{WasPut, IsPostOrder}
 
--- what a chain gives, taken apart
+-- the result of a chain, taken apart
 pub record Parts {A B : Type 0} (o : Numbered A) (f : A → List Node → Numbered B) (r : B × List Node) : Type 0 where
   pub fst : A
   pub mid : List Node
@@ -26,7 +26,7 @@ pub parts : {A B : Type 0} (o : Numbered A) (f : A → List Node → Numbered B)
 parts None f r h = absurd (none-some r h)
 parts (Some a) f r h = record { fst = a.0; mid = a.1; first = refl; second = h }
 
--- what a push gives
+-- the result of a push
 abbrev grown : ℕ → NodeKind → Span → ℕ → List ℕ → List Node → Numbered ℕ
 grown m k s d cs ns = Some (length ns, ns ++ node_of m k s d cs ∷ [])
 
@@ -43,7 +43,7 @@ pushed m k s d cs ns n after h = by_room (nat_lt (length ns) node_limit) refl h
     by_room true t h = record { number = ap (λ r. r.0) (sym (same_Some _ _ h)); nodes = ap (λ r. r.1) (sym (same_Some _ _ h)); room = ltb-true (length ns) node_limit t }
     by_room false t h = absurd (none-some _ h)
 
--- nodes in post-order, one list of them behind the other
+-- nodes in post-order, one list of them after the other
 pub post_order_append : (n : ℕ) (xs ys : List Node) (waiting mid last : List ℕ) → PostOrder n xs waiting mid → PostOrder (n + length xs) ys mid last → PostOrder n (xs ++ ys) waiting last
 post_order_append n [] ys waiting mid last p q =
     let e : n + 0 ≡ n = omega arith in
@@ -52,7 +52,7 @@ post_order_append n (x ∷ xs) ys waiting mid last p q =
     let e : n + length (x ∷ xs) ≡ n + 1 + length xs = omega arith in
     (p.0, p.1, post_order_append (n + 1) xs ys (p.0 ++ n ∷ []) mid last p.2 (subst (λ k. PostOrder k ys mid last) e q))
 
--- What is there when some roses have been put behind some nodes.
+-- The result of appending some roses to some nodes.
 pub record AllStand (m : ℕ) (numbers : List ℕ) (before after : List Node) : Type 0 where
   pub own : List Node
   pub behind : after ≡ before ++ own

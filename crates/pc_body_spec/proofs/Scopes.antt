@@ -1,4 +1,4 @@
--- An expression names only the locals that stand before it.
+-- An expression refers only to the locals before it.
 use Rattle.std.proofs.Common.{◌≡◌, ℕ, List, [], ◌∷◌, ◌++◌, Option, Some, None, Bool, true, false, refl, sym, subst, inl, inr, if◌then◌else◌}
 use Rattle.pc_caps.specs.declared.span.Span.{Span}
 use Rattle.pc_tree.specs.declared.kinds.Op.{Op}
@@ -25,7 +25,7 @@ slot_in (v ∷ vs) name s h = by (bytes_eq v.name name) (slot_in vs name s) h
     by true rec h = inl (sym (same_Some _ _ h))
     by false rec h = inr (rec h)
 
--- What a meaning names is visible.
+-- What a meaning refers to is visible.
 abbrev Meant : List ℕ → Meaning → Type 0
 Meant vis (local x) = IsIn x vis
 Meant vis m = Unit {0}
@@ -143,7 +143,7 @@ call_named_ok vis c (with_type (created actor cs)) s n d args r h g = new_ok vis
 call_named_ok vis c (with_type no_value) s n d args r h g = last_ok vis args r h g
 call_named_ok vis c with_value s n d args r h g = last_ok vis args r h g
 
--- The value that is written at the end of a chain.
+-- The value that is assigned to the end of a chain.
 abbrev UseScoped : List ℕ → Use → Type 0
 UseScoped vis read = Unit {0}
 UseScoped vis (write s v) = Scoped vis v

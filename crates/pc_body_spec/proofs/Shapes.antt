@@ -1,4 +1,4 @@
--- Each node of an expression has as many children as its kind wants, as deep as they have to be.
+-- Each node of an expression has as many children as its kind requires, at the required depths.
 use Rattle.std.proofs.Common.{ℕ, ◌≤◌, List, Option, Some, None, Bool, true, false, refl, arith}
 use Rattle.pc_caps.specs.declared.span.Span.{Span}
 use Rattle.pc_tree.specs.declared.kinds.Op.{Op}
@@ -89,7 +89,7 @@ call_named_ok c (with_type (created actor cs)) s n d args r h g = new_ok actor s
 call_named_ok c (with_type no_value) s n d args r h g = call_ok c s n.text d args r h g
 call_named_ok c with_value s n d args r h g = call_ok c s n.text d args r h g
 
--- The value that is written at the end of a chain.
+-- The value that is assigned to the end of a chain.
 abbrev UseShaped : ℕ → Use → Type 0
 UseShaped d read = Unit {0}
 UseShaped d (write s v) = Shaped d v

@@ -9,7 +9,7 @@ use Rattle.pc_body_spec.specs.Slots.{cap_or, type_of}
 use Rattle.pc_body_spec.specs.Laws.{WrittenTypesAreThere}
 use Rattle.pc_body_spec.proofs.Meanings.{some_fault}
 
--- The type of a name that an entity has.
+-- The type with a name that an entity has.
 abbrev IsThere : ℕ → List Known → TypeRef → Type 0
 IsThere at xs ty = (p : ℕ × Cap) × (type_of at xs ty ≡ Some p) × (p.0 < at + length xs)
 

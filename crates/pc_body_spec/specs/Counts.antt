@@ -8,7 +8,7 @@ use Rattle.pc_body_spec.specs.Slots.{Local}
 use Rattle.pc_body_spec.specs.Places.{local_start}
 use Rattle.pc_lists.specs.Counts.{one_if}
 
--- A kind and depth count where they are those of a definition that passes a test on its slot and depth.
+-- A kind and depth count if they are those of a definition whose slot and depth pass a test.
 abbrev pub kind_times : (ℕ → ℕ → Bool) → NodeKind → ℕ → ℕ
 kind_times test (node.Define n) d = one_if (test n d)
 kind_times test k d = 0
@@ -22,7 +22,7 @@ abbrev mutual
   times_all test no_roses = 0
   times_all test (more r rs) = times test r + times_all test rs
 
--- The number of locals whose slot and depth pass it.
+-- The number of locals whose slot and depth pass the test.
 abbrev pub local_times : Context → (ℕ → ℕ → Bool) → List Local → ℕ
 local_times c test [] = 0
 local_times c test (l ∷ ls) = one_if (test (slot_at c.slots (local_start l)) l.depth) + local_times c test ls

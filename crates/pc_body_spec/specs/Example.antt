@@ -33,7 +33,7 @@ known text = record { name = text; kind = kind.Primitive; cap = cap.Val; constru
 abbrev constructor : ℕ → Constructor
 constructor m = record { name = codes "create"; method = m }
 
--- The entities of the language, and then `class C` and `actor Main`, whose constructors are methods 1 and 2.
+-- The built-in entities, and then `class C` and `actor Main`, whose constructors are methods 1 and 2.
 abbrev entities : List Known
 entities = known (codes "None") ∷ known (codes "U64") ∷ known (codes "Bool") ∷ known (codes "String")
     ∷ record { name = codes "Env"; kind = kind.Class; cap = cap.Val; constructors = [] }
@@ -79,8 +79,8 @@ FirstStands =
     × (slots_of [] first ≡ first_slots)
     × (map (local_slot (context first_slots) 2) (method_locals [] first) ≡ record { method = 2; kind = slot.Let; depth = 0; written = Some (6, cap.Iso) } ∷ [])
 
--- The body of this method, of an entity with a field f and a method m: a call on `this`, an `elseif`, a field that is written,
--- a missing `else`, and a missing result:
+-- The body of this method, of an entity with a field f and a method m: a call on `this`, an `elseif`, a write to a
+-- field, a missing `else`, and a missing result:
 --       fun go(b: Bool) =>
 --         if b then m(1) elseif b then f.g = 2 end
 abbrev pub second_body : t.Seq
@@ -123,7 +123,7 @@ SecondStands =
     × (body_faults (context second_slots) [] second ≡ [])
     × (slots_of [] second ≡ second_slots)
 
--- The body of this method: a chain of operators, a local and its `consume`, one `recover` deep, and a written result:
+-- The body of this method: a chain of operators, a local and its `consume`, inside one `recover`, and a written result:
 --       fun ref make(): C => recover iso let y = 1 + 2 + 3; consume y end
 abbrev pub third_body : t.Seq
 third_body = t.seq (t.item (t.plain (t.recover (Some cap.Iso) (t.seq (t.item (t.local true (name (codes "y") (at 39 40)) None (t.infix_ op.Add (t.expr (t.number 1 (at 43 44)) (t.expr (t.number 2 (at 47 48)) (t.expr (t.number 3 (at 51 52)) t.no_exprs))) (at 43 52)) (at 35 52)) (t.item (t.plain (t.consume (name (codes "y") (at 62 63)) (at 54 63))) t.no_items)) (at 35 63)) (at 23 67))) t.no_items) (at 23 67)

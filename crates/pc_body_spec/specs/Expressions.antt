@@ -1,4 +1,4 @@
--- Which nodes stand for which part of a body.
+-- The nodes to which each part of a body elaborates.
 use Rattle.std.specs.Prelude.{ℕ, ◌-◌, Bool, true, false, List, Option, Some, None, codes}
 use Rattle.pc_caps.specs.declared.span.Span.{Span}
 use Rattle.pc_tree.specs.declared.kinds.Op.{Op}
@@ -15,20 +15,20 @@ use Rattle.pc_body_spec.specs.Scopes.{Context, Scope, Meaning, local, field, met
 abbrev pub join : Span → Span → Span
 join a b = record { start = a.start; end = b.end }
 
--- The word `end` of an `if`, which is the last word of its text.
+-- The word `end` of an `if`, which is the last word of its span.
 abbrev pub end_word : Span → Span
 end_word s = record { start = s.end - 3; end = s.end }
 
--- What stands where a name is missing: a body within a body, which nothing else gives. It shows only where there is a
--- fault.
+-- The node for a name that does not exist: a body inside a body, which arises in no other way. It occurs only if there
+-- is a fault.
 abbrev pub gap : Span → ℕ → Rose
 gap s d = rose node.Body s d (one (leaf node.This s d))
 
--- `this` where it is not written, at the place of the name that it serves.
+-- `this` if it is not written, at the place of the name that needs it.
 abbrev pub added_this : Name → ℕ → Rose
 added_this n d = leaf node.This n.span d
 
--- The operators of logic and identity have kinds of their own.
+-- The operators of logic and identity have node kinds of their own.
 abbrev pub operation : Op → NodeKind
 operation op.And = node.And
 operation op.Or = node.Or
@@ -36,19 +36,19 @@ operation op.Is = node.Same true
 operation op.Isnt = node.Same false
 operation o = node.Binary o
 
--- A field is read of its origin.
+-- Reading a field of its origin.
 abbrev pub read_field : Context → Span → Name → ℕ → Rose → Rose
 read_field c s n d origin = rose (node.Field (text_of c n.text)) s d (one origin)
 
--- A field is written: the value comes before the origin.
+-- Writing a field: the value is evaluated before the origin.
 abbrev pub write_field : Context → Span → Name → ℕ → Rose → Rose → Rose
 write_field c s n d value origin = rose (node.SetField (text_of c n.text)) s d (two value origin)
 
--- A call has its arguments, and then its receiver.
+-- A call evaluates its arguments, and then its receiver.
 abbrev pub call : Context → Span → List ℕ → ℕ → Roses → Rose → Rose
 call c s name d args receiver = rose (node.Call (text_of c name)) s d (and_last args receiver)
 
--- A bare name that is read.
+-- Reading a bare name.
 abbrev pub read_name : Context → Name → ℕ → Meaning → Rose
 read_name c n d (local x) = leaf (node.Local x) n.span d
 read_name c n d field = read_field c n.span n d (added_this n d)
@@ -58,7 +58,7 @@ abbrev pub consumed : Span → ℕ → Option ℕ → Rose
 consumed s d (Some x) = leaf (node.Consume x) s d
 consumed s d None = gap s d
 
--- A bare name that is written, by an assignment at s.
+-- Writing a bare name, by an assignment with span s.
 abbrev pub write_name : Context → Span → Name → ℕ → Rose → Meaning → Rose
 write_name c s n d value (local x) = rose (node.Assign x) s d (one value)
 write_name c s n d value field = write_field c s n d value (added_this n d)
@@ -73,19 +73,19 @@ new_object actor s d args None = gap s d
 abbrev pub create_name : List ℕ
 create_name = codes "create"
 
--- A type name that no suffix follows: a primitive's value, or a new object by `create`.
+-- A type name without suffixes: a primitive's value, or a new object by `create`.
 abbrev pub read_type : Name → ℕ → TypeMeaning → Rose
 read_type n d (primitive e) = leaf (node.Prim e) n.span d
 read_type n d (created actor cs) = new_object actor n.span d no_roses (constructor_named cs create_name)
 read_type n d no_value = gap n.span d
 
--- How a chain of suffixes begins.
+-- How a chain of suffixes starts.
 pub data Start : Type 0 where
   -- with the bare name of a method, unless it is something else
   with_method : Name → Start
   -- with a type name
   with_type : TypeMeaning → Start
-  -- with any other value, or with what earlier suffixes give
+  -- with any other value, or with the value of earlier suffixes
   with_value : Start
 
 abbrev pub start_with_name : Name → Meaning → Start
@@ -100,24 +100,24 @@ start_of c scope e = with_value
 abbrev pub apply_name : List ℕ
 apply_name = codes "apply"
 
--- A primitive's value may have `()` behind its name.
+-- The name of a primitive may be followed by `()`.
 abbrev pub apply_primitive : Context → ℕ → Span → ℕ → Roses → Rose → Rose
 apply_primitive c e s d no_roses origin = leaf (node.Prim e) s d
 apply_primitive c e s d (more x xs) origin = call c s apply_name d (more x xs) origin
 
--- Arguments directly behind what begins the chain, or behind another suffix than a name.
+-- Arguments directly after the start of a chain, or after a suffix other than a name.
 abbrev pub apply : Context → Start → Span → ℕ → Roses → Rose → Rose
 apply c (with_method n) s d args origin = call c s n.text d args (added_this n d)
 apply c (with_type (primitive e)) s d args origin = apply_primitive c e s d args origin
 apply c (with_type (created actor cs)) s d args origin = new_object actor s d args (constructor_named cs create_name)
 apply c start s d args origin = call c s apply_name d args origin
 
--- `.n` and arguments behind what begins the chain, or behind another suffix.
+-- `.n` and arguments, after the start of a chain or after another suffix.
 abbrev pub call_named : Context → Start → Span → Name → ℕ → Roses → Rose → Rose
 call_named c (with_type (created actor cs)) s n d args origin = new_object actor s d args (constructor_named cs n.text)
 call_named c start s n d args origin = call c s n.text d args origin
 
--- Whether the field at the end of a chain is read, or written with this value by an assignment at this place.
+-- Whether the field at the end of a chain is read, or written with this value by an assignment with this span.
 pub data Use : Type 0 where
   read : Use
   write : Span → Rose → Use
@@ -126,30 +126,31 @@ abbrev pub use_field : Context → Use → Span → Name → ℕ → Rose → Ro
 use_field c read s n d origin = read_field c s n d origin
 use_field c (write whole value) s n d origin = write_field c whole n d value origin
 
--- A value that is written to what is neither a name nor a field, which no text spells: it is followed by that.
+-- A value assigned to something that is neither a name nor a field, which no text spells: both are evaluated, in this
+-- order.
 abbrev pub value_then : Span → ℕ → Rose → Rose → Rose
 value_then s d value r = rose node.Seq s d (two value r)
 
--- A chain that ends with no field.
+-- A chain that does not end with a field.
 abbrev pub use_other : Use → ℕ → Rose → Rose
 use_other read d r = r
 use_other (write whole value) d r = value_then whole d value r
 
--- The first arm is an `if` alone, each `elseif` one in a sequence of its own.
+-- The first arm is just an `if`; each `elseif` is one in a sequence of its own.
 abbrev pub if_of : Bool → Span → ℕ → Roses → Rose
 if_of true s d parts = rose node.If s d parts
 if_of false s d parts = rose node.Seq s d (one (rose node.If s d parts))
 
--- The place of an arm: of the whole for the first, and else from its `elseif` through `end`.
+-- The span of an arm: that of the whole for the first, else from its `elseif` through `end`.
 abbrev pub arm_place : Bool → Span → Span → Span
 arm_place true whole arm = whole
 arm_place false whole arm = join arm whole
 
--- The value None, for which nothing is written.
+-- The value None, if nothing is written.
 abbrev pub added_none : Span → ℕ → Rose
 added_none s d = leaf (node.Prim none_entity) s d
 
--- A sequence has an item: without one, which no text spells, it gives None.
+-- A sequence has an item; without items, which no text spells, it gives None.
 abbrev pub or_none : Span → ℕ → Roses → Roses
 or_none s d no_roses = one (added_none s d)
 or_none s d (more r rs) = more r rs
@@ -157,12 +158,12 @@ or_none s d (more r rs) = more r rs
 abbrev pub sequence : Span → ℕ → Roses → Rose
 sequence s d items = rose node.Seq s d (or_none s d items)
 
--- A missing `else` gives None, at the word `end`.
+-- A missing `else` gives None, with the span of the word `end`.
 abbrev pub no_else : Span → ℕ → Rose
 no_else s d = sequence (end_word s) d (one (added_none (end_word s) d))
 
 abbrev mutual
-  -- An expression at this depth, where these locals and parameters are visible.
+  -- An expression at this depth, with these locals and parameters visible.
   pub expr_of : Context → Scope → ℕ → t.Expr → Rose
   expr_of c sc d (t.number n s) = leaf (node.Number n) s d
   expr_of c sc d (t.truth b s) = leaf (node.Truth b) s d
@@ -180,14 +181,14 @@ abbrev mutual
   expr_of c sc d (t.recover cap b s) = rose (node.Recover cap) s d (one (whole_of c sc (deeper d) b))
   expr_of c sc d (t.assign l r s) = assign_of c sc d s (expr_of c sc d r) (expr_of c sc d l) l
 
-  -- What stands left of `=` gets the value. Only names and fields stand there; `left` is what it would be alone.
+  -- What is left of `=` gets the value. Only names and fields can be there; `left` is what it would be on its own.
   pub assign_of : Context → Scope → ℕ → Span → Rose → Rose → t.Expr → Rose
   assign_of c sc d s value left (t.name n) = write_name c s n d value (resolve c sc n.text)
   assign_of c sc d s value left (t.chain h ss whole) = chain_of c sc d whole (write s value) (start_of c sc h) (expr_of c sc d h) ss
   assign_of c sc d s value left e = value_then s d value left
 
-  -- Chains of operators nest to the left, and each reaches from the start of the chain to its own right side. They have
-  -- operands: without one, which no text spells, they give None.
+  -- Chains of operators nest to the left, and the span of each reaches from the start of the chain to its own right
+  -- side. They have operands; without any, which no text spells, they give None.
   pub infix_of : Context → Scope → ℕ → Op → Span → t.Exprs → Rose
   infix_of c sc d o s t.no_exprs = added_none s d
   infix_of c sc d o s (t.expr e es) = operands_of c sc d o s (expr_of c sc d e) es
@@ -196,14 +197,14 @@ abbrev mutual
   operands_of c sc d o s left t.no_exprs = left
   operands_of c sc d o s left (t.expr e es) = operands_of c sc d o s (rose (operation o) (join s (t.span_of e)) d (two left (expr_of c sc d e))) es
 
-  -- So do chains of suffixes: a name with arguments directly behind it is a call, and a name alone a field. `origin` is
-  -- what stands before the suffixes, and s is the place of the whole chain.
+  -- So do chains of suffixes: a name directly followed by arguments is a call, and a name alone a field. `origin` is
+  -- what comes before the suffixes, and s is the span of the whole chain.
   pub chain_of : Context → Scope → ℕ → Span → Use → Start → Rose → t.Suffixes → Rose
   chain_of c sc d s u st origin t.no_suffixes = use_other u d origin
   chain_of c sc d s u st origin (t.suffix (t.dot n) ss) = named_of c sc d s u st origin n ss
   chain_of c sc d s u st origin (t.suffix (t.args es sp) ss) = chain_of c sc d s u with_value (apply c st (join s sp) d (exprs_of c sc d es) origin) ss
 
-  -- The suffixes behind `.n`.
+  -- The suffixes after `.n`.
   pub named_of : Context → Scope → ℕ → Span → Use → Start → Rose → Name → t.Suffixes → Rose
   named_of c sc d s u st origin n t.no_suffixes = use_field c u (join s n.span) n d origin
   named_of c sc d s u st origin n (t.suffix (t.dot m) ss) = named_of c sc d s u with_value (read_field c (join s n.span) n d origin) m ss
@@ -213,7 +214,7 @@ abbrev mutual
   exprs_of c sc d t.no_exprs = no_roses
   exprs_of c sc d (t.expr e es) = more (expr_of c sc d e) (exprs_of c sc d es)
 
-  -- The arms of an `if`, each the `else` of the one before it. `last` is what the last `else` gives.
+  -- The arms of an `if`, each as the `else` of the one before it. `last` is the value of the last `else`.
   pub arms_of : Context → Scope → ℕ → Span → Bool → t.Arms → Rose → Rose
   arms_of c sc d s first t.no_arms last = last
   arms_of c sc d s first (t.arm a as') last = arm_of c sc d s first a (arms_of c sc d s false as' last)
@@ -225,11 +226,11 @@ abbrev mutual
   other_of c sc d s t.no_other = no_else s d
   other_of c sc d s (t.other b) = whole_of c sc d b
 
-  -- A sequence, from its first item to its last.
+  -- A sequence, with the span from its first item to its last.
   pub whole_of : Context → Scope → ℕ → t.Seq → Rose
   whole_of c sc d (t.seq is s) = sequence s d (items_of c sc d is)
 
-  -- A sequence at another place: in parentheses, with them.
+  -- A sequence with another span: that of its parentheses.
   pub seq_of : Context → Scope → ℕ → Span → t.Seq → Rose
   seq_of c sc d s (t.seq is sp) = sequence s d (items_of c sc d is)
 

@@ -1,4 +1,4 @@
--- What may be wrong with the names and texts of a body, in the order of the text.
+-- The faults of the names and texts of a body, in the order of the text.
 use Rattle.std.specs.Prelude.{ℕ, Bool, true, false, List, [], ◌∷◌, ◌++◌, length, Option, Some, None, if◌then◌else◌, nat_lt}
 use Rattle.std.specs.Str.{bytes_eq}
 use Rattle.pc_caps.specs.declared.span.Span.{Span}
@@ -11,7 +11,7 @@ use Rattle.pc_body_spec.specs.Expressions.{Start, with_method, with_type, with_v
 use Rattle.pc_body_spec.specs.Bodies.{initial_fields}
 
 pub data Fault : Type 0 where
-  -- a name that nothing has
+  -- a name that is not defined
   unknown : Span → Fault
   -- a local with the name of a visible local or parameter, or of a field
   double : Span → Fault
@@ -22,18 +22,18 @@ abbrev pub when : Bool → Fault → List Fault
 when true f = f ∷ []
 when false f = []
 
--- A fault where there is nothing.
+-- A fault if there is nothing.
 abbrev pub unless_some : {A : Type 0} → Option A → Fault → List Fault
 unless_some (Some a) f = []
 unless_some None f = f ∷ []
 
--- A bare name that no arguments follow is a local or parameter, or a field.
+-- A bare name without arguments after it is a local or parameter, or a field.
 abbrev pub name_faults : Meaning → Span → List Fault
 name_faults (local x) s = []
 name_faults field s = []
 name_faults m s = unknown s ∷ []
 
--- A type name that no suffix follows is that of a primitive, or of an entity with a constructor `create`.
+-- A type name without suffixes is that of a primitive, or of an entity with a constructor `create`.
 abbrev pub type_faults : TypeMeaning → Span → List Fault
 type_faults (primitive e) s = []
 type_faults (created actor cs) s = unless_some (constructor_named cs create_name) (unknown s)
@@ -54,7 +54,7 @@ is_taken (local x) = true
 is_taken field = true
 is_taken m = false
 
--- What follows the beginning of a chain.
+-- What follows the start of a chain.
 pub data Next : Type 0 where
   arguments : Next
   name : Next
@@ -65,14 +65,14 @@ next_of t.no_suffixes = end
 next_of (t.suffix (t.dot n) ss) = name
 next_of (t.suffix (t.args es s) ss) = arguments
 
--- The bare name of a method stands before arguments, and a type name before `.m` calls no `create`; else the beginning of a
--- chain has the faults that it has alone.
+-- The bare name of a method is fine before arguments, and a type name before `.m` calls no `create`; otherwise the
+-- start of a chain has the faults that it has on its own.
 abbrev pub start_faults : Start → Next → List Fault → List Fault
 start_faults (with_method n) arguments alone = []
 start_faults (with_type (created actor cs)) name alone = []
 start_faults st next alone = alone
 
--- Behind the name of a class or actor, `.m` names one of its constructors and has arguments.
+-- After the name of a class or actor, `.m` names one of its constructors and is followed by arguments.
 abbrev pub constructor_faults : List Constructor → Name → Next → List Fault
 constructor_faults cs n arguments = unless_some (constructor_named cs n.text) (unknown n.span)
 constructor_faults cs n next = unknown n.span ∷ []

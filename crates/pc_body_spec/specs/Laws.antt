@@ -1,4 +1,4 @@
--- What is true of the definitions.
+-- Laws of the definitions.
 use Rattle.std.specs.Prelude.{◌≡◌, ◌⊎◌, ℕ, Bool, ◌+◌, ◌<◌, ◌≤◌, List, [], ◌∷◌, ◌++◌, length, Some, Ok, slice_get}
 use Rattle.pc_core.specs.declared.nodes.Node.{Node}
 use Rattle.pc_lists.specs.Places.{Each, Has, Ascends, IsIn}
@@ -23,14 +23,14 @@ use Rattle.pc_body_spec.specs.Places.{body_places, initial_places, fault_start, 
 use Rattle.pc_body_spec.specs.Faults.{Fault, faults_of, written_faults, body_faults, initial_faults}
 use Rattle.pc_body_spec.specs.Meanings.{Every, Names}
 
--- What is there when a rose of method m has been put behind some nodes: `own` are its nodes, and n is the last of them.
+-- The result of appending a rose of method m to some nodes: `own` are its nodes, and n is the last of them.
 pub record WasPut (m n : ℕ) (before after : List Node) : Type 0 where
   pub own : List Node
   pub behind : after ≡ before ++ own
   pub last : length after ≡ n + 1
   pub few : length after ≤ node_limit
   pub method : Each (λ i x. x.method ≡ m) own
-  -- Whatever waits for its parent before them still waits behind them, and so does n.
+  -- The nodes without a parent before them still have none after them, and neither does n.
   pub order : (waiting : List ℕ) → PostOrder (length before) own waiting (waiting ++ n ∷ [])
 
 abbrev pub IsPostOrder : Type 0
@@ -42,22 +42,21 @@ IsShaped = (c : Context) (scope : Scope) (d : ℕ) (e : t.Expr) → Shaped d (ex
 abbrev pub IsScoped : Type 0
 IsScoped = (c : Context) (scope : Scope) (d : ℕ) (e : t.Expr) → Scoped (slots scope) (expr_of c scope d e)
 
--- Every program has texts, such as the names of the language itself.
+-- Every program has texts, for example the built-in names.
 abbrev pub NothingIsMissing : Type 0
 NothingIsMissing = (c : Context) (scope : Scope) (d : ℕ) (e : t.Expr) → 0 < length c.texts → faults_of c scope e ≡ [] → Every (Names c) (expr_of c scope d e)
 
--- A node of a list has as many children as its kind wants, and each of them stands in the list, as deep as it has to be.
+-- A node has as many children as its kind requires, and each of them is in the list, at the required depth.
 pub record HasChildren (nodes : List Node) (x : Node) : Type 0 where
   pub arity : HasArity x.kind (length x.children)
   pub depths : Each (λ i k. (y : Node) × (slice_get nodes k ≡ Some y) × (y.depth ≡ inner_depth x.kind x.depth)) x.children
 
--- So it is with the nodes of a whole body. A depth is never so great that it would not be a number of 32 bits, since the
--- nodes are not so many.
+-- The same for the nodes of a whole body. No depth exceeds 32 bits, since there are not that many nodes.
 abbrev pub NodesHaveChildren : Type 0
 NodesHaveChildren = (m : ℕ) (r : Rose) (n : ℕ) (before after : List Node) → Shaped 0 r → put m r before ≡ Some (n, after) → (i : ℕ) (x : Node) → length before ≤ i → slice_get after i ≡ Some x → HasChildren after x
 
--- What is there when a whole body of method m has been put behind some nodes: its nodes, in post-order, of which the body is
--- the last and the only one of its kind; each with its children; and what they name is there.
+-- The result of appending a whole body of method m to some nodes: its nodes, in post-order, of which the body is the
+-- last and the only one of its kind, each with its children; and everything they refer to exists.
 pub record BodyStands (c : Context) (m n : ℕ) (before after : List Node) : Type 0 where
   pub stands : WasPut m n before after
   pub root : Node
@@ -73,7 +72,8 @@ BodiesStand = (c : Context) (fs : List t.Field) (x : t.Method) (r : Rose) (m n :
 abbrev pub AddedBodiesStand : Type 0
 AddedBodiesStand = (c : Context) (fs : List t.Field) (name : Span) (m n : ℕ) (before after : List Node) → 0 < length c.texts → initial_faults c fs ≡ [] → put m (added_body c fs name) before ≡ Some (n, after) → BodyStands c m n before after
 
--- A body names no local but its parameters and what it defines. The body of an added `create` has no parameters.
+-- A body refers to no locals except its parameters and those it defines. The body of an added `create` has no
+-- parameters.
 abbrev pub BodiesAreScoped : Type 0
 BodiesAreScoped = (c : Context) (fs : List t.Field) (x : t.Method) (r : Rose) → body_of c fs x ≡ Some r → Scoped (slots (params_scope x.params)) r
 
@@ -89,7 +89,8 @@ pub record IsItem (nodes : List Node) (i : ℕ) : Type 0 where
   pub item : Has around.children i
   pub behind : i < sequence
 
--- Node i stands in a later item of a sequence, of which an earlier one defines the local with slot s: between the two.
+-- Node i is in a later item of a sequence in which an earlier item defines the local with slot s: it comes between the
+-- two.
 pub record IsDefined (nodes : List Node) (i s : ℕ) : Type 0 where
   pub define : ℕ
   pub definition : Node
@@ -103,29 +104,29 @@ pub record IsDefined (nodes : List Node) (i s : ℕ) : Type 0 where
   pub item : Has around.children define
   pub behind : i < sequence
 
--- When a rose that names only what is visible has been put: whatever uses a slot uses one of those that were visible from
--- the start, or one that is defined before it; and each definition is an item of a sequence.
+-- After a rose that refers only to visible locals is appended, every use of a slot is of one that was visible from the
+-- start, or of one that is defined before; and each definition is an item of a sequence.
 abbrev pub LocalsAreDefined : Type 0
 LocalsAreDefined =
     (visible : List ℕ) (m : ℕ) (r : Rose) (n : ℕ) (before after : List Node) → Scoped visible r → put m r before ≡ Some (n, after)
     → (i : ℕ) (x : Node) → length before ≤ i → slice_get after i ≡ Some x
     → ((s : ℕ) → Uses s x.kind → IsIn s visible ⊎ IsDefined after i s) × ((s : ℕ) → x.kind ≡ node.Define s → IsItem after i)
 
--- Where the names of a body stand in the order of the text, as they do in a tree that a text spells: the first fault is the
+-- If the names of a body are in the order of the text, as they are in a tree that a text spells, the first fault is the
 -- one with the smallest start.
 abbrev pub FirstIsLeast : Type 0
 FirstIsLeast = (c : Context) (fs : List t.Field) (x : t.Method) (g : Fault) (rest : List Fault) → Ascends (body_places fs x) → body_faults c fs x ≡ g ∷ rest → Each (λ i h. fault_start g ≤ fault_start h) (body_faults c fs x)
 
--- Where they do, each local has the slot of its place among the locals, which no other one has.
+-- Then each local has the slot given by its place among the locals, and no other local has it.
 abbrev pub LocalsHaveSlots : Type 0
 LocalsHaveSlots = (fs : List t.Field) (x : t.Method) → Ascends (body_places fs x) → (i : ℕ) (l : Local) → slice_get (method_locals fs x) i ≡ Some l → slot_at (slots_of fs x) (local_start l) ≡ 1 + length x.params + i
 
--- Where an expression has no fault, it has as many definitions as locals, also of those that pass a test on their slot and
--- depth.
+-- An expression without a fault has as many definitions as locals, also counting only those whose slot and depth pass a
+-- test.
 abbrev pub IsDefinedAsOften : Type 0
 IsDefinedAsOften = (c : Context) (test : ℕ → ℕ → Bool) (scope : Scope) (d : ℕ) (e : t.Expr) → faults_of c scope e ≡ [] → times test (expr_of c scope d e) ≡ local_times c test (locals_of d e)
 
--- Of the nodes that have been put, exactly one defines the slot, at this depth.
+-- Of the appended nodes exactly one defines the slot, at this depth.
 pub record IsDefinedOnce (slot depth : ℕ) (before after : List Node) : Type 0 where
   pub define : ℕ
   pub definition : Node
@@ -135,7 +136,8 @@ pub record IsDefinedOnce (slot depth : ℕ) (before after : List Node) : Type 0 
   pub deep : definition.depth ≡ depth
   pub only : (k : ℕ) (x : Node) → length before ≤ k → slice_get after k ≡ Some x → x.kind ≡ node.Define slot → k ≡ define
 
--- In a body without a fault, whose names stand in the order of the text, each local is defined once, with its slot and at its depth.
+-- In a body without a fault, whose names are in the order of the text, each local is defined once, with its slot and at
+-- its depth.
 abbrev pub LocalsAreDefinedOnce : Type 0
 LocalsAreDefinedOnce =
     (c : Context) (fs : List t.Field) (x : t.Method) (r : Rose) (m n : ℕ) (before after : List Node) → c.slots ≡ slots_of fs x → Ascends (body_places fs x) → body_faults c fs x ≡ []
@@ -146,11 +148,11 @@ AddedLocalsAreDefinedOnce =
     (c : Context) (fs : List t.Field) (name : Span) (m n : ℕ) (before after : List Node) → c.slots ≡ added_slots fs → Ascends (initial_places fs) → initial_faults c fs ≡ []
     → put m (added_body c fs name) before ≡ Some (n, after) → (i : ℕ) (l : Local) → slice_get (initial_locals fs) i ≡ Some l → IsDefinedOnce (1 + i) l.depth before after
 
--- A type that is written for a local is that of an entity, where it is no fault.
+-- The type that is written for a local names an entity, unless it is a fault.
 abbrev pub WrittenTypesAreThere : Type 0
 WrittenTypesAreThere = (c : Context) (ty : TypeRef) → written_faults c (Some ty) ≡ [] → (p : ℕ × Cap) × (written_of c (Some ty) ≡ Some p) × (p.0 < length c.entities)
 
--- A method that has no fault has at most 64 slots with that of `this`, and its body stands.
+-- A method without a fault has at most 64 slots, counting the one for `this`, and its body is as described.
 abbrev pub MethodsStand : Type 0
 MethodsStand =
     (c : Context) (m : ℕ) (fs : List t.Field) (x : t.Method) (n : ℕ) (before after : List Node) → 0 < length c.texts → method_of c m fs x before ≡ Ok (Some n, after)

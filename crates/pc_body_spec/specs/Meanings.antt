@@ -1,4 +1,4 @@
--- What the numbers in a rose name is there.
+-- The numbers in a rose refer to something that exists.
 use Rattle.std.specs.Prelude.{◌≡◌, ◌⊎◌, ℕ, ◌<◌, ◌≤◌, true, length, Some, slice_get}
 use Rattle.pc_tree.specs.declared.kinds.EntityKind.{EntityKind}
 use Rattle.pc_tree.specs.declared.kinds.EntityKind.TheVariants as kind
@@ -27,8 +27,8 @@ IsOfKind c k e = (x : Known) × (slice_get c.entities e ≡ Some x) × (x.kind �
 abbrev pub IsConstructor : Context → EntityKind → ℕ → Type 0
 IsConstructor c k m = (e : ℕ) × (x : Known) × (slice_get c.entities e ≡ Some x) × (x.kind ≡ k) × ((y : Constructor) × Has x.constructors y × (y.method ≡ m))
 
--- What a node of this kind names is there: None or a primitive of the program's own, a constructor of a class or of an
--- actor, and a text; an operator is one that has no kind of its own. A body is nowhere.
+-- A node of this kind refers to something that exists: None or a primitive of the program, a constructor of a class or
+-- of an actor, or a text; an operator is one without a node kind of its own. There is no body among them.
 abbrev pub Names : Context → NodeKind → Type 0
 Names c (node.Prim e) = (e ≡ none_entity) ⊎ ((first_own ≤ e) × IsOfKind c kind.Primitive e)
 Names c (node.New m) = IsConstructor c kind.Class m

@@ -1,4 +1,4 @@
--- What becomes of a method: its nodes behind those of the methods before it, or its first fault.
+-- The elaboration of a method: its nodes after those of the methods before it, or its first fault.
 use Rattle.std.specs.Prelude.{ℕ, List, [], ◌∷◌, ◌++◌, map, Option, Some, None, Result, Ok, Err, slice_get, ◌-◌}
 use Rattle.pc_caps.specs.declared.span.Span.{Span}
 use Rattle.pc_caps.specs.Limits.{slot_limit}
@@ -17,7 +17,7 @@ pub data MethodFault : Type 0 where
   in_body : Fault → MethodFault
   -- the name of its 65th slot
   slots_full : Span → MethodFault
-  -- its own name, where the nodes of all methods so far are too many
+  -- its own name, if all methods so far have too many nodes
   nodes_full : Span → MethodFault
 
 -- The number of its body, if it has one, and all nodes so far.
@@ -30,12 +30,12 @@ param_names ps = map (λ p. p.name) ps
 abbrev pub local_names : List Local → List Name
 local_names ls = map (λ l. l.name) ls
 
--- The names of the slots of a method, behind that of `this`.
+-- The names of the slots of a method, after that of `this`.
 abbrev pub slot_names : List t.Field → t.Method → List Name
 slot_names fs x = param_names x.params ++ local_names (method_locals fs x)
 
--- The first fault of the body comes before a slot past the limit, and this before the count of the nodes. The names are those of
--- the slots behind that of `this`.
+-- The first fault of the body takes precedence over a slot past the limit, and this over the count of the nodes. The
+-- names are those of the slots after that of `this`.
 abbrev pub unless_fault : List Fault → Outcome → Outcome
 unless_fault [] rest = rest
 unless_fault (f ∷ fs) rest = Err (in_body f)
@@ -55,10 +55,10 @@ abbrev pub put_body : ℕ → Span → Option Rose → List Node → Outcome
 put_body m name None before = Ok (None, before)
 put_body m name (Some r) before = numbered name (put m r before)
 
--- Method m, of an entity with these fields, behind the nodes of the methods before it.
+-- Method m, of an entity with these fields, after the nodes of the methods before it.
 abbrev pub method_of : Context → ℕ → List t.Field → t.Method → List Node → Outcome
 method_of c m fs x before = unless_fault (body_faults c fs x) (unless_full (slot_names fs x) (put_body m x.name.span (body_of c fs x) before))
 
--- A `create` that is added to an entity of this name.
+-- A `create` that is added to an entity with this name.
 abbrev pub added_of : Context → ℕ → List t.Field → Span → List Node → Outcome
 added_of c m fs name before = unless_fault (initial_faults c fs) (unless_full (local_names (initial_locals fs)) (put_body m name (Some (added_body c fs name)) before))

@@ -1,4 +1,4 @@
--- The places at which faults and locals of a body can stand, in the order of the text.
+-- The places at which a body can have faults and locals, in the order of the text.
 use Rattle.std.specs.Prelude.{ℕ, List, [], ◌∷◌, ◌++◌, Option, Some, None}
 use Rattle.pc_tree.specs.declared.names.TypeRef.{TypeRef}
 use Rattle.pc_tree.specs.Tree as t
@@ -72,16 +72,16 @@ abbrev pub written_body_places : Option t.Seq → List ℕ
 written_body_places None = []
 written_body_places (Some b) = seq_places b
 
--- Those of the body of a method of an entity with these fields. Initial values stand before all methods.
+-- Those of the body of a method of an entity with these fields. Initial values come before all methods.
 abbrev pub body_places : List t.Field → t.Method → List ℕ
 body_places fs m = initial_places (initial_fields m.word fs) ++ written_body_places m.body
 
--- Where a fault stands.
+-- The start of a fault.
 abbrev pub fault_start : Fault → ℕ
 fault_start (unknown s) = s.start
 fault_start (double s) = s.start
 fault_start (long_text s) = s.start
 
--- Where a local's name stands.
+-- The start of a local's name.
 abbrev pub local_start : Local → ℕ
 local_start l = l.name.span.start

@@ -1,4 +1,4 @@
--- What a part of a body becomes before its nodes have numbers, and how it is numbered.
+-- The elaboration of part of a body before its nodes have numbers, and how they are numbered.
 use Rattle.std.specs.Prelude.{ℕ, List, [], ◌∷◌, ◌++◌, length, Option, Some, None, if◌then◌else◌, nat_lt}
 use Rattle.pc_caps.specs.declared.span.Span.{Span}
 use Rattle.pc_caps.specs.Limits.{node_limit}
@@ -6,8 +6,8 @@ use Rattle.pc_core.specs.declared.nodes.Node.{Node}
 use Rattle.pc_core.specs.declared.nodes.NodeKind.{NodeKind}
 
 mutual
-  -- A rose: a node without numbers. Its kind, its place in the text, its depth, and its children in the order in which
-  -- they are evaluated.
+  -- A rose: a tree of nodes without numbers. Its kind, its span in the text, its depth, and its children in the order
+  -- in which they are evaluated.
   pub data Rose : Type 0 where
     rose : NodeKind → Span → ℕ → Roses → Rose
 
@@ -32,7 +32,7 @@ abbrev pub and_last : Roses → Rose → Roses
 and_last no_roses r = one r
 and_last (more x xs) r = more x (and_last xs r)
 
--- A result and the nodes so far, or none where the nodes are too many.
+-- A result and the nodes so far, or none if there are too many nodes.
 abbrev pub Numbered : Type 0 → Type 0
 Numbered A = Option (A × List Node)
 
@@ -43,12 +43,12 @@ and_then (Some r) f = f r.0 r.1
 abbrev pub node_of : ℕ → NodeKind → Span → ℕ → List ℕ → Node
 node_of m k s d children = record { kind = k; children = children; depth = d; method = m; span = s }
 
--- A node of method m is put behind the others, and its number is its place.
+-- Appends a node of method m, whose number is its place.
 unfoldable pub push : ℕ → NodeKind → Span → ℕ → List ℕ → List Node → Numbered ℕ
 push m k s d children ns = if nat_lt (length ns) node_limit then Some (length ns, ns ++ node_of m k s d children ∷ []) else None
 
--- A rose of method m is put behind the others: the nodes of its children one after the other, and then its own, whose
--- number is the result.
+-- Appends the nodes of a rose of method m: those of its children one after the other, and then its own, whose number is
+-- the result.
 abbrev mutual
   pub put : ℕ → Rose → List Node → Numbered ℕ
   put m (rose k s d rs) ns = and_then (puts m rs ns) (push m k s d)

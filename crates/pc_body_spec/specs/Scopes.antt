@@ -1,4 +1,4 @@
--- What the names in a body mean.
+-- The meaning of the names in a body.
 use Rattle.std.specs.Prelude.{ℕ, suc, ◌+◌, ◌-◌, ◌^◌, min, Bool, true, false, List, [], ◌∷◌, ◌++◌, Option, Some, None, if◌then◌else◌, nat_eq, nat_le}
 use Rattle.std.specs.Str.{bytes_eq}
 use Rattle.pc_caps.specs.declared.capability.Cap.{Cap}
@@ -14,16 +14,16 @@ pub record Constructor : Type 0 where
   pub name : List ℕ
   pub method : ℕ
 
--- What a body sees of an entity of the program. A constructor that is added where none is written is among the
+-- What a body knows of an entity of the program. A constructor that is added because none is written is among the
 -- constructors.
 pub record Known : Type 0 where
   pub name : List ℕ
   pub kind : EntityKind
-  -- the capability of its type where none is written
+  -- the capability of its type if none is written
   pub cap : Cap
   pub constructors : List Constructor
 
--- The slot of a local, found by the place at which its name stands where it is defined.
+-- The slot of a local, found by the place of its name in its definition.
 pub record Placed : Type 0 where
   pub start : ℕ
   pub slot : ℕ
@@ -33,7 +33,7 @@ pub record Context : Type 0 where
   -- the names of the fields and methods of the entity that the method belongs to
   pub fields : List (List ℕ)
   pub methods : List (List ℕ)
-  -- the entities of the program by their numbers, those of the language first
+  -- the entities of the program by their numbers, the built-in ones first
   pub entities : List Known
   -- the texts of the program by their numbers
   pub texts : List (List ℕ)
@@ -61,7 +61,7 @@ abbrev pub slot_at : List Placed → ℕ → ℕ
 slot_at [] start = 0
 slot_at (p ∷ ps) start = if nat_eq p.start start then p.slot else slot_at ps start
 
--- The number of a text, which is one of the program's wherever fields and methods are named.
+-- The number of a text; it is one of the program's texts wherever fields and methods are named.
 abbrev pub text_from : ℕ → List (List ℕ) → List ℕ → ℕ
 text_from at [] name = 0
 text_from at (x ∷ xs) name = if bytes_eq x name then at else text_from (suc at) xs name
@@ -69,7 +69,7 @@ text_from at (x ∷ xs) name = if bytes_eq x name then at else text_from (suc at
 abbrev pub text_of : Context → List ℕ → ℕ
 text_of c name = text_from 0 c.texts name
 
--- What a bare name means.
+-- The meaning of a bare name.
 pub data Meaning : Type 0 where
   local : ℕ → Meaning
   field : Meaning
@@ -90,15 +90,15 @@ unless_local None m = m
 abbrev pub resolve : Context → Scope → List ℕ → Meaning
 resolve c scope name = unless_local (slot_of scope name) (member (is_among c.fields name) (is_among c.methods name))
 
--- What a type name means as an expression.
+-- The meaning of a type name as an expression.
 pub data TypeMeaning : Type 0 where
-  -- the value of the primitive of this number
+  -- the value of the primitive with this number
   primitive : ℕ → TypeMeaning
-  -- an entity that has constructors, an actor or a class
+  -- an entity with constructors, an actor or a class
   created : Bool → List Constructor → TypeMeaning
   no_value : TypeMeaning
 
--- Of the entities of the language, None alone has a value that its name stands for.
+-- Of the built-in entities only None has a value that its name denotes.
 abbrev pub is_own : ℕ → Bool
 is_own e = if nat_eq e none_entity then true else nat_le first_own e
 
@@ -120,7 +120,7 @@ abbrev pub constructor_named : List Constructor → List ℕ → Option ℕ
 constructor_named [] name = None
 constructor_named (x ∷ xs) name = if bytes_eq x.name name then Some x.method else constructor_named xs name
 
--- The local that a definition brings.
+-- The local that a definition introduces.
 abbrev pub defined : Context → Name → Visible
 defined c n = record { name = n.text; slot = slot_at c.slots n.span.start }
 
@@ -137,6 +137,6 @@ params_from at (p ∷ ps) = record { name = p.name.text; slot = at } ∷ params_
 abbrev pub params_scope : List ParamDef → Scope
 params_scope ps = params_from 1 ps
 
--- One `recover` further in. A depth is a number of 32 bits.
+-- One `recover` further in. A depth fits in 32 bits.
 abbrev pub deeper : ℕ → ℕ
 deeper d = min (d + 1) (2 ^ 32 - 1)

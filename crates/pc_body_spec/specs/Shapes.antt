@@ -1,4 +1,4 @@
--- How many children a rose has, and how deep they stand.
+-- How many children a rose has, and their depths.
 use Rattle.std.specs.Prelude.{◌≡◌, ℕ, suc}
 use Rattle.pc_core.specs.declared.nodes.NodeKind.{NodeKind}
 use Rattle.pc_core.specs.declared.nodes.NodeKind.TheVariants as node
@@ -10,12 +10,12 @@ abbrev pub count : Roses → ℕ
 count no_roses = 0
 count (more r rs) = suc (count rs)
 
--- The depth of what stands in a node of this kind and depth.
+-- The depth of the children of a node of this kind and depth.
 abbrev pub depth_inside : NodeKind → ℕ → ℕ
 depth_inside (node.Recover cap) d = deeper d
 depth_inside k d = d
 
--- A rose of depth d in which each node has as many children as its kind wants, each as deep as it has to be.
+-- A rose of depth d in which each node has as many children as its kind requires, each at the required depth.
 abbrev mutual
   pub Shaped : ℕ → Rose → Type 0
   Shaped d (rose k s e rs) = (e ≡ d) × HasArity k (count rs) × AllShaped (depth_inside k d) rs

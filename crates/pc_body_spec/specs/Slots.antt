@@ -1,4 +1,4 @@
--- The locals of a body, in the order in which their names stand in the text, and their slots.
+-- The locals of a body, in the order in which their names are in the text, and their slots.
 use Rattle.std.specs.Prelude.{ℕ, suc, ◌+◌, Bool, true, false, List, [], ◌∷◌, ◌++◌, length, Option, Some, None, if◌then◌else◌}
 use Rattle.std.specs.Str.{bytes_eq}
 use Rattle.pc_caps.specs.declared.capability.Cap.{Cap}
@@ -11,12 +11,12 @@ use Rattle.pc_core.specs.declared.nodes.SlotKind.TheVariants as slot
 use Rattle.pc_body_spec.specs.Scopes.{Context, Known, Placed, deeper}
 use Rattle.pc_body_spec.specs.Bodies.{initial_fields}
 
--- A local where it is defined.
+-- A local at its definition.
 pub record Local : Type 0 where
-  -- whether the word is `let`
+  -- whether the keyword is `let`
   pub fixed : Bool
   pub name : Name
-  -- its type, where one is written
+  -- its type, if one is written
   pub ty : Option TypeRef
   -- the number of `recover` bodies around its definition
   pub depth : ℕ
@@ -86,8 +86,8 @@ abbrev pub body_locals : Option t.Seq → List Local
 body_locals None = []
 body_locals (Some b) = seq_locals 0 b
 
--- The locals of a method of an entity with these fields. Those of the initial values are in each constructor, before its
--- own.
+-- The locals of a method of an entity with these fields. In each constructor those of the initial values come before
+-- its own.
 abbrev pub method_locals : List t.Field → t.Method → List Local
 method_locals fs m = initial_locals (initial_fields m.word fs) ++ body_locals m.body
 
@@ -100,7 +100,7 @@ placed_from at (x ∷ xs) = record { start = x.name.span.start; slot = at } ∷ 
 abbrev pub slots_of : List t.Field → t.Method → List Placed
 slots_of fs m = placed_from (1 + length m.params) (method_locals fs m)
 
--- In an added `create` there are those of the initial values alone, after the slot of `this`.
+-- An added `create` has only those of the initial values, after the slot of `this`.
 abbrev pub added_slots : List t.Field → List Placed
 added_slots fs = placed_from 1 (initial_locals fs)
 
@@ -109,7 +109,7 @@ abbrev pub cap_or : Option Cap → Cap → Cap
 cap_or (Some k) own = k
 cap_or None own = own
 
--- The type of this name among entities, whose numbers begin with this one.
+-- The type with this name among entities whose numbers start with this one.
 abbrev pub type_of : ℕ → List Known → TypeRef → Option (ℕ × Cap)
 type_of at [] ty = None
 type_of at (x ∷ xs) ty = if bytes_eq x.name ty.name.text then Some (at, cap_or ty.cap x.cap) else type_of (suc at) xs ty

@@ -1,4 +1,4 @@
--- The names that stand behind a `.` in a file, in the order of the text.
+-- The names after a `.` in a file, in the order of the text.
 use Rattle.std.specs.Prelude.{ℕ, List, [], ◌∷◌, ◌++◌, Option, Some, None}
 use Rattle.pc_tree.specs.Tree as t
 

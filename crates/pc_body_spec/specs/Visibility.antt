@@ -1,4 +1,4 @@
--- Which locals a rose may name: those that stand before it in the sequences around it.
+-- Which locals a rose may refer to: those defined before it in the sequences around it.
 use Rattle.std.specs.Prelude.{ℕ, List, [], ◌∷◌, ◌++◌, map}
 use Rattle.pc_core.specs.declared.nodes.NodeKind.{NodeKind}
 use Rattle.pc_core.specs.declared.nodes.NodeKind.TheVariants as node
@@ -6,8 +6,8 @@ use Rattle.pc_body_spec.specs.Roses.{Rose, Roses, rose, more, no_roses}
 use Rattle.pc_body_spec.specs.Scopes.{Scope}
 use Rattle.pc_lists.specs.Places.{IsIn}
 
--- What a node of this kind asks, where `all` says that its children name only what is visible, and `items` that they do so
--- as the items of a sequence. A definition stands nowhere but as such an item.
+-- The requirement for a node of this kind: `all` says that its children refer only to what is visible, and `items` that
+-- they do so as the items of a sequence. A definition may only be such an item.
 abbrev pub Asks : NodeKind → List ℕ → Type 0 → Type 0 → Type 0
 Asks (node.Local s) visible all items = IsIn s visible × all
 Asks (node.Consume s) visible all items = IsIn s visible × all
@@ -21,7 +21,7 @@ abbrev pub ItemAsks : NodeKind → List ℕ → Type 0 → Type 0 → (List ℕ 
 ItemAsks (node.Define s) visible all part rest = all × rest (visible ++ s ∷ [])
 ItemAsks k visible all part rest = part × rest visible
 
--- A rose names only locals whose slots are visible.
+-- A rose refers only to locals whose slots are visible.
 abbrev mutual
   pub Scoped : List ℕ → Rose → Type 0
   Scoped visible (rose k s d rs) = Asks k visible (AllScoped visible rs) (ItemsScoped visible rs)

@@ -1,9 +1,8 @@
-//! What elaboration is: which nodes, slots and faults stand for the body of a method. Definitions, and what is true of them.
+//! Elaboration as definitions: the nodes, slots and faults of the body of a method, and their laws.
 //!
-//! Proved: What stands for the body of a method, as definitions: which nodes, slots and faults. Nodes stand in
-//! post-order, each with the children and depth of its kind; what they name is there where there is no fault; each
-//! local is defined once, before its uses; the first fault has the smallest start. Small bodies stand as written out by
-//! hand.
+//! Proved, about the nodes, slots and faults of a method's body: nodes are in post-order, each with the children and
+//! depth that its kind requires; what they refer to exists if there is no fault; each local is defined once, before its
+//! uses; the first fault has the smallest start. Small bodies elaborate as written out by hand.
 #![tactic(auto)]
 
 mod laws;

@@ -1,4 +1,4 @@
--- What is gathered part by part is the list of all names behind a `.`, behind those of the table.
+-- What is gathered part by part is the list of all names after a `.`, after those of the table.
 use Rattle.std.proofs.Common.{◌≡◌, List, [], ◌∷◌, ◌++◌, Option, Some, None, refl, sym, ap, ◌∙◌}
 use Rattle.pc_tree.specs.Tree as t
 use Rattle.pc_lists.specs.Texts.{Text}
@@ -7,7 +7,7 @@ use Rattle.pc_members.proofs.Tables.{names_in_parts}
 use Rattle.pc_body_spec.specs.Texts.{expr_texts, exprs_texts, suffix_texts, suffixes_texts, arm_texts, arms_texts, other_texts, seq_texts, items_texts, item_texts, value_texts, body_texts, values_texts, bodies_texts, entities_texts}
 use Rattle.pc_body_walks.specs.Gathering.{with_expr, with_exprs, with_suffix, with_suffixes, with_arm, with_arms, with_other, with_seq, with_items, with_item, with_value, with_body, with_values, with_bodies, with_entities}
 
--- First the ones, then the others.
+-- The first ones, then the others.
 in_turn : (more : List Text → List Text) (ns mid xs ys : List Text) → mid ≡ with_names ns xs → ((m : List Text) → more m ≡ with_names m ys) → more mid ≡ with_names ns (xs ++ ys)
 in_turn more ns mid xs ys e g = ap more e ∙ (g (with_names ns xs) ∙ sym (names_in_parts ns xs ys))
 

@@ -1,4 +1,4 @@
--- The faults at the beginning of a chain.
+-- The faults at the start of a chain.
 use Rattle.std.proofs.Common.{◌≡◌, [], ◌++◌, Result, refl, ap, sym, ◌∙◌, subst}
 use Rattle.pc_caps.specs.declared.span.Span.{Span}
 use Rattle.pc_tree.specs.declared.names.Name.{Name}
@@ -28,7 +28,7 @@ behind_type c sc m t.no_suffixes = refl
 behind_type c sc m (t.suffix (t.dot n) ss) = ap (λ l. dot_faults (with_type (type_meaning c m.text)) n (next_of ss) ++ l) (later c sc ss)
 behind_type c sc m (t.suffix (t.args es s) ss) = ap (λ l. exprs_faults c sc es ++ l) (later c sc ss)
 
--- Only the name behind a type name may be wrong, and the arguments.
+-- Only the name after a type name can have a fault, and the arguments.
 in_parts : (c : Context) (sc : Scope) (h : t.Expr) (ss : t.Suffixes) → suffixes_faults c sc (start_of c sc h) ss ≡ head_name_faults c h ss ++ args_faults c sc ss
 in_parts c sc (t.number n s) ss = later c sc ss
 in_parts c sc (t.truth b s) ss = later c sc ss
@@ -46,10 +46,10 @@ in_parts c sc (t.while_ d b s) ss = later c sc ss
 in_parts c sc (t.recover k b s) ss = later c sc ss
 in_parts c sc (t.assign l r s) ss = later c sc ss
 
--- A fault of the name behind a type name is the first where the beginning has none.
+-- A fault of the name after a type name is the first one if the start has none.
 pub chain_first : (c : Context) (sc : Scope) (h : t.Expr) (ss : t.Suffixes) (s : Span) (f : BodyFault) → start_faults (start_of c sc h) (next_of ss) (faults_of c sc h) ≡ [] → IsFirst f (head_name_faults c h ss) → IsFirst f (faults_of c sc (t.chain h ss s))
 chain_first c sc h ss s f e is = subst (IsFirst f) (sym (ap (λ l. l ++ suffixes_faults c sc (start_of c sc h) ss) e ∙ in_parts c sc h ss)) (is_first_on f (head_name_faults c h ss) (args_faults c sc ss) is)
 
--- Where neither has one, the arguments tell what the whole chain does.
+-- If neither has one, the arguments determine the faults of the whole chain.
 pub chain_tells : (c : Context) (sc : Scope) (h : t.Expr) (ss : t.Suffixes) (s : Span) (r : Result Unit BodyFault) → start_faults (start_of c sc h) (next_of ss) (faults_of c sc h) ≡ [] → head_name_faults c h ss ≡ [] → Tells r (args_faults c sc ss) → Tells r (faults_of c sc (t.chain h ss s))
 chain_tells c sc h ss s r e g is = subst (Tells r) (sym (ap (λ l. l ++ suffixes_faults c sc (start_of c sc h) ss) e ∙ (in_parts c sc h ss ∙ ap (λ l. l ++ args_faults c sc ss) g))) is

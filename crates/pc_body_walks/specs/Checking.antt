@@ -12,14 +12,14 @@ use Rattle.pc_body_walks.specs.declared.starts.Next.TheVariants as next
 abbrev pub BeginsWith : List Fault → Fault → Type 0
 BeginsWith fs f = (rest : List Fault) × (fs ≡ f ∷ rest)
 
--- What the code names is the first fault. Memory may run out at any time.
+-- The fault of the code is the first fault. Memory may run out at any time.
 abbrev pub IsFirst : BodyFault → List Fault → Type 0
 IsFirst (fault.Unknown s) fs = BeginsWith fs (unknown s)
 IsFirst (fault.Double s) fs = BeginsWith fs (double s)
 IsFirst (fault.LongText s) fs = BeginsWith fs (long_text s)
 IsFirst fault.Memory fs = Unit {0}
 
--- The first fault of a list is told, and none exactly where the list is empty.
+-- The first fault of a list is reported, and none iff the list is empty.
 abbrev pub Tells : {A : Type 0} → Result A BodyFault → List Fault → Type 0
 Tells (Ok x) fs = fs ≡ []
 Tells (Err f) fs = IsFirst f fs
@@ -29,12 +29,12 @@ next_view next.Arguments = arguments
 next_view next.Name = name
 next_view next.End = end
 
--- Those of a name directly behind the type name that begins a chain.
+-- The faults of a name directly after the type name that starts a chain.
 abbrev pub head_name_faults : Context → t.Expr → t.Suffixes → List Fault
 head_name_faults c (t.type_name m) (t.suffix (t.dot n) ss) = dot_faults (with_type (type_meaning c m.text)) n (next_of ss)
 head_name_faults c h ss = []
 
--- Those of the arguments in a chain.
+-- The faults of the arguments in a chain.
 abbrev pub suffix_faults : Context → Scope → t.Suffix → List Fault
 suffix_faults c sc (t.dot n) = []
 suffix_faults c sc (t.args es s) = exprs_faults c sc es

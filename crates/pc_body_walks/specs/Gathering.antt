@@ -1,4 +1,4 @@
--- The names of a table with those behind a `.` in a part of a body, in the order of the text.
+-- The names of a table, with those after a `.` in a part of a body appended, in the order of the text.
 use Rattle.std.specs.Prelude.{List, [], ◌∷◌, Option, Some, None}
 use Rattle.pc_tree.specs.Tree as t
 use Rattle.pc_lists.specs.Texts.{Text}

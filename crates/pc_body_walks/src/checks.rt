@@ -1,4 +1,4 @@
-//! What single names and texts of a body may be.
+//! Which single names and texts are allowed in a body.
 ghost use Rattle.std.specs.Prelude.{◌∷◌, [], length, nat_lt, if◌then◌else◌};
 ghost use Rattle.pc_caps.specs.Limits.{text_limit};
 ghost use Rattle.pc_body_spec.specs.Scopes.{constructor_named as constructor_in, resolve, slot_of as slot_in, type_meaning};
@@ -21,7 +21,7 @@ pub(crate) fn check_text(bytes: &[u8], span: Span) -> Result<(), BodyFault>
     }
 }
 
-/// A bare name that no arguments follow is a visible local or parameter, or a field.
+/// A bare name without arguments after it is a visible local or parameter, or a field.
 pub(crate) fn check_name(context: &Context, scope: &Scope, name: &Name) -> Result<(), BodyFault>
     ensures { Tells result (spec.name_faults (resolve context.now scope.now name.now.text) name.now.span) }
 {
@@ -31,7 +31,7 @@ pub(crate) fn check_name(context: &Context, scope: &Scope, name: &Name) -> Resul
     }
 }
 
-/// A type name that no suffix follows is that of a primitive, or of an entity with a constructor `create`.
+/// A type name without suffixes is that of a primitive, or of an entity with a constructor `create`.
 pub(crate) fn check_type_name(context: &Context, name: &Name) -> Result<(), BodyFault>
     ensures { Tells result (spec.type_faults (type_meaning context.now name.now.text) name.now.span) }
 {
@@ -44,7 +44,7 @@ pub(crate) fn check_type_name(context: &Context, name: &Name) -> Result<(), Body
     }
 }
 
-/// One of these constructors has the name, which stands at this place.
+/// One of these constructors has the name, whose span is given.
 pub(crate) fn check_constructor(
     constructors: &Constructors,
     name: &[u8],
@@ -78,7 +78,7 @@ pub(crate) fn check_new(context: &Context, scope: &Scope, name: &Name) -> Result
     }
 }
 
-/// The type of a local, where one is written, is an entity.
+/// The type of a local, if one is written, names an entity.
 pub(crate) fn check_written(context: &Context, ty: &Option<TypeRef>) -> Result<(), BodyFault>
     ensures { Tells result (spec.written_faults context.now ty.now) }
 {
@@ -88,7 +88,7 @@ pub(crate) fn check_written(context: &Context, ty: &Option<TypeRef>) -> Result<(
     }
 }
 
-// A type is an entity.
+// A type names an entity.
 fn check_type(context: &Context, name: &Name) -> Result<(), BodyFault>
     ensures { Tells result (if spec.is_entity context.now.entities name.now.text then [] else spec.unknown name.now.span ∷ []) }
 {

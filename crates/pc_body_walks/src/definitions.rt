@@ -1,4 +1,4 @@
-//! The locals of a body, in the order in which their names stand in the text.
+//! The locals of a body, in the order in which their names are in the text.
 ghost use Rattle.std.specs.Prelude.{◌≡◌, ◌∷◌, [], ◌++◌, IfOk, OnOk, map};
 ghost use Rattle.pc_tree.specs.View.{arm_view, arms_view, expr_view, exprs_view, field_view, item_view, items_view, maybe_expr, maybe_seq, method_view, other_view, seq_view, suffix_view, suffixes_view};
 ghost use Rattle.pc_body_spec.specs.Slots as spec;
@@ -8,8 +8,8 @@ use pc_caps::List;
 use pc_tree::{Arm, Expr, FieldDef, Item, MethodDef, MethodWord, Name, Seq, Suffix, TypeRef};
 use std::alloc::{AllocError, Global};
 
-/// The locals of a method of an entity with these fields, in the order of the text. Those of the initial values are in each
-/// constructor, before its own.
+/// The locals of a method of an entity with these fields, in the order of the text. In each constructor those of the
+/// initial values come before its own.
 pub fn locals(
     alloc: Global,
     fields: &[FieldDef],
@@ -22,7 +22,7 @@ pub fn locals(
     Ok(locals)
 }
 
-// They go behind the others.
+// Appends these locals.
 fn add_locals(
     alloc: Global,
     locals: &mut List<Local>,
@@ -38,7 +38,7 @@ fn add_locals(
     body(alloc, locals, &method.body)
 }
 
-/// The locals of a constructor that is added where none is written: those of the initial values of the fields.
+/// The locals of an added constructor: those of the initial values of the fields.
 pub fn added_locals(alloc: Global, fields: &[FieldDef]) -> Result<List<Local>, AllocError>
     ensures { IfOk result (λ locals. locals ≡ spec.initial_locals (map field_view fields.now)) }
 {
@@ -47,7 +47,7 @@ pub fn added_locals(alloc: Global, fields: &[FieldDef]) -> Result<List<Local>, A
     Ok(locals)
 }
 
-// The locals of the initial values go behind the others.
+// Appends the locals of the initial values.
 fn initial_values(
     alloc: Global,
     locals: &mut List<Local>,
@@ -74,7 +74,7 @@ fn initial_value(
     }
 }
 
-// Those of a body, where one is written.
+// Those of a body, if one is written.
 fn body(alloc: Global, locals: &mut List<Local>, body: &Option<Seq>) -> Result<(), AllocError>
     ensures { OnOk result (locals.new ≡ locals.old ++ spec.body_locals (maybe_seq body.now)) }
 {
@@ -243,7 +243,7 @@ fn item(alloc: Global, locals: &mut List<Local>, depth: u32, part: &Item) -> Res
     }
 }
 
-// A copy of what is written of a local goes behind the others.
+// Appends a copy of what is written for a local.
 fn add_local(
     alloc: Global,
     locals: &mut List<Local>,

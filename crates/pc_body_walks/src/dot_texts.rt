@@ -1,4 +1,4 @@
-//! The names behind a `.` in the bodies of a file.
+//! The names after a `.` in the bodies of a file.
 ghost use Rattle.std.specs.Prelude.{◌≡◌, OnOk, map};
 ghost use Rattle.pc_tree.specs.View.{arm_view, arms_view, entity_view, expr_view, exprs_view, field_view, item_view, items_view, maybe_expr, maybe_seq, method_view, other_view, seq_view, suffix_view, suffixes_view};
 ghost use Rattle.pc_members.specs.Tables.{with_names};
@@ -9,8 +9,8 @@ use pc_members::NameTable;
 use pc_tree::{Arm, Entity, Expr, FieldDef, Item, MethodDef, Seq, Suffix};
 use std::alloc::AllocError;
 
-/// The names behind a `.` in the initial values and bodies of these entities go behind the names of the table, in the order
-/// of the text, each once.
+/// Appends to the table the names after a `.` in the initial values and bodies of these entities, in the order of the
+/// text, each once.
 pub fn add_texts(table: &mut NameTable, entities: &[Entity]) -> Result<(), AllocError>
     ensures { OnOk result (table.new ≡ with_names table.old (entities_texts (map entity_view entities.now))) }
 {

@@ -1,16 +1,16 @@
-//! What may be wrong with a body.
+//! The faults of a body.
 ghost use Rattle.pc_body_walks.specs.declared.fault.BodyFault.TheVariants.{Memory};
 ghost use Rattle.std.specs.Prelude.{◌≡◌};
 
 use pc_caps::Span;
 use std::alloc::AllocError;
 
-/// What is wrong with a body, and where it stands.
+/// A fault of a body, and its place.
 #[derive(Clone, Copy, Debug, PartialEq, Eq)]
 pub enum BodyFault {
-    /// A name that nothing has where it stands: a bare name of no local, parameter or field, and of no method whose
-    /// arguments follow; a consumed name of no local or parameter; a type of no entity; as an expression a type name
-    /// that has no value; and the missing constructor of a class or an actor.
+    /// A name that is not defined where it is used: a bare name that is no local, parameter or field, and no method
+    /// followed by arguments; a consumed name that is no local or parameter; a type that is no entity; a type name that
+    /// has no value, used as an expression; and the missing constructor of a class or an actor.
     Unknown(Span),
     /// A local with the name of a visible local or parameter, or of a field.
     Double(Span),

@@ -15,8 +15,9 @@ use pc_resolve::{Context, Scope, enter, params_scope};
 use pc_tree::{Arm, Expr, FieldDef, Item, MethodDef, MethodWord, ParamDef, Seq, Suffix};
 use std::alloc::{AllocError, Global};
 
-/// Whether the body of a method is without a fault, in an entity with these fields; else its first fault in the order of
-/// the text. The initial values of the fields are a part of each constructor, and come first.
+/// Checks the body of a method of an entity with these fields. `Err` iff it has a fault, and then the first in the
+/// order of the text. The initial values of the fields are part of each constructor, and come first. Memory may run out
+/// at any time.
 #[tactic(auto, using(crate::proofs::Firsts::is_first_on))]
 pub fn check(
     alloc: Global,
@@ -33,7 +34,7 @@ pub fn check(
     check_body(alloc, context, method)
 }
 
-// The body of a method alone, in which its parameters are visible.
+// The written body of a method, in which its parameters are visible.
 fn check_body(alloc: Global, context: &Context, method: &MethodDef) -> Result<(), BodyFault>
     ensures { Tells result (spec.written_body_faults context.now (params_visible method.now.params) (maybe_seq method.now.body)) }
 {
@@ -41,7 +42,7 @@ fn check_body(alloc: Global, context: &Context, method: &MethodDef) -> Result<()
     body(alloc, context, &mut scope, &method.body)
 }
 
-// What is visible where a body begins.
+// What is visible at the start of a body.
 fn param_scope(alloc: Global, context: &Context, params: &[ParamDef]) -> Result<Scope, AllocError>
     ensures { IfOk result (λ scope. scope ≡ params_visible params.now) }
 {
@@ -49,8 +50,8 @@ fn param_scope(alloc: Global, context: &Context, params: &[ParamDef]) -> Result<
     Scope::of(alloc, context.key(), row.as_slice())
 }
 
-/// Whether the body of a constructor that is added, where none is written, is without a fault, in an entity with these
-/// fields; else its first fault in the order of the text. It has their initial values alone.
+/// Checks the body of an added constructor of an entity with these fields, which consists of their initial values.
+/// `Err` iff it has a fault, and then the first in the order of the text. Memory may run out at any time.
 #[tactic(auto, using(crate::proofs::Firsts::is_first_on))]
 pub fn check_added(alloc: Global, context: &Context, fields: &[FieldDef]) -> Result<(), BodyFault>
     ensures { Tells result (spec.initial_faults context.now (map field_view fields.now)) }
@@ -74,7 +75,7 @@ fn initial_value(alloc: Global, context: &Context, value: &Option<Expr>) -> Resu
     }
 }
 
-// The body of a method, where one is written.
+// The body of a method, if one is written.
 fn body(
     alloc: Global,
     context: &Context,
@@ -132,7 +133,7 @@ fn expr(
     }
 }
 
-// The head of a chain, unless it is nothing without what follows it.
+// The head of a chain, unless it has a meaning only with what follows it.
 #[cycle(walk)]
 fn chain_head(
     alloc: Global,

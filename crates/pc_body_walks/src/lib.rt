@@ -1,8 +1,8 @@
-//! The walks over the bodies of a file in the order of the text: a body's first fault, its locals with their slots, and the names
-//! behind a `.`.
+//! Walks over the bodies of a file in the order of the text: a body's first fault, its locals with their slots, and the
+//! names after a `.`.
 //!
-//! Proved: `check` answers the first fault of a body, exactly; `locals` its locals and `add_texts` the names behind a `.`, in
-//! order; `slots` gives each local its slot.
+//! Proved: `check` returns exactly the first fault of a body, `locals` its locals and `add_texts` the names after a
+//! `.`, in order; `slots` gives each local its slot.
 #![tactic(auto)]
 
 mod checks;

@@ -7,7 +7,7 @@ use pc_tree::{Name, TypeRef};
 use std::alloc::{AllocError, Global};
 use std::marker::Model;
 
-/// A local where it is defined.
+/// A local at its definition.
 #[derive(Drop)]
 pub struct Local {
     fixed: bool,
@@ -25,7 +25,7 @@ impl Model for Local {
 }
 
 impl Local {
-    /// A copy of what is written of a local.
+    /// A copy of what is written for a local.
     pub(crate) fn copy(
         alloc: Global,
         fixed: bool,
@@ -45,21 +45,21 @@ impl Local {
         })
     }
 
-    /// Whether the word is `let`: the local is never assigned again.
+    /// Whether the keyword is `let`: the local is never assigned again.
     pub fn is_fixed(&self) -> bool
         ensures { result ≡ self.now.fixed }
     {
         self.fixed
     }
 
-    /// Its name, at the place of its definition.
+    /// Its name, at its definition.
     pub fn name(&self) -> &Name
         ensures { result.now ≡ self.now.name }
     {
         &self.name
     }
 
-    /// Its type, where one is written.
+    /// Its type, if one is written.
     pub fn ty(&self) -> Option<&TypeRef>
         ensures { option_copied result ≡ self.now.ty }
     {
@@ -77,7 +77,7 @@ impl Local {
     }
 }
 
-// The same name once more.
+// A copy of a name.
 fn copy_name(alloc: Global, name: &Name) -> Result<Name, AllocError>
     ensures { IfOk result (λ n. n ≡ name.now) }
 {
@@ -88,7 +88,7 @@ fn copy_name(alloc: Global, name: &Name) -> Result<Name, AllocError>
     })
 }
 
-// The same type once more.
+// A copy of a type.
 fn copy_type(alloc: Global, ty: &TypeRef) -> Result<TypeRef, AllocError>
     ensures { IfOk result (λ t. t ≡ ty.now) }
 {

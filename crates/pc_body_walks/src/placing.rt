@@ -7,8 +7,8 @@ use pc_caps::List;
 use pc_resolve::{LocalSlots, Placed};
 use std::alloc::{AllocError, Global};
 
-/// These locals with the slots from this one on, each found by the place of its name. An `Err` where memory runs out, or
-/// where the slot behind the last one is no number of 32 bits.
+/// These locals with the slots from this one on, looked up by the places of their names. `Err` if memory runs out, or
+/// if the slot after the last one does not fit in 32 bits.
 pub fn slots(alloc: Global, first: u32, locals: &[Local]) -> Result<LocalSlots, AllocError>
     ensures { IfOk result (λ placed. placed ≡ placed_from first locals.now) }
 {
@@ -17,7 +17,7 @@ pub fn slots(alloc: Global, first: u32, locals: &[Local]) -> Result<LocalSlots, 
     LocalSlots::of(alloc, placed)
 }
 
-// These locals with the slots from this one on go behind the others.
+// Appends these locals, with the slots from this one on.
 fn add_placed(placed: &mut List<Placed>, first: u32, locals: &[Local]) -> Result<(), AllocError>
     ensures { OnOk result (placed.new ≡ placed.old ++ placed_from first locals.now) }
 {

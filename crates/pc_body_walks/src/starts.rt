@@ -1,4 +1,4 @@
-//! How chains of suffixes begin, and what may stand there.
+//! How chains of suffixes start, and what is allowed there.
 ghost use Rattle.std.specs.Prelude.{◌≡◌, [], List, if◌then◌else◌};
 ghost use Rattle.pc_tree.specs.Tree as t;
 ghost use Rattle.pc_tree.specs.View.{expr_view, suffix_view, suffixes_view};
@@ -22,7 +22,7 @@ pub(crate) enum Next {
     End,
 }
 
-/// What these suffixes begin with.
+/// The start of these suffixes.
 pub(crate) fn next_of(suffixes: &[Suffix]) -> Next
     ensures { next_view result ≡ spec.next_of (suffixes_view suffixes.now) }
 {
@@ -41,7 +41,7 @@ fn next_is(first: &Suffix) -> Next
     }
 }
 
-/// Whether the head of a chain is nothing alone, but belongs to what follows it: the bare name of a method before
+/// Whether the head of a chain is nothing on its own, but belongs to what follows it: the bare name of a method before
 /// arguments, or the name of a class or an actor before `.m`.
 pub(crate) fn is_called(context: &Context, scope: &Scope, head: &Expr, next: Next) -> bool
     ensures { (alone : List Fault) → spec.start_faults (start_of context.now scope.now (expr_view head.now)) (next_view next) alone ≡ if result then [] else alone }
@@ -83,7 +83,7 @@ fn is_called_type(context: &Context, name: &Name, next: Next) -> bool
     }
 }
 
-/// A name directly behind the name of a class or an actor is that of a constructor, and has arguments.
+/// A name directly after the name of a class or an actor is that of a constructor, and is followed by arguments.
 pub(crate) fn check_head_name(
     context: &Context,
     head: &Expr,
@@ -110,7 +110,7 @@ pub(crate) fn check_head_name(
     }
 }
 
-// What stands directly behind a type name.
+// What comes directly after a type name.
 fn check_type_suffixes(context: &Context, head: &Name, suffixes: &[Suffix]) -> Result<(), BodyFault>
     ensures { Tells result (head_name_faults context.now (t.type_name head.now) (suffixes_view suffixes.now)) }
 {
@@ -123,7 +123,7 @@ fn check_type_suffixes(context: &Context, head: &Name, suffixes: &[Suffix]) -> R
     }
 }
 
-// `.name` directly behind a type name.
+// `.name` directly after a type name.
 fn check_type_dot(context: &Context, head: &Name, name: &Name, next: Next) -> Result<(), BodyFault>
     ensures { Tells result (spec.dot_faults (with_type (type_meaning context.now head.now.text)) name.now (next_view next)) }
 {
@@ -133,7 +133,7 @@ fn check_type_dot(context: &Context, head: &Name, name: &Name, next: Next) -> Re
     }
 }
 
-// The name of one of these constructors, which has arguments.
+// The name of one of these constructors, followed by arguments.
 fn check_called(constructors: &Constructors, name: &Name, next: Next) -> Result<(), BodyFault>
     ensures { Tells result (spec.constructor_faults constructors.now name.now (next_view next)) }
 {

@@ -28,7 +28,7 @@ word_own word rest = bind_is (after word (word ++ (58 ∷ rest))) (after (codes 
 
 -- ---- two numbers
 
--- what comes first where they do, and after a name
+-- what comes first if they do, and after a name
 abbrev numbered : (line column : ℕ) → Text → Text
 numbered line column rest = decimal line ++ (58 ∷ (decimal column ++ (58 ∷ (32 ∷ rest))))
 

@@ -13,7 +13,7 @@ none_bound : {A B : Type 0} → (o : Option A) (f : A → Option B) → is_some 
 none_bound None f e = refl
 none_bound (Some x) f e = absurd (true≢false e)
 
--- Where the line's number does not come first, both numbers do not.
+-- If the line's number does not come first, the two numbers do not.
 pub no_line : (line column : ℕ) (numbers : Text) → is_some (after_word (decimal line) numbers) ≡ false → is_some (after_numbers line column numbers) ≡ false
 unfolding after_numbers
 no_line line column numbers e = none_bound (after_word (decimal line) numbers) _ e

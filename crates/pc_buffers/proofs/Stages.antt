@@ -1,4 +1,4 @@
--- From what the stages of a source answer to where it is refused.
+-- From the results of a source's stages to where it is refused.
 use Rattle.std.specs.Prelude.{◌≡◌, ◌<◌, ◌≤◌, ◌==◌, ℕ, zero, suc, cond, List, [], ◌∷◌, Option, Some, Result, Ok, Err, IfErr, drop, find, length, option_map, slice_get, refl}
 use Rattle.std.proofs.Common.{inr, ap, sym, subst, ◌∙◌, arith}
 use Rattle.std.proofs.lemmas.Bool.{eq-eqb, ne_eqb}
@@ -77,7 +77,7 @@ module _ (file : t.File) (span : Option Span) where
 
 -- ---- tokens
 
--- Where a list is cut, the rest begins.
+-- The rest begins where a list is cut.
 first_left : {T : Type 0} → (xs : List T) (k : ℕ) (x : T) (more : List T) → drop k xs ≡ x ∷ more → slice_get xs k ≡ Some x
 first_left [] zero x more e = absurd (omega (arith, ap length e))
 first_left [] (suc k) x more e = absurd (omega (arith, ap length e))

@@ -9,7 +9,7 @@ use Rattle.pc_buffers.specs.Fronts.{after_word, after_numbers}
 use Rattle.pc_buffers.specs.declared.marks.Mark.{Mark}
 use Rattle.pc_buffers.specs.declared.start.Start.{Start}
 
--- The mark is that after so many bytes, and the numbers are those of none of the bytes before it.
+-- The mark is the one after this many bytes, and the numbers are those of none of the bytes before it.
 pub record Before (numbers text : Text) (i : ℕ) (m : Mark) : Type 0 where
   pub at : At text i m.line m.column
   pub small : i ≤ length text
@@ -21,7 +21,7 @@ pub first : (numbers text : Text) (m : Mark) → m ≡ record { offset = 0; line
 first numbers text m e =
     subst (Before numbers text 0) (sym e) (record { at = at_start text; small = omega arith; offset_is = refl; in_line_is = refl; none = λ k l h. absurd (omega (arith, l)) })
 
--- the numbers at a mark are those after so many bytes
+-- the numbers at a mark are those after this many bytes
 are_at : (numbers text : Text) (i : ℕ) (m : Mark) → Before numbers text i m → is_some (after_numbers (line_behind (take i text)) (column_behind (take i text)) numbers) ≡ is_some (after_numbers m.line m.column numbers)
 are_at numbers text i m b = sym (ap₂ (λ l c. is_some (after_numbers l c numbers)) b.at.line_is b.at.column_is)
 

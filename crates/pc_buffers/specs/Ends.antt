@@ -1,4 +1,4 @@
--- Where a piece of a text ends at whose first byte a line points.
+-- Where the piece of a text ends whose first byte a line points at.
 use Rattle.std.specs.Prelude.{ℕ, ◌≡◌, ◌+◌, ◌==◌, drop, Option, Some, None, if◌then◌else◌}
 use Rattle.std.specs.List.{prefix_len}
 use Rattle.pc_caps.specs.declared.span.Span.{Span}
@@ -12,7 +12,7 @@ Ending = (start at : ℕ) → Type 0
 
 -- ---- in a source
 
--- Of a span that starts there, its end. Else the piece has no bytes.
+-- The end of a span that starts there. If there is none, the piece has no bytes.
 abbrev pub end_from : ℕ → Option Span → ℕ
 end_from start None = start
 end_from start (Some span) = if span.start == start then span.end else start

@@ -1,4 +1,4 @@
--- Where in a text a line points. The contracts of the parts of `find_place` speak of it.
+-- Where in a text a line points. Only the contracts of the parts of `find_place` use it.
 use Rattle.std.specs.Prelude.{ℕ, ◌≡◌, ◌≤◌, true, length, take, is_some, Option, Some, None}
 use Rattle.pc_lists.specs.Texts.{Text}
 use Rattle.pc_refusals.specs.Place.{line_behind, column_behind}
@@ -10,7 +10,7 @@ use Rattle.pc_buffers.specs.declared.start.Start.{Start}
 
 -- ---- a whole line
 
--- It points at this byte of the text, which is that of this number.
+-- It points at this byte of the text with this number.
 pub record StartsAt (number : ℕ) (name text line : Text) (start : Start) : Type 0 where
   pub number_is : start.text ≡ number
   pub within : start.offset ≤ length text
@@ -18,7 +18,7 @@ pub record StartsAt (number : ℕ) (name text line : Text) (start : Start) : Typ
   pub column_is : start.column ≡ column_behind (take start.offset text)
   pub points : PointsTo name text line start.offset
 
--- What is found where it is looked for in this text.
+-- The result of looking for it in this text.
 abbrev pub Finds : (number : ℕ) → (name text line : Text) → Option Start → Type 0
 Finds number name text line None = PointsNowhere name text line
 Finds number name text line (Some start) = StartsAt number name text line start
@@ -35,13 +35,13 @@ place_to text start at = record {
   end_offset = at;
 }
 
--- The piece starts here, and ends where one ends that does.
+-- The piece starts here, and ends where some piece that starts here ends.
 abbrev pub Stretches : Ending → Text → Start → Place → Type 0
 Stretches Ends text start place = (at : ℕ) × Ends start.offset at × (place ≡ place_to text start at)
 
--- ---- two numbers, which are all that is left of a line
+-- ---- two numbers, which are what remains of a line
 
--- They are the line and the column after so many bytes of the text.
+-- They are the line and the column after this many bytes of the text.
 abbrev pub AreOf : (text numbers : Text) → ℕ → Type 0
 AreOf text numbers at = is_some (after_numbers (line_behind (take at text)) (column_behind (take at text)) numbers) ≡ true
 

@@ -1,4 +1,4 @@
--- What follows the front of a line. The contracts of the parts of `find_place` speak of it.
+-- What follows the front of a line. Only the contracts of the parts of `find_place` use it.
 use Rattle.std.specs.Prelude.{ℕ, codes, decimal, Option}
 use Rattle.pc_deriv.specs.Reading.{after}
 use Rattle.pc_lists.specs.Options.{◌>>=◌}

@@ -1,4 +1,4 @@
--- The texts of a call as files in memory, each under its name.
+-- The texts of a call as files in memory, each with its name.
 use Rattle.std.specs.Prelude.{◌≡◌, List, Some, codes, if◌then◌else◌}
 use Rattle.std.specs.Str.{bytes_eq}
 use Rattle.pc_buffers.specs.declared.beside.Beside.{Beside}
@@ -17,7 +17,7 @@ HoldsBeside entries (Schedule schedule) = held entries (codes "schedule") ≡ So
 abbrev pub HoldsTexts : List Entry → Text → Beside → Type 0
 HoldsTexts entries source beside = (held entries (codes "source") ≡ Some source) × HoldsBeside entries beside
 
--- They have what they had, and the text of this name.
+-- They have what they had before, and the text with this name.
 abbrev pub Adds : List Entry → List Entry → (name bytes : Text) → Type 0
 Adds old new name bytes = (n : Text) → held new n ≡ (if bytes_eq name n then Some bytes else held old n)
 

@@ -1,4 +1,4 @@
--- What holds of the bytes at which sources are refused.
+-- What is proved of the bytes at which sources are refused.
 use Rattle.std.specs.Prelude.{◌≡◌, Option, Some, None, Err}
 use Rattle.pc_caps.specs.declared.span.Span.{Span}
 use Rattle.pc_lists.specs.Texts.{Text}
@@ -9,11 +9,11 @@ use Rattle.pc_refusals.specs.Refusal.{offset_line}
 use Rattle.pc_refusals.specs.Verdict.{Verdict}
 use Rattle.pc_buffers.specs.Refused.{IsRefusedAt}
 
--- A source is refused at one span, or at none.
+-- A source is refused at exactly one span, or at none.
 abbrev pub SpansAreOne : Type 0
 SpansAreOne = (source : Text) (one other : Option Span) → IsRefusedAt source one → IsRefusedAt source other → one ≡ other
 
--- The line names the first byte of the span. Without one it says that there is no Main.
+-- The line names the first byte of the span. Without a span, it says that there is no Main.
 abbrev pub NamesSpan : (name source line : Text) → Option Span → Type 0
 NamesSpan name source line None = line ≡ no_main_line name
 NamesSpan name source line (Some span) = (what : Text) × (line ≡ offset_line name source span.start what)

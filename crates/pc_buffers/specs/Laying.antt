@@ -2,11 +2,12 @@
 use Rattle.std.specs.Prelude.{ℕ, ◌≡◌, ◌++◌, List, length, min, take, drop}
 use Rattle.pc_lists.specs.Texts.{Text}
 
--- A buffer after a text was laid into it: as much of the text as there is room for, and after it what was there before.
+-- A buffer after a text was copied into it: as much of the text as there is room for, followed by what was there
+-- before.
 abbrev pub laid : Text → List ℕ → List ℕ
 laid text before = take (min (length text) (length before)) text ++ drop (min (length text) (length before)) before
 
--- A buffer before a call and after it, and the length that was answered for its text.
+-- A buffer before and after a call, and the length that was returned for its text.
 pub record Buffer : Type 0 where
   pub before : List ℕ
   pub now : List ℕ
@@ -15,10 +16,10 @@ pub record Buffer : Type 0 where
 abbrev pub buffer : (before now : List ℕ) → ℕ → Buffer
 buffer before now answered = record { before = before; now = now; answered = answered }
 
--- The text's whole length is answered, and the text was laid into the buffer.
+-- The text's whole length is returned, and the text was copied into the buffer.
 abbrev pub Holds : Buffer → Text → Type 0
 Holds b text = (b.answered ≡ length text) × (b.now ≡ laid text b.before)
 
--- No text is answered, and the buffer is as it was.
+-- No text is returned, and the buffer is unchanged.
 abbrev pub IsUntouched : Buffer → Type 0
 IsUntouched b = (b.answered ≡ 0) × (b.now ≡ b.before)

@@ -5,20 +5,20 @@ use Rattle.pc_refusals.specs.Place.{line_behind, column_behind}
 use Rattle.pc_buffers.specs.Ends.{Ending}
 use Rattle.pc_buffers.specs.declared.place.Place.{Place}
 
--- How a line begins that points at a byte: `NAME:LINE:COLUMN: `.
+-- The start of a line that points at a byte: `NAME:LINE:COLUMN: `.
 abbrev pub place_front : Text → (line column : ℕ) → Text
 place_front name line column = name ++ (codes ":" ++ (decimal line ++ (codes ":" ++ (decimal column ++ codes ": "))))
 
--- The line begins so.
+-- The line begins with this text.
 abbrev pub BeginsWith : Text → Text → Type 0
 BeginsWith line front = (rest : Text) × (line ≡ front ++ rest)
 
--- The line points at the byte before which the text of this name has so many bytes, or at the text's end.
+-- The line points at the byte at this offset of the text with this name, or at the text's end.
 abbrev pub PointsTo : (name text line : Text) → ℕ → Type 0
 PointsTo name text line at = BeginsWith line (place_front name (line_behind (take at text)) (column_behind (take at text)))
 
--- It points at this piece of the text, which is that of this number: at its first byte, and the piece ends where one ends that
--- starts there.
+-- It points at this piece of the text with this number: at its first byte, and the piece ends where some piece that
+-- starts there ends.
 pub record PointsAt (number : ℕ) (name text : Text) (Ends : Ending) (line : Text) (place : Place) : Type 0 where
   pub number_is : place.text ≡ number
   pub within : place.offset ≤ length text
@@ -29,7 +29,7 @@ pub record PointsAt (number : ℕ) (name text : Text) (Ends : Ending) (line : Te
   pub end_line_is : place.end_line ≡ line_behind (take place.end_offset text)
   pub end_column_is : place.end_column ≡ column_behind (take place.end_offset text)
 
--- It points at no byte of the text, and not at its end.
+-- It points neither at a byte of the text nor at its end.
 abbrev pub PointsNowhere : (name text line : Text) → Type 0
 PointsNowhere name text line = (at : ℕ) → at ≤ length text → PointsTo name text line at → ⊥
 

@@ -15,7 +15,7 @@ Pointing = Text → Place → Type 0
 abbrev pub PointsAway : Pointing
 PointsAway line place = place ≡ no_place
 
--- At a byte of the text of this number and this name, with the end of the piece that starts there, or else elsewhere.
+-- At a byte of the text with this number and this name, with the end of the piece that starts there, or else elsewhere.
 abbrev pub PointsInto : (number : ℕ) → (name text : Text) → Ending → Pointing → Pointing
 PointsInto number name text Ends Else line place = PointsAt number name text Ends line place ⊎ (PointsNowhere name text line × Else line place)
 
@@ -23,15 +23,15 @@ PointsInto number name text Ends Else line place = PointsAt number name text End
 abbrev pub InSource : Text → Pointing → Pointing
 InSource source = PointsInto 1 (codes "source") source (SpansTo source)
 
--- At the first byte of a word of the schedule, or away.
+-- At the first byte of a word of the schedule, or nowhere.
 abbrev pub InSchedule : Text → Pointing
 InSchedule schedule = PointsInto 2 (codes "schedule") schedule (WordTo schedule) PointsAway
 
--- Into the source, or away.
+-- Into the source, or nowhere.
 abbrev pub PointsIntoSource : Text → Pointing
 PointsIntoSource source = InSource source PointsAway
 
--- Into the source, or else into the schedule, or away.
+-- Into the source, or else into the schedule, or nowhere.
 abbrev pub PointsIntoBoth : (source schedule : Text) → Pointing
 PointsIntoBoth source schedule = InSource source (InSchedule schedule)
 

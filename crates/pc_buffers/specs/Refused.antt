@@ -1,5 +1,6 @@
--- Where a source is refused: the bytes of what is at fault first. A refusal of it names the first of these bytes, and an explanation
--- has carets under all of them. In each part `None` stands for a part that is not at fault, or whose fault has no place.
+-- Where a source is refused: the bytes of the first thing at fault. Its refusal names the first of these bytes, and an
+-- explanation has carets under all of them. In each part, `None` means that the part is not at fault, or that its fault
+-- has no place.
 use Rattle.std.specs.Prelude.{ℕ, ◌≡◌, ◌<◌, ◌≤◌, ◌+◌, ◌⊎◌, List, ◌∷◌, length, min, Option, Some, None}
 use Rattle.pc_ann.specs.declared.annotation.Ann.{Ann}
 use Rattle.pc_caps.specs.declared.span.Span.{Span}
@@ -25,8 +26,8 @@ use Rattle.pc_tree.specs.Tree as t
 
 -- ---- the core
 
--- A core without a derivation: the name of what is wrongly declared, the node at which no rule holds, or the name of the constructor
--- that leaves a field unset.
+-- A core without a derivation: the name of what is declared wrongly, the node at which no rule holds, or the name of
+-- the constructor that leaves a field unset.
 pub data IsCoreRefusedAt (core : CoreData) : Option Span → Type 0 where
   derived : Derivable core → IsCoreRefusedAt core None
   declared : (f : DeclFault) → first_fault core ≡ Some f → IsCoreRefusedAt core (Some (decl_span core f))
@@ -35,7 +36,7 @@ pub data IsCoreRefusedAt (core : CoreData) : Option Span → Type 0 where
 
 -- ---- the tree
 
--- The name that is at fault, or what a limit leaves out. A file without Main is at fault at no place.
+-- The name that is at fault, or what exceeds a limit. The fault of a file without Main has no place.
 abbrev pub name_span : NameFault → Option Span
 name_span (naming.Double s) = Some s
 name_span (naming.Unknown s) = Some s
@@ -55,7 +56,7 @@ pub data IsFileRefusedAt (file : t.File) : Option Span → Type 0 where
 
 -- ---- the tokens
 
--- The token with which no file goes on, or that opens a level too many.
+-- The token that cannot continue a file, or that opens a level too many.
 pub data AreRefusedAt (ts : List Token) : Option Span → Type 0 where
   spell : {file : t.File} {span : Option Span} → IsFileAnswer ts (answer.spelled file) → IsFileRefusedAt file span → AreRefusedAt ts span
   unexpected : {x : Token} {rest : List Token} → IsFileAnswer ts (answer.unexpected (x ∷ rest)) → AreRefusedAt ts (Some x.span)

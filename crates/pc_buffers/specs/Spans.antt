@@ -1,4 +1,4 @@
--- What the parts of `refused_span` answer.
+-- The results of the parts of `refused_span`.
 use Rattle.std.specs.Prelude.{ℕ, ◌≡◌, ◌==◌, List, Option, Some, None, find, option_map, slice_get}
 use Rattle.pc_caps.specs.declared.span.Span.{Span}
 use Rattle.pc_check.specs.declared.fault.CheckFault.{CheckFault}
@@ -24,7 +24,7 @@ node_span (Some x) = x.span
 abbrev pub token_span : List Token → ℕ → Option Span
 token_span tokens at = option_map (λ (token : Token). token.span) (find (λ token. token.span.start == at) tokens)
 
--- Of a fault, if it is not that memory ran out, this is the span.
+-- This is the span of a fault, unless memory ran out.
 abbrev pub IsLexSpan : Text → LexFault → Option Span → Type 0
 IsLexSpan bytes lexing.Memory span = ⊥
 IsLexSpan bytes f span = span ≡ lex_span bytes f

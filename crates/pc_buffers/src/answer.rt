@@ -1,25 +1,25 @@
-//! What a call answers beside its status and its texts.
+//! What a call returns besides its status and its texts.
 ghost use Rattle.std.specs.Prelude.{◌≡◌};
 ghost use Rattle.pc_buffers.specs.Places.{no_place};
 
 use crate::place::{NO_PLACE, Place};
 
-/// The status when memory ran out, as `rcap` answers it.
+/// The status if memory ran out, as `rcap` returns it.
 pub const OUT_OF_MEMORY: u8 = 11;
 
-/// What a call answers beside its status and its texts.
+/// What a call returns besides its status and its texts.
 #[repr(C)]
 #[derive(Clone, Copy, Debug)]
 pub struct Answer {
-    /// The length of all that the command writes, in bytes, whether or not its buffer has room for it.
+    /// The length in bytes of everything that the command writes, whether or not its buffer has room for it.
     pub out_length: usize,
-    /// The length of its line, in bytes, whether or not its buffer has room for it.
+    /// The length in bytes of its line, whether or not its buffer has room for it.
     pub err_length: usize,
     /// The byte at which the line points: text 1 is the source, and text 2 the schedule.
     pub place: Place,
 }
 
-/// Answers that memory ran out, with no text and no place.
+/// Reports that memory ran out, with no text and no place.
 pub fn refuse_memory(answer: &mut Answer) -> u8
     ensures status { result ≡ 11 }
     ensures out { answer.new.out_length ≡ 0 }

@@ -1,4 +1,4 @@
-//! The texts of a call, each with the name that lines have for it.
+//! The texts of a call, each with the name that lines use for it.
 ghost use Rattle.std.specs.Prelude.{◌≡◌, List, ℕ, Some, codes, IfOk, OnOk, if◌then◌else◌};
 ghost use Rattle.std.specs.Str.{bytes_eq};
 ghost use Rattle.pc_io.specs.Entries.{held};
@@ -7,7 +7,7 @@ ghost use Rattle.pc_buffers.specs.Holding.{AddsBeside, HoldsTexts};
 use pc_io::NeverFiles;
 use std::alloc::{AllocError, Global};
 
-/// What a command is given beside its source.
+/// What a command is given besides its source.
 #[derive(Clone, Copy, Debug)]
 pub enum Beside<'a> {
     /// No other text.

@@ -1,4 +1,4 @@
-//! Where what is refused of a core stands in its source.
+//! The place in its source of what is refused in a core.
 ghost use Rattle.std.specs.Prelude.{◌≡◌, IfOk, slice_get};
 ghost use Rattle.pc_explain.specs.Explanation as explained;
 ghost use Rattle.pc_buffers.specs.Spans as spec;
@@ -51,7 +51,7 @@ fn own_param_span(core: &Core, method: u32, parameter: u32) -> Span
     }
 }
 
-// What a node stands for.
+// The text that a node represents.
 fn node_span(core: &Core, node: u32) -> Span
     ensures { result ≡ spec.node_span (slice_get core.now.nodes node) }
 {
@@ -73,7 +73,7 @@ fn declaration_span(core: &Core, fault: DeclFault) -> Span
     }
 }
 
-/// What is refused of a core that has this fault.
+/// What is refused in a core that has this fault.
 pub fn core_span(core: &Core, fault: &CheckFault) -> Result<Option<Span>, AllocError>
     ensures { IfOk result (IsCoreSpan core.now fault.now) }
 {

@@ -5,9 +5,9 @@ ghost use Rattle.pc_refusals.specs.Place.{is_line_end, line_behind, column_behin
 /// A line and a column, both counted from 1.
 #[derive(Clone, Copy, Debug)]
 pub struct Corner {
-    /// One more than the line ends before it.
+    /// One more than the number of line ends before it.
     pub line: usize,
-    /// One more than the bytes since the last of them.
+    /// One more than the number of bytes since the last of them.
     pub column: usize,
 }
 

@@ -1,4 +1,4 @@
-//! Where a piece of a text ends that starts at a byte.
+//! Where a piece of a text that starts at a byte ends.
 ghost use Rattle.std.specs.Prelude.{◌≡◌, ◌≤◌, IfOk, length};
 ghost use Rattle.std.specs.List.{prefix_len};
 ghost use Rattle.pc_sched.specs.Schedules as schedules;
@@ -9,7 +9,7 @@ use crate::refused::refused_span;
 use pc_caps::Span;
 use std::alloc::{AllocError, Global};
 
-// The end of a span that starts at this byte, or this byte.
+// The end of the span if it starts at this byte, or else this byte.
 fn end_from(start: usize, span: Option<Span>) -> usize
     ensures { result ≡ spec.end_from start span }
 {
@@ -37,7 +37,7 @@ fn is_blank(byte: u8) -> bool
     byte == b' ' || byte == b'\t' || byte == b'\r' || byte == b'\n'
 }
 
-// How many bytes at the front are no blanks.
+// How many bytes at the front are not blanks.
 fn word_length(text: &[u8]) -> usize
     ensures value { result ≡ prefix_len schedules.no_blank text.now }
     ensures within { result ≤ length text.now }

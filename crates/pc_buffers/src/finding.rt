@@ -6,7 +6,7 @@ use crate::fronts::after_word;
 use crate::marks::{Mark, first_mark, is_named, next_mark};
 use crate::start::Start;
 
-// A mark as a byte of the text of this number.
+// A mark as a byte of the text with this number.
 fn start_of(mark: Mark, number: usize) -> Start
     ensures { result ≡ record { text = number; line = mark.line; column = mark.column; offset = mark.offset } }
 {
@@ -18,7 +18,7 @@ fn start_of(mark: Mark, number: usize) -> Start
     }
 }
 
-// The byte of the text of this number whose line and column come first in these bytes.
+// The byte of the text with this number whose line and column these bytes begin with.
 fn find_numbers(numbers: &[u8], text: &[u8], number: usize) -> Option<Start>
     ensures { FindsIn number text.now numbers.now result }
 {

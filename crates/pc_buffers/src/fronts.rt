@@ -44,7 +44,7 @@ fn after_numbers(text: &[u8], line: usize, column: usize) -> Option<&[u8]>
     after(rest, b" ")
 }
 
-/// Whether a number and a colon come first.
+/// Whether the text begins with a number and a colon.
 #[tactic(auto, using(crate::proofs::Options::some_of_mapped))]
 pub fn has_number(text: &[u8], number: usize) -> bool
     ensures { result ≡ is_some (fronts.after_word (decimal number) text.now) }
@@ -52,7 +52,7 @@ pub fn has_number(text: &[u8], number: usize) -> bool
     after_number(text, number).is_some()
 }
 
-/// Whether the numbers of a line and of a column come first, each with a colon, and a blank.
+/// Whether the text begins with the numbers of a line and of a column, each with a colon, and a blank.
 #[tactic(auto, using(crate::proofs::Options::some_of_mapped))]
 pub fn has_numbers(text: &[u8], line: usize, column: usize) -> bool
     ensures { result ≡ is_some (fronts.after_numbers line column text.now) }

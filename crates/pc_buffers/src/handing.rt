@@ -1,4 +1,4 @@
-//! What a caller is handed over.
+//! What is handed to a caller.
 ghost use Rattle.std.specs.Prelude.{◌≡◌, ◌≢◌};
 ghost use Rattle.pc_buffers.specs.Laying.{Holds, IsUntouched, buffer};
 ghost use Rattle.pc_buffers.specs.Places.{no_place};
@@ -10,8 +10,9 @@ use crate::laying::lay;
 use crate::pointing::find_place;
 use std::alloc::Global;
 
-/// Hands over what a command answered on these texts: its status, what it wrote and its line, as far as there is room for them, and
-/// the place at which the line points. If memory ran out, also in looking for that place, no text and no place are handed over.
+/// Hands over what a command answered on these texts: its status, its text and its line, as far as there is room for
+/// them, and the place at which the line points. If memory ran out, even while looking for that place, no text and no
+/// place are handed over.
 pub fn hand_over(
     alloc: Global,
     status: u8,

@@ -13,7 +13,7 @@ use pc_names::names_are_one;
 use pc_sub::no_fault_where_declarations_fit;
 use pc_text_order::tokens_are_in_order;
 
-/// A source is refused at one span, or at none.
+/// A source is refused at exactly one span, or at none.
 pub fn spans_are_one()
     ensures { SpansAreOne }
 {

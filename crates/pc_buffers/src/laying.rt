@@ -2,7 +2,7 @@
 ghost use Rattle.std.specs.Prelude.{◌≡◌, length};
 ghost use Rattle.pc_buffers.specs.Laying.{laid};
 
-/// Lays as much of the text into the buffer as there is room for. Answers the length of the whole text.
+/// Copies as much of the text into the buffer as there is room for. Returns the length of the whole text.
 pub fn lay(buffer: &mut [u8], text: &[u8]) -> usize
     ensures size { result ≡ length text.now }
     ensures holds { buffer.new ≡ laid text.now buffer.old }

@@ -1,13 +1,14 @@
-//! What a caller gives and is handed over: texts, which become files in memory, buffers, into which texts are laid, and the place at
-//! which a line points.
+//! What a caller passes in and gets back: texts, which become files in memory, buffers, into which texts are copied,
+//! and the place at which a line points.
 //!
-//! Proved: `make_files` gives each text the name that lines have for it; `lay` fills a buffer with as much of a text as there is room
-//! for, leaves the rest of it alone, and answers the text's whole length; `find_place` finds the byte of a text that a line names, with
-//! the end of the piece that starts there, or there is none; `hand_over` hands over a command's status, its texts and their place, or at
-//! 11 leaves the buffers alone.
+//! Proved: `make_files` gives each text the name that lines use for it; `lay` fills a buffer with as much of a text as
+//! there is room for, leaves the rest of it unchanged, and returns the text's whole length; `find_place` finds the byte
+//! of a text that a line names, with the end of the piece that starts there, if there is one; `hand_over` hands over a
+//! command's status, its texts and their place, or leaves the buffers unchanged if the status is 11.
 //!
-//! The piece is a word of a schedule, or the span at which a source is refused, which `refused_span` answers. A source has one span
-//! (`spans_are_one`), and the line by which it is refused names its first byte (`lines_name_spans`).
+//! The piece is a word of a schedule, or the span at which a source is refused, which `refused_span` returns. A source
+//! has at most one such span (`spans_are_one`), and the line by which it is refused names its first byte
+//! (`lines_name_spans`).
 #![tactic(auto)]
 
 mod answer;

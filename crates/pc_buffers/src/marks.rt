@@ -5,7 +5,7 @@ ghost use Rattle.pc_buffers.specs.Fronts.{after_word, after_numbers};
 
 use crate::fronts::{has_number, has_numbers};
 
-/// A byte of a text, or its end, and whether its line is the one that is looked for.
+/// A byte of a text, or its end, and whether its line is the one looked for.
 #[derive(Clone, Copy, Debug)]
 pub struct Mark {
     /// The number of bytes before it.
@@ -14,11 +14,11 @@ pub struct Mark {
     pub line: usize,
     /// One more than the number of bytes since the last of them.
     pub column: usize,
-    /// Whether the number of its line and a colon come first in what is looked for.
+    /// Whether the numbers looked for begin with the number of its line and a colon.
     pub in_line: bool,
 }
 
-/// The first byte, where these numbers are looked for.
+/// The first byte, when these numbers are looked for.
 pub fn first_mark(numbers: &[u8]) -> Mark
     ensures { result ≡ record { offset = 0; line = 1; column = 1; in_line = is_some (after_word (decimal 1) numbers.now) } }
 {
@@ -57,7 +57,8 @@ pub fn next_mark(mark: Mark, byte: u8, numbers: &[u8]) -> Mark
     }
 }
 
-/// Whether the numbers of the mark's line and column come first in what is looked for. Columns are written out in one line only.
+/// Whether the numbers looked for begin with those of the mark's line and column. Columns are written out in one line
+/// only.
 #[tactic(auto, using(crate::proofs::Options::no_line))]
 pub fn is_named(mark: Mark, numbers: &[u8]) -> bool
     requires { mark.in_line ≡ is_some (after_word (decimal mark.line) numbers.now) }

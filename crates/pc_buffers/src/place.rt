@@ -4,7 +4,7 @@
 #[repr(C)]
 #[derive(Clone, Copy, Debug)]
 pub struct Place {
-    /// The number of the text, counted from 1, or 0 if the line points at no byte; then the others are 0 too.
+    /// The number of the text, counted from 1, or 0 if the line points at no byte; then the other fields are 0 too.
     pub text: usize,
     /// One more than the number of line ends before the first byte.
     pub line: usize,

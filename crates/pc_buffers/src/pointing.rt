@@ -16,7 +16,7 @@ use std::alloc::{AllocError, Global};
 /// The number of the source among the texts of a call.
 const FIRST_TEXT: usize = 1;
 
-/// The number of the text beside it.
+/// The number of the text beside the source.
 const SECOND_TEXT: usize = 2;
 
 // The piece of a text from here up to this byte.

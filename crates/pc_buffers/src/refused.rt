@@ -1,4 +1,4 @@
-//! Where a source is refused: its stages once more, up to the first fault and its span.
+//! Where a source is refused: its stages are repeated up to the first fault and its span.
 ghost use Rattle.std.specs.Prelude.{◌≡◌, ◌≤◌, IfErr, IfOk, length};
 ghost use Rattle.pc_elab.specs.Cores.{Spelled};
 ghost use Rattle.pc_expr.specs.Gives.{EndsWithEnd};
@@ -38,7 +38,7 @@ fn byte_span(bytes: &[u8], at: u32) -> Span
     }
 }
 
-// Where a text is refused that has no tokens.
+// Where a text without tokens is refused.
 fn lex_span(bytes: &[u8], fault: LexFault) -> Result<Option<Span>, AllocError>
     requires { length bytes.now ≤ bytes_limit }
     ensures { IfOk result (IsLexSpan bytes.now fault) }
@@ -63,7 +63,7 @@ fn span_at(tokens: &[Token], at: u32) -> Option<Span>
     }
 }
 
-// Where tokens are refused that spell no tree.
+// Where tokens without a tree are refused.
 fn fault_span(tokens: &[Token], fault: ParseFault) -> Result<Option<Span>, AllocError>
     ensures { IfOk result (IsTokenSpan tokens.now fault) }
 {
@@ -74,7 +74,7 @@ fn fault_span(tokens: &[Token], fault: ParseFault) -> Result<Option<Span>, Alloc
     }
 }
 
-// Where a file is refused that has a fault of its names.
+// Where a file with a fault of its names is refused.
 fn name_span(fault: NameFault) -> Result<Option<Span>, AllocError>
     ensures { IfOk result (IsNameSpan fault) }
 {

@@ -1,7 +1,7 @@
 //! The commands for C: one export for each call of `pc_call`, with its contract.
 //!
-//! A slice crosses as a pointer and a length, and `Global` takes no bytes, so C passes nothing for it. `lib/rcap.h` has the
-//! declarations, and what a caller has to keep.
+//! A slice crosses as a pointer and a length, and `Global` takes up no bytes, so C passes nothing for it. `lib/rcap.h`
+//! has the declarations, and what a caller must ensure.
 #![tactic(auto)]
 
 ghost use Rattle.std.specs.Prelude.{◌≡◌, ◌≢◌, ◌↔◌};
@@ -34,7 +34,7 @@ pub extern "C" fn rcap_check(
     pc_call::check(alloc, source, out, err, answer)
 }
 
-/// Says whether a text is a derivation of the source.
+/// Reports whether a text is a derivation of the source.
 #[unsafe(no_mangle)]
 pub extern "C" fn rcap_judge(
     alloc: Global,
@@ -53,7 +53,8 @@ pub extern "C" fn rcap_judge(
     pc_call::judge(alloc, source, derivation, out, err, answer)
 }
 
-/// Judges a derivation of the source as `judge` does, and writes it in version 2 of its text: a line for each node, with its note.
+/// Judges a derivation of the source as `judge` does, and writes it in version 2 of its text: a line for each node,
+/// with its note.
 #[unsafe(no_mangle)]
 pub extern "C" fn rcap_upgrade(
     alloc: Global,
@@ -124,8 +125,8 @@ pub extern "C" fn rcap_trace(
     pc_call::trace(alloc, source, schedule, out, err, answer)
 }
 
-/// Exchanges the turns at a place of the schedule, counted from 1, and at the next, or says why they stay. A place that is not from
-/// 1 to 9,999,999 is refused with 2.
+/// Exchanges the turns at a place of the schedule, counted from 1, and at the next, or says why they keep their order.
+/// A place that is not from 1 to 9,999,999 is refused with 2.
 #[unsafe(no_mangle)]
 pub extern "C" fn rcap_swap(
     alloc: Global,
@@ -254,7 +255,8 @@ pub extern "C" fn rcap_events(
     pc_call::events(alloc, source, schedule, out, err, answer)
 }
 
-/// Explains why the source is refused with 1 or 4 by `check`, or says that it is accepted; what `check` refuses otherwise is refused.
+/// Explains why `check` refuses the source with 1 or 4, or says that it is accepted; whatever else `check` refuses is
+/// refused.
 #[unsafe(no_mangle)]
 pub extern "C" fn rcap_explain(
     alloc: Global,

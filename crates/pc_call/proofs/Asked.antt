@@ -52,7 +52,7 @@ never_fails entries taken (Some (places source)) name f = never_at entries taken
 never_fails entries taken (Some (events source schedule)) name f = never_in_turn entries taken source schedule source_limit (AcceptedStage source) name f
 never_fails entries taken (Some (explain source)) name f = never_at entries taken source name f
 
--- a count that stands did not rise
+-- a count that is unchanged did not rise
 never_rose : Rose 0 0 → ⊥
 never_rose r = omega (arith, r)
 
@@ -105,7 +105,7 @@ not_accepting status e (inr z) = omega (arith, e, z)
 pub accepting_status : (status result : ℕ) → (result ≢ 11 → result ≡ status) → IsAccepting result → IsAccepting status
 accepting_status status result same accepting = subst IsAccepting (same (λ e. not_accepting result e accepting)) accepting
 
--- What answers a verdict answers whatever follows from it.
+-- If the result answers a verdict, it answers whatever follows from the verdict.
 pub answers_as : (V W : Verdict → Type 0) (P : Pointing) (status : ℕ) (a b : Buffer) (place : Place) → ((v : Verdict) → V v → W v) → Answers V P status a b place → Answers W P status a b place
 answers_as V W P status a b place f (verdict v h s l m p) = verdict v (f v h) s l m p
 answers_as V W P status a b place f (no_memory s l m p) = no_memory s l m p

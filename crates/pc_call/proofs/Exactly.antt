@@ -1,4 +1,4 @@
--- What the statuses of a call say of its source.
+-- What the statuses of a call mean for its source.
 use Rattle.std.proofs.Common.{◌≡◌, ◌≤◌, ◌<◌, ◌∙◌, ℕ, Bool, true, false, not, List, [], ◌∷◌, Option, Some, refl, sym, ap, subst, arith}
 use Rattle.std.specs.Prelude.{◌≢◌, ◌↔◌, ◌^◌, ◌==◌, IsTrue, codes, decimal, unwrap_or}
 use Rattle.std.specs.Borrow.{Bor}

@@ -17,7 +17,7 @@ use Rattle.pc_top.specs.Shapes as shapes
 use Rattle.pc_top.specs.Shapes.{ByNumber, LastOfTurns, OfAccepted, OfDerivation, OfScheduled, OfTurns, spelled}
 use Rattle.pc_call.specs.Verdicts.{derivation_file, schedule_file, source_file}
 
--- The file of this name with these bytes, of which the last reading took so many.
+-- The file with this name and these bytes, of which the last reading took this many.
 abbrev pub file_of : Text → Text → ℕ → Named
 file_of name bytes taken = record { name = name; told = Some bytes; before = 0; now = 0; taken = taken }
 

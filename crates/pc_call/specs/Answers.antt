@@ -1,4 +1,4 @@
--- What a call answers, and what it leaves in its buffers.
+-- What a call returns, and what it leaves in its buffers.
 use Rattle.std.specs.Prelude.{ℕ, ◌≡◌}
 use Rattle.pc_buffers.specs.Laying.{Buffer, Holds, IsUntouched}
 use Rattle.pc_buffers.specs.Places.{no_place}
@@ -6,7 +6,7 @@ use Rattle.pc_buffers.specs.declared.place.Place.{Place}
 use Rattle.pc_lists.specs.Texts.{Text}
 use Rattle.pc_refusals.specs.Verdict.{Verdict}
 
--- What a call answers: a status, two buffers and a place.
+-- What a call returns: a status, two buffers and a place.
 pub data Answers (V : Verdict → Type 0) (Points : Text → Place → Type 0) (status : ℕ) (out err : Buffer) (place : Place) : Type 0 where
   -- the status is the verdict's, both of its texts are in the buffers, and its line points at the place
   verdict : (v : Verdict) → V v → status ≡ v.status → Holds out v.out → Holds err v.err → Points v.err place → Answers V Points status out err place

@@ -1,2 +1,2 @@
--- How a call holds its texts. The contracts of its parts speak of it; those of the calls do not.
+-- How a call holds its texts. Only the contracts of its parts use it; those of the calls do not.
 pub mod Shelves

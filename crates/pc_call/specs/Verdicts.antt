@@ -63,7 +63,7 @@ IsTraced source schedule = IsTrace (source_file source) (schedule_file schedule)
 abbrev pub IsEventsOf : (source schedule : Text) → Verdict → Type 0
 IsEventsOf source schedule = IsEvents (source_file source) (schedule_file schedule)
 
--- What may be a place of a schedule: others are refused with 2.
+-- What may be a place of a schedule: any other number is refused with 2.
 abbrev pub MayBePlace : ℕ → Type 0
 MayBePlace place = (1 ≤ place) × (place ≤ 9999999)
 
@@ -79,7 +79,7 @@ IsScheduleOf source seed = IsSchedule (source_file source) (decimal seed)
 abbrev pub IsPlayed : Text → (seed : ℕ) → Verdict → Type 0
 IsPlayed source seed = IsPlay (source_file source) (decimal seed)
 
--- What may be a count of seeds: others are refused with 2.
+-- What may be a count of seeds: any other number is refused with 2.
 abbrev pub MayBeCount : ℕ → Type 0
 MayBeCount count = (1 ≤ count) × (count ≤ seeds_limit)
 

@@ -16,7 +16,7 @@ use pc_referee::Rules;
 use pc_top::rcap;
 use std::alloc::Global;
 
-// Does what the words ask for, on these files, which have these texts.
+// Does what the words ask for on these files, which have these texts.
 fn ask_files(
     alloc: Global,
     words: &[&str],
@@ -50,7 +50,7 @@ fn ask_files(
     )
 }
 
-/// Does what the words ask for, on these texts.
+/// Does what the words ask for on these texts.
 pub fn ask(
     alloc: Global,
     words: &[&str],

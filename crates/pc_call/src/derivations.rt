@@ -15,7 +15,7 @@ use pc_buffers::{Answer, Beside};
 use pc_top::judged_statuses_are_exact;
 use std::alloc::Global;
 
-/// Says whether a text is a derivation of the source.
+/// Reports whether a text is a derivation of the source.
 pub fn judge(
     alloc: Global,
     source: &[u8],
@@ -43,7 +43,8 @@ pub fn judge(
     )
 }
 
-/// Judges a derivation of the source as `judge` does, and writes it in version 2 of its text: a line for each node, with its note.
+/// Judges a derivation of the source as `judge` does, and writes it in version 2 of its text: a line for each node,
+/// with its note.
 pub fn upgrade(
     alloc: Global,
     source: &[u8],

@@ -1,12 +1,13 @@
-//! The commands of the program over texts in memory.
+//! The commands of the program on texts in memory.
 //!
-//! Each call takes texts and two buffers, for what the command writes and for its line, and answers its status. A text that is
-//! longer than its buffer is cut; its whole length is answered, and after a text its buffer stays as it was. So is the place at
-//! which a refusal points, as numbers.
+//! Each call takes texts and two buffers, for what the command writes and for its line, and returns its status. A text
+//! that is longer than its buffer is cut off; its whole length is returned, and the buffer after a text is unchanged.
+//! The place at which a refusal points is returned too, as numbers.
 //!
-//! Proved: status, texts and place are those of the command's verdict on exactly these bytes, or memory ran out: 11, after which
-//! the buffers are as they were. So 9 and 10 never come. `check` answers 0 exactly when the source has a core with a derivation,
-//! and what looks for a derivation answers 1 exactly when the source has a core without one. What is accepted is safe.
+//! Proved: status, texts and place are those of the command's verdict on exactly these bytes, or memory ran out: then
+//! the status is 11, and the buffers are unchanged. So 9 and 10 never occur. The status of `check` is 0 iff the source
+//! has a core with a derivation, and the status of a command that looks for a derivation is 1 iff the source has a core
+//! without one. What is accepted is safe.
 #![tactic(auto)]
 
 mod asking;

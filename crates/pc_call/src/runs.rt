@@ -99,8 +99,8 @@ pub fn events(
     )
 }
 
-/// Exchanges the turns at a place of the schedule, counted from 1, and at the next, or says why they stay. A place that is not from
-/// 1 to 9,999,999 is refused with 2.
+/// Exchanges the turns at a place of the schedule, counted from 1, and at the next, or says why they keep their order.
+/// A place that is not from 1 to 9,999,999 is refused with 2.
 pub fn swap(
     alloc: Global,
     source: &[u8],

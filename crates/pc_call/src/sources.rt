@@ -105,7 +105,8 @@ pub fn sends(
     )
 }
 
-/// Explains why the source is refused with 1 or 4 by `check`, or says that it is accepted; what `check` refuses otherwise is refused.
+/// Explains why `check` refuses the source with 1 or 4, or says that it is accepted; whatever else `check` refuses is
+/// refused.
 pub fn explain(
     alloc: Global,
     source: &[u8],

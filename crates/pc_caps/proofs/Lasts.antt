@@ -8,22 +8,22 @@ use Rattle.std.proofs.lemmas.Option.{none-some, same_Some}
 last_place : {T : Type 0} (front : List T) (last : T) → length (front ++ last ∷ []) - 1 ≡ length front
 last_place front last = omega (arith, length-append front (last ∷ []))
 
--- What stands after a front is at the place of the front's length.
+-- What comes after a prefix is at the place given by the length of the prefix.
 after_front : {T : Type 0} (front : List T) (last : T) → slice_get (front ++ last ∷ []) (length front) ≡ Some last
 after_front [] last = refl
 after_front (x ∷ xs) last = after_front xs last
 
--- Those before it are the front.
+-- The values before it are the prefix.
 front_taken : {T : Type 0} (front : List T) (last : T) → take (length front) (front ++ last ∷ []) ≡ front
 front_taken [] last = refl
 front_taken (x ∷ xs) last = ap (λ ys. x ∷ ys) (front_taken xs last)
 
--- A list that loses its last value gives what was at the last place.
+-- Removing the last value of a list returns what was at the last place.
 pub last_of : {T : Type 0} (old new : List T) (given : Option T) → MatchOption given ((old ≡ []) × (new ≡ [])) (λ last. old ≡ new ++ last ∷ []) → given ≡ slice_get old (length old - 1)
 last_of old new None h = ap (λ xs. slice_get xs (length xs - 1)) (sym h.0)
 last_of old new (Some last) h = sym (ap (λ xs. slice_get xs (length xs - 1)) h ∙ ap (slice_get (new ++ last ∷ [])) (last_place new last) ∙ after_front new last)
 
--- And it keeps the values before that place.
+-- It keeps the values before that place.
 pub before_last : {T : Type 0} (old new : List T) (given : Option T) → MatchOption given ((old ≡ []) × (new ≡ [])) (λ last. old ≡ new ++ last ∷ []) → new ≡ take (length old - 1) old
 before_last old new None h = h.1 ∙ ap (λ xs. take (length xs - 1) xs) (sym h.0)
 before_last old new (Some last) h = sym (ap (λ xs. take (length xs - 1) xs) h ∙ ap (λ n. take n (new ++ last ∷ [])) (last_place new last) ∙ front_taken new last)

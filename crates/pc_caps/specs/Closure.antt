@@ -17,7 +17,7 @@ reflexive Val = refl
 reflexive Box = refl
 reflexive Tag = refl
 
--- where the pairs of a list all lead from more to less, so does each of them
+-- if each pair in a list is consistent with the table, so is any one of them
 abbrev keeps : List (Form × Form) → Form → Bool
 keeps [] c = true
 keeps (p ∷ ps) c = (not (is_below p.1 c) || is_below p.0 c) && keeps ps c
@@ -36,7 +36,7 @@ implied : (x y : Bool) → (not x || y) ≡ true → x ≡ true → y ≡ true
 implied true y e h = e
 implied false y e h = cc
 
--- a step on the left keeps the table true
+-- extending a path on the left keeps the table true
 kept : (ps : List (Form × Form)) (a b c : Form) → keeps ps c ≡ true → StandsIn ps a b → is_below b c ≡ true → is_below a c ≡ true
 kept [] a b c e s h = absurd s
 kept (p ∷ ps) a b c e (inl s) h =
@@ -111,6 +111,6 @@ sound Box Tag e = box_tag same
 sound Tag Tag e = same
 sound a b e = absurd (let bad : false ≡ true = e in cc)
 
--- the table is true exactly where the closure holds
+-- the table is true iff the closure holds
 pub below_iff : (a b : Form) → IsTrue (is_below a b) ↔ IsBelow a b
 below_iff a b = (λ h. sound a b h, λ t. complete t)

@@ -1,5 +1,5 @@
 -- The order on forms: the reflexive and transitive closure of ten pairs, the smaller form first. A value of the smaller
--- form may be used wherever one of the larger is wanted (the paper of 2015).
+-- form may be used wherever one of the larger is expected (the paper of 2015).
 use Rattle.std.specs.Prelude.{◌≡◌, ◌⊎◌, Bool, true, false, List, [], ◌∷◌}
 use Rattle.pc_caps.specs.declared.capability.Form.{Form}
 use Rattle.pc_caps.specs.declared.capability.Form.TheVariants.{IsoE, TrnE, Iso, Trn, Ref, Val, Box, Tag}
@@ -10,7 +10,7 @@ pairs =
     (IsoE, TrnE) ∷ (IsoE, Iso) ∷ (TrnE, Trn) ∷ (TrnE, Ref) ∷ (TrnE, Val) ∷ (Trn, Box) ∷ (Ref, Box) ∷ (Val, Box)
     ∷ (Box, Tag) ∷ (Iso, Tag) ∷ []
 
--- A pair of forms stands in a list.
+-- A pair of forms is in a list.
 abbrev pub StandsIn : List (Form × Form) → Form → Form → Type 0
 StandsIn [] a b = ⊥
 StandsIn (p ∷ ps) a b = ((p.0 ≡ a) × (p.1 ≡ b)) ⊎ StandsIn ps a b
@@ -20,7 +20,7 @@ pub data IsBelow : Form → Form → Type 0 where
   same : {a : Form} → IsBelow a a
   step : {a b c : Form} → StandsIn pairs a b → IsBelow b c → IsBelow a c
 
--- The same as a table, which computes.
+-- The order as a table that computes.
 abbrev pub is_below : Form → Form → Bool
 is_below IsoE b = true
 is_below TrnE IsoE = false

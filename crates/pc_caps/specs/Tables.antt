@@ -1,4 +1,4 @@
--- The tables on capabilities and forms: storing as in the paper of 2015, the rest this project's profile.
+-- The tables on capabilities and forms: storing follows the paper of 2015, the rest is this project's profile.
 use Rattle.std.specs.Prelude.{Bool, true, false, ◌&&◌, Option, Some, None}
 use Rattle.pc_caps.specs.Order.{is_below}
 use Rattle.pc_caps.specs.declared.capability.Cap.{Cap}
@@ -6,7 +6,7 @@ use Rattle.pc_caps.specs.declared.capability.Cap.TheVariants as cap
 use Rattle.pc_caps.specs.declared.capability.Form.{Form}
 use Rattle.pc_caps.specs.declared.capability.Form.TheVariants as form
 
--- The form of what a place of this capability holds, as it is read.
+-- The form of a value read from a place of this capability.
 abbrev pub plain : Cap → Form
 plain cap.Iso = form.Iso
 plain cap.Trn = form.Trn
@@ -48,7 +48,7 @@ at iso trn ref val box tag cap.Val = val
 at iso trn ref val box tag cap.Box = box
 at iso trn ref val box tag cap.Tag = tag
 
--- A row of forms, and a row that has none.
+-- A row of forms, and a row without entries.
 abbrev pub seen : Form → Form → Form → Form → Form → Form → Cap → Option Form
 seen iso trn ref val box tag k = Some (at iso trn ref val box tag k)
 
@@ -62,7 +62,7 @@ view_iso = seen form.Iso form.Tag form.Tag form.Val form.Tag form.Tag
 abbrev pub view_trn : Cap → Option Form
 view_trn = seen form.Iso form.Box form.Box form.Val form.Box form.Tag
 
--- The form of a field that is read, by the origin and the field's capability.
+-- The form of a field when it is read, by the form of its origin and the field's capability.
 abbrev pub view : Form → Cap → Option Form
 view form.IsoE = view_iso
 view form.Iso = view_iso
@@ -79,7 +79,7 @@ taken_iso = seen form.IsoE form.Tag form.Tag form.Val form.Tag form.Tag
 abbrev pub taken_trn : Cap → Option Form
 taken_trn = seen form.IsoE form.Box form.Box form.Val form.Box form.Tag
 
--- The form of the old value of an assigned field.
+-- The form of the old value of a field when it is assigned.
 abbrev pub taken : Form → Cap → Option Form
 taken form.IsoE = taken_iso
 taken form.Iso = taken_iso
@@ -110,12 +110,13 @@ enters_iso form.Trn k = false
 enters_iso form.Ref k = false
 enters_iso form.Box k = false
 
--- Into a trn origin besides, what nobody else writes.
+-- The values that may be written into a trn origin: those that an iso origin takes, and `trn^`.
 abbrev pub enters_trn : Form → Cap → Bool
 enters_trn form.TrnE k = true
 enters_trn f k = enters_iso f k
 
--- An origin takes values of this form into a field of this capability. What is only read or compared takes none.
+-- An origin accepts values of this form in a field of this capability. An origin that can only be read or compared
+-- accepts none.
 abbrev pub enters : Form → Form → Cap → Bool
 enters form.IsoE = enters_iso
 enters form.Iso = enters_iso
@@ -130,8 +131,8 @@ enters form.Tag = λ f k. false
 abbrev pub may_write : Form → Form → Cap → Bool
 may_write origin value field = fits value field && enters origin value field
 
--- The form of a recover's value, by its body's: nothing else reaches what was made inside, but what may only be read or
--- compared stays so.
+-- The form of a recover's value, by that of its body: nothing outside reaches what was made inside, but what may only
+-- be read or compared stays so.
 abbrev pub lift : Form → Form
 lift form.IsoE = form.IsoE
 lift form.TrnE = form.IsoE
@@ -142,7 +143,7 @@ lift form.Val = form.Val
 lift form.Iso = form.Tag
 lift form.Tag = form.Tag
 
--- What a place of this capability holds may be sent to another actor.
+-- The content of a place of this capability may be sent to another actor.
 abbrev pub sendable : Cap → Bool
 sendable cap.Iso = true
 sendable cap.Val = true

@@ -2,8 +2,8 @@
 ghost use Rattle.std.specs.Prelude.{◌≡◌};
 ghost use Rattle.pc_caps.specs.Tables as table;
 
-/// A reference capability: what a reference of it denies to all other references to the same object
-/// ("Deny Capabilities for Safe, Fast Actors", 2015; the Pony tutorial).
+/// A reference capability: what a reference of it denies to all other references to the same object ("Deny Capabilities
+/// for Safe, Fast Actors", 2015; the Pony tutorial).
 #[derive(Clone, Copy, Debug, PartialEq, Eq)]
 pub enum Cap {
     /// Isolated: no other reference reads or writes.
@@ -16,11 +16,11 @@ pub enum Cap {
     Val,
     /// Box: no other actor writes.
     Box,
-    /// Tag: nothing is denied; such a reference is compared and sent to, never read or written.
+    /// Tag: denies nothing; such a reference can be compared and sent to, never read or written.
     Tag,
 }
 
-/// The form of a value: a capability, or one of the two of a value that no place holds.
+/// The form of a value: a capability, or one of the two forms of a value that no place holds.
 #[derive(Clone, Copy, Debug, PartialEq, Eq)]
 pub enum Form {
     /// `iso^`: an isolated value that no place holds.
@@ -35,7 +35,7 @@ pub enum Form {
     Tag,
 }
 
-/// The form of what a place of this capability holds, as it is read.
+/// The form of a value read from a place of this capability.
 pub fn plain(cap: Cap) -> Form
     ensures { result ≡ table.plain cap }
 {
@@ -63,8 +63,8 @@ pub fn unalias(cap: Cap) -> Form
     }
 }
 
-/// The capability at which a value of this form is stored where none is written: the capability of an alias of it
-/// (the paper of 2015).
+/// The capability at which a value of this form is stored if none is written: the capability of an alias of it (the
+/// paper of 2015).
 pub fn stored(form: Form) -> Cap
     ensures { result ≡ table.stored form }
 {
@@ -80,7 +80,7 @@ pub fn stored(form: Form) -> Cap
     }
 }
 
-/// Whether what a place of this capability holds may be sent to another actor (the Pony tutorial).
+/// Whether the content of a place of this capability may be sent to another actor (the Pony tutorial).
 pub fn sendable(cap: Cap) -> bool
     ensures { result ≡ table.sendable cap }
 {

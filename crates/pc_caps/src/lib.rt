@@ -2,8 +2,8 @@
 //! shares, `Span`, `List` and `SharedList`; and the limits of a program.
 //!
 //! Proved: `below` is the closure of the ten pairs; `plain`, `unalias`, `stored`, `fits`, `view`, `taken`, `may_write`,
-//! `lift`, `sendable` and `sendable_form` are their tables. `List<T>` is a list, and may stand inside recursive types;
-//! `SharedList<T>` is a list that never changes, whoever else has it.
+//! `lift`, `sendable` and `sendable_form` are their tables. `List<T>` is a list, and may occur in recursive types;
+//! `SharedList<T>` is a list that never changes, whoever else owns it.
 #![tactic(auto)]
 
 mod capability;

@@ -6,9 +6,9 @@ use std::alloc::{AllocError, Global};
 use std::marker::Model;
 use std::mem;
 
-/// Values in a row, of which a contract sees no more than the row.
+/// A sequence of values. Contracts see the sequence and nothing else.
 ///
-/// A tree's node may keep its children in one, since a recursive type may stand inside its own `List`.
+/// A node of a tree may keep its children in one, since a recursive type may occur inside its own `List`.
 #[derive(Debug, Drop)]
 pub struct List<T> {
     row: Vec<T>,
@@ -25,9 +25,9 @@ impl<T> Model for List<T> {
     ghost coded = { coded_list T.code };
 }
 
-// A value that no memory was found for is dropped, and so are those that are cut off.
+// A value for which there is no memory is dropped, and so are values that are cut off.
 impl<T: Drop> List<T> {
-    /// Puts a value behind the last one. A refusal leaves the list as it was.
+    /// Appends a value. A refusal leaves the list as it was.
     pub fn push(&mut self, value: T) -> Result<(), AllocError>
         ensures ok { OnOk result (self.new ≡ self.old ++ value ∷ []) }
         ensures err { OnErr result (self.new ≡ self.old) }
@@ -45,7 +45,7 @@ impl<T: Drop> List<T> {
 }
 
 impl<T> List<T> {
-    /// Takes the value at the last place out, and leaves those before it. An empty list has no last place, and stays empty.
+    /// Removes the value at the last place and returns it. An empty list has no last place, and stays empty.
     #[tactic(auto, using(crate::proofs::Lasts::last_of, crate::proofs::Lasts::before_last))]
     pub fn pop(&mut self) -> Option<T>
         ensures last { result ≡ slice_get self.old (length self.old - 1) }
@@ -54,7 +54,7 @@ impl<T> List<T> {
         self.row.pop()
     }
 
-    /// Puts another value in a place, and answers the one before.
+    /// Puts a value at a place, and returns the one that was there.
     pub fn replace(&mut self, place: usize, value: T) -> T
         requires { place < length self.old }
         ensures new { self.new ≡ slice_set self.old place value }
@@ -78,7 +78,7 @@ impl<T> List<T> {
         self.row.len() == 0
     }
 
-    /// How many values there are.
+    /// The number of values.
     pub fn len(&self) -> usize
         ensures { result ≡ length self.now }
     {
@@ -107,7 +107,7 @@ impl<T> List<T> {
         List { row: values }
     }
 
-    /// The empty list. It takes no memory.
+    /// The empty list. Does not allocate.
     pub fn new(alloc: Global) -> List<T>
         ensures { result ≡ [] }
     {
@@ -124,7 +124,7 @@ impl<T: Copy> List<T> {
     }
 }
 
-// Two lists are equal where their values are, one by one.
+// Two lists are equal iff their values are, one by one.
 impl<T: PartialEq> PartialEq for List<T> {
     ghost use Rattle.std.specs.Cmp.Lexicographic.{pointwise, lists_per};
 
@@ -137,7 +137,7 @@ impl<T: PartialEq> PartialEq for List<T> {
     }
 }
 
-// `List::replace`, on the vector that has the values.
+// `List::replace`, on the vector that holds the values.
 fn exchange<T>(row: &mut Vec<T>, place: usize, value: T) -> T
     requires { place < length row.old.items }
     ensures new { row.new.items ≡ slice_set row.old.items place value }

@@ -15,7 +15,7 @@ pub fn below(lower: Form, upper: Form) -> bool
     is_in_row(lower, upper)
 }
 
-// Whether `b` stands in the row of `a`, in the order as a table.
+// Whether `upper` is in the row of `lower`, in the order as a table.
 fn is_in_row(lower: Form, upper: Form) -> bool
     ensures { result ≡ is_below lower upper }
 {
@@ -31,7 +31,7 @@ fn is_in_row(lower: Form, upper: Form) -> bool
     }
 }
 
-/// Whether a value of form `f` may be stored at a place of capability `k`: `f` is below `unalias(k)`.
+/// Whether a value of form `form` may be stored at a place of capability `cap`: `form` is below `unalias(cap)`.
 pub fn fits(form: Form, cap: Cap) -> bool
     ensures order { IsTrue result ↔ IsBelow form (table.unalias cap) }
     ensures value { result ≡ table.fits form cap }

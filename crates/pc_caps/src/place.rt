@@ -1,12 +1,12 @@
-//! Reading a field, writing it, and what a `recover` makes of its value: the tables of this project's profile.
+//! Reading a field, writing it, and the form of a `recover`: the tables of this project's profile.
 ghost use Rattle.std.specs.Prelude.{◌≡◌};
 ghost use Rattle.pc_caps.specs.Tables as table;
 
 use crate::capability::{Cap, Form};
 use crate::order::fits;
 
-/// The form of a field of capability `field` that is read at an origin of this form (viewpoint adaptation, in this
-/// project's profile). `None` exactly at the origin `tag`, which nothing is read from.
+/// The form of a field of capability `field` when it is read from an origin of form `origin` (viewpoint adaptation, in
+/// this project's profile). `None` iff the origin is `tag`, from which nothing is read.
 pub fn view(origin: Form, field: Cap) -> Option<Form>
     ensures { result ≡ table.view origin field }
 {
@@ -25,8 +25,8 @@ pub fn view(origin: Form, field: Cap) -> Option<Form>
     Some(seen)
 }
 
-/// The form of the old value of an assigned field of capability `field`, at an origin of this form (extracting
-/// viewpoint, in this project's profile). `None` exactly at the origins that are never written: `val`, `box`, `tag`.
+/// The form of the old value of a field of capability `field` when it is assigned, at an origin of form `origin`
+/// (extracting viewpoint, in this project's profile). `None` iff the origin is never written: `val`, `box` or `tag`.
 pub fn taken(origin: Form, field: Cap) -> Option<Form>
     ensures { result ≡ table.taken origin field }
 {
@@ -45,14 +45,14 @@ pub fn taken(origin: Form, field: Cap) -> Option<Form>
 }
 
 /// Whether a value of form `value` may be written into a field of capability `field` of an origin of form `origin`
-/// (safe to write, in this project's profile): the value fits the field, and the origin takes values of its form.
+/// (safe to write, in this project's profile): the value fits the field, and the origin accepts values of its form.
 pub fn may_write(origin: Form, value: Form, field: Cap) -> bool
     ensures { result ≡ table.may_write origin value field }
 {
     fits(value, field) && is_taken(origin, value, field)
 }
 
-// Whether an origin takes values of this form into a field of this capability.
+// Whether an origin accepts values of this form in a field of this capability.
 fn is_taken(origin: Form, value: Form, field: Cap) -> bool
     ensures { result ≡ table.enters origin value field }
 {
@@ -68,7 +68,7 @@ fn is_taken(origin: Form, value: Form, field: Cap) -> bool
     }
 }
 
-/// The form of a `recover`'s value, by the form of its body's (this project's profile).
+/// The form of a `recover`'s value, by the form of its body's value (this project's profile).
 pub fn lift(form: Form) -> Form
     ensures { result ≡ table.lift form }
 {

@@ -6,13 +6,14 @@ use std::alloc::{AllocError, Global};
 use std::marker::Model;
 use std::rc::Rc;
 
-/// Values in a row that never change, held in memory once for all their owners. A contract sees no more than the row.
+/// A sequence of values that never changes, kept in memory once for all its owners. Contracts see the sequence and
+/// nothing else.
 ///
-/// A text literal keeps its bytes so, since the body of a trait stands in the core once for each entity that takes it
-/// over; and a node its children, since what a program still has to do names them.
+/// Text literals keep their bytes this way, since the body of a trait's method is in the core once for each entity that
+/// takes it over; nodes keep their children this way, since what a program still has to do refers to them.
 #[derive(Debug, Drop)]
 pub struct SharedList<T> {
-    /// None where there is no value, which takes no memory.
+    /// `None` if there are no values: then nothing is allocated.
     row: Option<Rc<List<T>>>,
 }
 
@@ -38,7 +39,7 @@ impl<T: Drop> SharedList<T> {
         }
     }
 
-    /// The same values for one owner more. The `Err` says that there are too many owners to be counted.
+    /// The same values for one more owner. `Err` if there are too many owners to count.
     pub fn share(&self) -> Result<SharedList<T>, AllocError>
         ensures { IfOk result (λ shared. shared ≡ self.now) }
     {
@@ -61,7 +62,7 @@ impl<T> SharedList<T> {
         }
     }
 
-    /// How many values there are.
+    /// The number of values.
     pub fn len(&self) -> usize
         ensures { result ≡ length self.now }
     {

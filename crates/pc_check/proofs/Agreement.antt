@@ -1,4 +1,4 @@
--- A valid annotation agrees with one that goes up to a node.
+-- A valid annotation agrees with a partial one up to a node.
 use Rattle.std.specs.Prelude.{◌≡◌, ◌⊎◌, ℕ, zero, suc, ◌+◌, ◌<◌, ◌≤◌, false, List, [], ◌∷◌, length, Option, Some, None, slice_get, slice_set, refl}
 use Rattle.std.specs.Prelude.{Result, IfOk, IfErr}
 use Rattle.std.proofs.Common.{Ok, Err, inl, inr, ap, sym, subst, ◌∙◌, arith}
@@ -176,7 +176,7 @@ module _ (core : CoreData) (b : Ann) (formed : Formed core) (v : Checks core b) 
 -- ---- at a node without a rule
 
 module _ (core : CoreData) (b : Ann) (formed : Formed core) (wb : KeepsWritten core b) (sb : length b.slots ≡ length core.slots) (a : Ann) (wa : KeepsWritten core a) where
-  -- Types of the slots, of which only what follows from node x may differ, so that x looks at the same.
+  -- Types of the slots, which differ at most in what follows from node x, so that x depends on the same.
   abbrev pub Chosen : Node → Type 0
   Chosen x = (slots : List (ℕ × Cap)) × DifferAt core x a.slots slots × ((s : ℕ) (f : Method) → looked_at x.kind ≡ Some s → slice_get core.methods x.method ≡ Some f → slice_get slots (f.first_slot + s) ≡ slice_get b.slots (f.first_slot + s))
 
@@ -216,13 +216,13 @@ module _ (core : CoreData) (b : Ann) (formed : Formed core) (wb : KeepsWritten c
   chosen n x (node.Assign s) count same g e = (a.slots, unchanged x, λ i f look gf. let is : s ≡ i = same_Some s i (sym (ap looked_at e) ∙ look) in subst (λ j. slice_get a.slots (f.first_slot + j) ≡ slice_get b.slots (f.first_slot + j)) is (use_alike core a b formed wa wb n x (node.Assign s) s same g e refl (subst (NamesFit core x.method) e (formed.nodes n x g).names) f gf))
   chosen n x k count same g e = (a.slots, unchanged x, λ i f look gf. absurd (none-some i (sym (ap looked_at e) ∙ look)))
 
-  -- The other's note meets its rule with them.
+  -- The other's note satisfies its rule with them.
   pub says_there : (n : ℕ) (x : Node) (m : Masks) (t : Note) → Agree core a b n → slice_get core.nodes n ≡ Some x → IsSaid core b x t → before t ≡ m → (c : Chosen x) → says core (record { slots = c.0; notes = a.notes }) x m t.rule x.kind ≡ Some (said_by t)
   says_there n x m t same g meets start c =
       let looks : LooksAlike core (record { slots = c.0; notes = a.notes }) b x.method x.kind = λ s look. slot_same (record { slots = c.0; notes = a.notes }) b core x.method s (λ f gf. c.2 s f look gf) in
       says_same core (record { slots = c.0; notes = a.notes }) b x (λ i d h. same.notes d (children_before core n x formed g i d h)) t.rule x.kind m looks ∙ subst (λ k. says core b x k t.rule x.kind ≡ Some (said_by t)) start meets
 
--- ---- none is valid
+-- ---- no annotation is valid
 
 nothing_said : (core : CoreData) (a : Ann) (n : ℕ) → Formed core → SaysNothing core a n → (d : (b : Ann) × Checks core b) → ⊥
 nothing_said core a n formed w d =

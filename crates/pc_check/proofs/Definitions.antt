@@ -1,4 +1,4 @@
--- The slot that a node defines, and the nodes that look at it.
+-- The slot that a node defines, and the nodes that use it.
 use Rattle.std.specs.Prelude.{◌≡◌, ◌⊎◌, ℕ, ◌+◌, ◌<◌, Option, Some, None, slice_get, refl}
 use Rattle.std.proofs.Common.{inl, inr, ap, sym, subst, ◌∙◌, arith}
 use Rattle.std.proofs.lemmas.Option.{same_Some, none-some}
@@ -63,13 +63,13 @@ inferred_of core ann x k i e f = absurd (none-some i f)
 pub inferred_inv : (core : CoreData) (ann : Ann) (x : Node) (i : ℕ × (ℕ × Cap)) → inferred_slot core ann x x.kind ≡ Some i → Inferred core ann x i
 inferred_inv core ann x i e = inferred_of core ann x x.kind i refl e
 
--- It does follow where the value has a type and none is written.
+-- It follows if the value has a type and none is written.
 pub slot_follows : (core : CoreData) (ann : Ann) (x : Node) (s : ℕ) (f : Method) (y : Slot) (c : ℕ) (v : Ty) → slice_get core.methods x.method ≡ Some f → slice_get core.slots (f.first_slot + s) ≡ Some y → y.written ≡ None → one_child x.children ≡ Some c → type_of ann c ≡ Some v → slot_type core ann x s ≡ Some (f.first_slot + s, (v.0, stored v.1))
 slot_follows core ann x s f y c v g h w k t =
     let u : unwritten ann x.children y.written ≡ Some v = ap (unwritten ann x.children) w ∙ bind_is (one_child x.children) (type_of ann) c k ∙ t in
     bind_is (slice_get core.methods x.method) _ f g ∙ bind_is (slice_get core.slots (f.first_slot + s)) _ y h ∙ bind_is (unwritten ann x.children y.written) _ v u
 
--- ---- who looks at it
+-- ---- which nodes use it
 
 pub looked_kind : (k : NodeKind) (s : ℕ) → looked_at k ≡ Some s → ((k ≡ node.This) × (s ≡ 0)) ⊎ (Uses s k ⊎ (k ≡ node.Define s))
 looked_kind node.This s e = inl (refl, sym (same_Some 0 s e))
@@ -99,7 +99,7 @@ this_written core m f b y formed g e h w =
     let is = same_Some y (this_slot m f) (sym h ∙ this_known core m f b formed g e) in
     none-some (f.entity, f.receiver) (sym w ∙ ap (λ (k : Slot). k.written) is)
 
--- A node that comes before the definition of a slot without a written type does not look at the slot.
+-- A node that comes before the definition of a slot without a written type does not use the slot.
 pub other_place : (core : CoreData) (ann : Ann) (n j : ℕ) (x z : Node) (i : ℕ × (ℕ × Cap)) (s : ℕ) (f : Method) → Formed core → slice_get core.nodes n ≡ Some x → Inferred core ann x i → j < n → slice_get core.nodes j ≡ Some z → looked_at z.kind ≡ Some s → slice_get core.methods z.method ≡ Some f → f.first_slot + s ≡ i.0 → ⊥
 other_place core ann n j x z i s f formed g def l h look gf e =
     let below = defines_below core x.method x.kind def.slot def.method (formed.nodes n x g).names def.defines def.is_method in

@@ -21,7 +21,7 @@ use Rattle.pc_check.specs.Sources.{Comes, Placed, Sourced, Known, Filled, PartFi
 use Rattle.pc_rules.proofs.Homes.{children_of, children_before}
 use Rattle.pc_check.proofs.Parents.{known}
 
--- ---- where the trees of a row begin
+-- ---- where the trees of a sequence begin
 
 abbrev pub low_at : ℕ → List ℕ → ℕ → ℕ
 low_at low cs zero = low
@@ -162,7 +162,7 @@ filled_end core sources formed f = (
       f.1 n s e (elim (known core n formed (omega (arith, l, c))) [ inl b ↦ inl b | inr p ↦ inr (p.0, omega arith, p.2) ]),
 )
 
--- What the code reads.
+-- What the code has read.
 pub node_there : (core : CoreData) (ns : List Node) (n : ℕ) (x : Node) → ns ≡ core.nodes → n < length core.nodes → x ≡ get_or ns n x → slice_get core.nodes n ≡ Some x
 node_there core ns n x same l e = slice_get-get_or core.nodes n x l ∙ ap Some (ap (λ ms. get_or ms n x) (sym same) ∙ sym e)
 

@@ -49,7 +49,7 @@ mutual
         | inr behind ↦ let m = forest_low core (c + 1) high k from cs f t behind h in let b = tree_le core low c u in omega (arith, m, b)
       ]
 
--- What stands behind a root of a row begins behind it.
+-- What comes after a root of a sequence of trees begins after it.
 begins_behind : (core : CoreData) (low high n p from j : ℕ) (cs : List ℕ) → Forest core low high cs → slice_get cs j ≡ Some n → n < p → p < high → Tree core from p → n + 1 ≤ from
 begins_behind core low high n p from j [] f e l h t = absurd (none-some n e)
 begins_behind core low high n p from zero (c ∷ cs) (more u f) e l h t =
@@ -114,7 +114,7 @@ once core n p q i j x y formed g h e f =
       place = one_place core t.0 p n i j x.children (children_of core t.0 p x g t.1) e (ap (λ (z : Node). slice_get z.children j) is ∙ f);
     }
 
--- A body is no child.
+-- A body is not a child.
 body_alone : (core : CoreData) (n p i : ℕ) (x y : Node) → Formed core → slice_get core.nodes n ≡ Some x → x.kind ≡ node.Body → slice_get core.nodes p ≡ Some y → slice_get y.children i ≡ Some n → ⊥
 body_alone core n p i x y formed g k h e =
     let m = home core p formed (get_below core.nodes p y h) in
@@ -127,7 +127,7 @@ body_alone core n p i x y formed g k h e =
     let at = home_body core n x own g k in
     omega (arith, at, b, to)
 
--- ---- one pair of masks reaches a node
+-- ---- only one pair of masks reaches a node
 
 same_note : (b : Ann) (c d : ℕ) (t u : Note) → c ≡ d → slice_get b.notes c ≡ Some t → slice_get b.notes d ≡ Some u → after t ≡ after u
 same_note b c d t u e h k = ap after (same_Some t u (sym h ∙ ap (slice_get b.notes) e ∙ k))
@@ -135,7 +135,7 @@ same_note b c d t u e h k = ap after (same_Some t u (sym h ∙ ap (slice_get b.n
 not_first : {i : ℕ} → 0 ≡ suc i → ⊥
 not_first {i} e = omega (arith, e)
 
--- The masks behind an earlier child, from its place on.
+-- The masks after an earlier child, from its place on.
 abbrev starts_of_in : CoreData → Method → Masks
 starts_of_in core f = (first (1 + length f.params), start_set core f)
 
@@ -182,7 +182,7 @@ module _ (core : CoreData) (b : Ann) (formed : Formed core) where
   reaches_one n m k (else_branch p c x t g d e f i) r = else_one n p c x t k g d e f i r
   reaches_one n m k (next_child p c i x t g d e f j) r = next_one n p c i x t k g d e f j r
 
--- ---- two that go up to a node
+-- ---- two partial annotations up to a node
 
 module _ (core : CoreData) (a b : Ann) (formed : Formed core) (wa : KeepsWritten core a) (wb : KeepsWritten core b) where
   pub carried : (n : ℕ) (x : Node) (m : Masks) → Agree core a b n → slice_get core.nodes n ≡ Some x → StartsFrom core a n m → StartsFrom core b n m
@@ -203,7 +203,7 @@ module _ (core : CoreData) (a b : Ann) (formed : Formed core) (wa : KeepsWritten
       let e : n + 1 ≡ suc n = omega arith in
       subst (Agree core a b) e (node_step core a b formed wa wb n r.0 r.1 s.1 r.2 (children_before core n r.0 formed r.2) same r.3 s.3 r.4 meets start)
 
--- A node without a rule in one has no note that meets a rule in the other.
+-- A node without a rule in one has no note that satisfies a rule in the other.
 no_note : (core : CoreData) (a b : Ann) (n : ℕ) → Formed core → SaysNothing core a n → length b.slots ≡ length core.slots → KeepsWritten core b → ((k : ℕ) → k ≤ n → GoesWell core b k) → ⊥
 no_note core a b n formed w sb wb h =
     let same = agree_both core a b formed w.written wb n w.before (λ k l. h k (omega (arith, l))) in

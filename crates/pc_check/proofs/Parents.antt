@@ -39,7 +39,7 @@ mutual
         ]
       ]
 
--- A node is the body of its method, or has a parent, which comes behind it.
+-- A node is the body of its method, or has a parent, which comes after it.
 pub known : (core : CoreData) (n : ℕ) → Formed core → n < length core.nodes → Known core (n + 1) n
 known core n formed l =
     let h = home core n formed l in

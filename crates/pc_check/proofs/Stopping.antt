@@ -54,7 +54,7 @@ says_none : (r : Rule) (m : Masks) (o : Option Said) (rest : Option Note) → or
 says_none r m None rest e = (refl, e)
 says_none r m (Some q) rest e = absurd (none-some _ (sym e))
 
--- None of these rules says anything.
+-- None of these rules applies.
 each_none : (core : CoreData) (ann : Ann) (x : Node) (m : Masks) (rs : List Rule) → first_note core ann x m rs ≡ None → Each (λ i r. says core ann x m r x.kind ≡ None) rs
 each_none core ann x m [] e i r g = absurd (none-some r g)
 each_none core ann x m (q ∷ rs) e zero r g = subst (λ (k : Rule). says core ann x m k x.kind ≡ None) (same_Some q r g) (says_none q m (says core ann x m q x.kind) (first_note core ann x m rs) e).0
@@ -64,7 +64,7 @@ nothing : {A B : Type 0} → (o : Option A) → ◌≡◌ {A = Option B} (o >>= 
 nothing None = refl
 nothing (Some a) = refl
 
--- A rule is one of those for the kind, or says nothing of it.
+-- A rule is one of those for the kind, or does not apply to it.
 rule_among : (core : CoreData) (ann : Ann) (x : Node) (m : Masks) (r : Rule) (k : NodeKind) → (Has (rules_for k) r) ⊎ (says core ann x m r k ≡ None)
 rule_among core ann x m rule.Number (node.Number v) = inl (0, refl)
 rule_among core ann x m rule.Truth (node.Truth v) = inl (0, refl)
@@ -104,13 +104,13 @@ rule_among core ann x m r k = inr (nothing (notes_of ann.notes x.children))
 no_rule_says : (core : CoreData) (ann : Ann) (x : Node) (m : Masks) → first_note core ann x m (rules_for x.kind) ≡ None → (r : Rule) → says core ann x m r x.kind ≡ None
 no_rule_says core ann x m e r = elim (rule_among core ann x m r x.kind) [ inl has ↦ each_none core ann x m (rules_for x.kind) e has.0 r has.1 | inr none ↦ none ]
 
--- ---- whatever type the slot has
+-- ---- whatever the type of the slot
 
 is_none : {A : Type 0} → (o : Option A) → ((q : A) → o ≡ Some q → ⊥) → o ≡ None
 is_none None h = refl
 is_none (Some q) h = absurd (h q refl)
 
--- Where a rule says something of a definition without a written type, its slot has the type that follows.
+-- If a rule applies to a definition without a written type, its slot has the type that follows.
 type_follows : (core : CoreData) (a : Ann) (slots : List (ℕ × Cap)) (x : Node) (m : Masks) (r : Rule) (s : ℕ) (f : Method) (y : Slot) (q : Said) → x.kind ≡ node.Define s → slice_get core.methods x.method ≡ Some f → slice_get core.slots (f.first_slot + s) ≡ Some y → y.written ≡ None → says core (record { slots = slots; notes = a.notes }) x m r x.kind ≡ Some q → (ty : ℕ × Cap) × (inferred_slot core a x x.kind ≡ Some (f.first_slot + s, ty)) × (slice_get slots (f.first_slot + s) ≡ Some ty)
 type_follows core a slots x m r s f y q k g h w e =
     let d = define_inv core (record { slots = slots; notes = a.notes }) x s m q (define_rule core (record { slots = slots; notes = a.notes }) x m r s q (by_number core (record { slots = slots; notes = a.notes }) x m r (node.Define s) q (subst (λ (j : NodeKind). says core (record { slots = slots; notes = a.notes }) x m r j ≡ Some q) k e))) in
@@ -126,7 +126,7 @@ type_follows core a slots x m r s f y q k g h w e =
 this_clash : {s : ℕ} → node.This ≡ node.Define s → ⊥
 this_clash e = cc e
 
--- With any other type a rule says nothing that it does not say with the type that follows.
+-- With any other type a rule concludes nothing that it does not conclude with the type that follows.
 module _ (core : CoreData) (a : Ann) (n : ℕ) (x : Node) (formed : Formed core) (g : slice_get core.nodes n ≡ Some x) (count : length a.slots ≡ length core.slots) where
   kind_clash : (s i : ℕ) → Uses s x.kind → x.kind ≡ node.Define i → ⊥
   kind_clash s i u e = subst (Uses s) e u
@@ -164,7 +164,7 @@ module _ (core : CoreData) (a : Ann) (n : ℕ) (x : Node) (formed : Formed core)
       let looks : LooksAlike core (record { slots = slots; notes = a.notes }) (with_slot a o) x.method x.kind = λ s look. slot_same (record { slots = slots; notes = a.notes }) (with_slot a o) core x.method s (λ f gf. slots_kept slots m r q o s f i d e look gf) in
       none-some q (sym none ∙ sym (says_same core (record { slots = slots; notes = a.notes }) (with_slot a o) x (λ j c h. ap (λ ts. slice_get ts c) (sym (with_notes a o))) r x.kind m looks) ∙ e))
 
--- ---- what the walk answers
+-- ---- the result of the walk
 
 -- At a node, with its slot's type: what came before, and the masks.
 pub ready : (core : CoreData) (sources : List Source) (a b : Ann) (n : ℕ) (x : Node) (s : Source) (m : Masks) → Formed core → Sourced core sources → Walked core a n → slice_get core.nodes n ≡ Some x → slice_get sources n ≡ Some s → m ≡ masks_from core a s → b ≡ with_inferred core a x → Walked core b n × StartsFrom core b n m

@@ -1,4 +1,4 @@
--- One node more.
+-- One more node.
 use Rattle.std.specs.Prelude.{◌≡◌, ◌⊎◌, ℕ, ◌+◌, ◌<◌, ◌≤◌, true, false, not, ◌&&◌, List, [], ◌∷◌, ◌++◌, length, Option, Some, None, slice_get, slice_set, refl}
 use Rattle.std.proofs.Common.{inl, inr, ap, sym, subst, ◌∙◌, arith}
 use Rattle.std.proofs.lemmas.List.{length-set, length-append}
@@ -39,7 +39,7 @@ use Rattle.pc_check.specs.Walked.{Walked}
 use Rattle.pc_rules.proofs.Homes.{children_before}
 use Rattle.pc_check.proofs.Definitions.{inferred_inv, other_place}
 
--- ---- what grows keeps what was there
+-- ---- an extension keeps what was there
 
 -- The second annotation has the notes of the first.
 abbrev pub Extends : Ann → Ann → Type 0
@@ -51,7 +51,7 @@ reaches_more core a b n m h (first_child p x g e r) = first_child p x g e (reach
 reaches_more core a b n m h (else_branch p c x t g k e f i) = else_branch p c x t g k e f (h c t i)
 reaches_more core a b n m h (next_child p c i x t g k e f j) = next_child p c i x t g k e f (h c t j)
 
--- What a node meets it still meets, where its children's notes and its slot's type are the same.
+-- What a node satisfies it still satisfies if its children's notes and its slot's type are the same.
 pub meets_more : (core : CoreData) (a b : Ann) (k n : ℕ) → Formed core → k < n → length a.notes ≡ n → Extends a b → ((x : Node) → slice_get core.nodes k ≡ Some x → LooksAlike core a b x.method x.kind) → GoesWell core a k → GoesWell core b k
 meets_more core a b k n formed l count h looks r =
     let x = r.0 in
@@ -112,7 +112,7 @@ found_by : (r : Rule) (m : Masks) (o : Option Said) (rest : Option Note) (t : No
 found_by r m None rest t e = inr e
 found_by r m (Some q) rest t e = inl (q, refl, same_Some (note_of r m q) t e)
 
--- The note that is found starts from the masks and meets its rule.
+-- The note that is found starts from the masks and satisfies its rule.
 pub note_meets : (core : CoreData) (ann : Ann) (x : Node) (m : Masks) (rs : List Rule) (t : Note) → first_note core ann x m rs ≡ Some t → (before t ≡ m) × IsSaid core ann x t
 note_meets core ann x m [] t e = absurd (none-some t e)
 note_meets core ann x m (r ∷ rs) t e =
@@ -121,7 +121,7 @@ note_meets core ann x m (r ∷ rs) t e =
       | inr later ↦ note_meets core ann x m rs t later
     ]
 
--- ---- one note more
+-- ---- one more note
 
 abbrev pub noted : Ann → Note → Ann
 noted ann t = record { slots = ann.slots; notes = ann.notes ++ t ∷ [] }
@@ -132,7 +132,7 @@ noted_extends ann t c s e = get_front ann.notes (t ∷ []) c s e
 pub note_here : (ann : Ann) (t : Note) (n : ℕ) → length ann.notes ≡ n → slice_get (ann.notes ++ t ∷ []) n ≡ Some t
 note_here ann t n e = ap (slice_get (ann.notes ++ t ∷ [])) (sym e) ∙ get_behind ann.notes t []
 
--- Each node up to n meets its rule.
+-- Each node up to n satisfies its rule.
 pub meets_noted : (core : CoreData) (ann : Ann) (n : ℕ) (x : Node) (t : Note) → Formed core → slice_get core.nodes n ≡ Some x → Walked core ann n → IsSaid core ann x t → StartsFrom core ann n (before t) → (k : ℕ) → k ≤ n → GoesWell core (noted ann t) k
 meets_noted core ann n x t formed g w m r k l =
     elim (cases_lt k n) [
@@ -176,7 +176,7 @@ walked_noted core ann n x t formed g w m r e = record {
   ];
 }
 
--- ---- behind the last node
+-- ---- after the last node
 
 pub walked_whole : (core : CoreData) (ann : Ann) (n : ℕ) → Formed core → DeclOk core → n ≡ length core.nodes → Walked core ann n → Valid core ann
 walked_whole core ann n formed ok e w = valid_to core formed ann (record {

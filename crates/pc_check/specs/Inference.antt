@@ -22,7 +22,7 @@ use Rattle.pc_rules.specs.Parts.{constructs, full, type_of, one_child}
 use Rattle.pc_valid.specs.Words.{Ty, Masks}
 use Rattle.pc_rules.specs.Rules.{says}
 
--- What a slot has before its definition: the written type, or any where none is written.
+-- The type of a slot before its definition: the written one, or an arbitrary one if none is written.
 abbrev pub written_type : Option (ℕ × Cap) → ℕ × Cap
 written_type (Some ty) = ty
 written_type None = (none_entity, cap.Tag)
@@ -30,14 +30,14 @@ written_type None = (none_entity, cap.Tag)
 abbrev pub first_types : CoreData → List (ℕ × Cap)
 first_types core = map (λ (y : Slot). written_type y.written) core.slots
 
--- The type of the value that a node defines its slot by, where none is written for the slot.
+-- The type of the value by which a node defines its slot, if no type is written for the slot.
 abbrev pub unwritten : Ann → List ℕ → Option (ℕ × Cap) → Option Ty
 unwritten ann cs (Some ty) = None
 unwritten ann cs None = do
   c ← one_child cs
   type_of ann c
 
--- The number of the slot of this index whose type follows from node x, and that type.
+-- The number of the slot with this index if its type follows from node x, and that type.
 abbrev pub slot_type : CoreData → Ann → Node → ℕ → Option (ℕ × (ℕ × Cap))
 slot_type core ann x s = do
   f ← slice_get core.methods x.method
@@ -86,7 +86,7 @@ rules_for node.While = rule.While ∷ []
 rules_for (node.Recover k) = rule.Recover ∷ []
 rules_for node.Body = rule.Body ∷ []
 
--- What a rule says, as a note.
+-- The conclusion of a rule, as a note.
 abbrev pub note_of : Rule → Masks → Said → Note
 note_of r m q = record { rule = r; ty = q.ty; live_before = m.0; set_before = m.1; live_after = q.live; set_after = q.set }
 
@@ -94,7 +94,7 @@ abbrev pub or_else : Rule → Masks → Option Said → Option Note → Option N
 or_else r m None o = o
 or_else r m (Some q) o = Some (note_of r m q)
 
--- The note by the first of these rules that says something of node x.
+-- The note by the first of these rules that applies to node x.
 abbrev pub first_note : CoreData → Ann → Node → Masks → List Rule → Option Note
 first_note core ann x m [] = None
 first_note core ann x m (r ∷ rs) = or_else r m (says core ann x m r x.kind) (first_note core ann x m rs)
@@ -109,6 +109,6 @@ abbrev pub lacks_field : CoreData → Option Method → Mask → Bool
 lacks_field core None s = false
 lacks_field core (Some f) s = constructs f.kind && not (full core f.entity s)
 
--- Node x is the body of a constructor that leaves a field unset, by its note.
+-- Node x is the body of a constructor that, by the node's note, leaves a field unset.
 abbrev pub leaves_unset : CoreData → Node → Note → Bool
 leaves_unset core x t = is_body x.kind && lacks_field core (slice_get core.methods x.method) t.set_after

@@ -1,4 +1,4 @@
--- What the faults show.
+-- What the faults mean.
 use Rattle.std.specs.Prelude.{◌≡◌, ℕ, ◌<◌, Some, slice_get}
 use Rattle.pc_core.specs.CoreData.{CoreData}
 use Rattle.pc_core.specs.Formed.{Formed}
@@ -7,19 +7,19 @@ use Rattle.pc_sub.specs.declared.faults.DeclFault.{DeclFault}
 use Rattle.pc_sub.specs.Declarations.{first_fault}
 use Rattle.pc_valid.specs.Valid.{NoRule, Unset, Derivable, KeepsWritten, MeetsReached}
 
--- A core with a node of which no rule says anything has no valid annotation.
+-- A core with a node to which no rule applies has no valid annotation.
 abbrev pub NoneWithoutRule : Type 0
 NoneWithoutRule = (core : CoreData) (ann : Ann) (n : ℕ) → Formed core → NoRule core ann n → Derivable core → ⊥
 
--- Nor has one with a constructor that leaves a field unset.
+-- Nor does one with a constructor that leaves a field unset.
 abbrev pub NoneWithUnset : Type 0
 NoneWithUnset = (core : CoreData) (ann : Ann) (m : ℕ) → Formed core → Unset core ann m → Derivable core → ⊥
 
--- Nor has one with a declaration that fails.
+-- Nor does one with a declaration that fails.
 abbrev pub NoneWithFault : Type 0
 NoneWithFault = (core : CoreData) (fault : DeclFault) → Formed core → first_fault core ≡ Some fault → Derivable core → ⊥
 
--- No rule says anything of at most one node.
+-- There is at most one node to which no rule applies.
 abbrev pub OneNode : Type 0
 OneNode = (core : CoreData) (a b : Ann) (n k : ℕ) → Formed core → NoRule core a n → NoRule core b k → n ≡ k
 
@@ -31,7 +31,8 @@ OneConstructor = (core : CoreData) (a b : Ann) (m k : ℕ) → Formed core → U
 abbrev pub OneKindOfFault : Type 0
 OneKindOfFault = (core : CoreData) (a b : Ann) (n m : ℕ) → Formed core → NoRule core a n → Unset core b m → ⊥
 
--- The notes before a node are the same in any two annotations in which they meet their rules from the masks that reach them.
+-- The notes before a node are the same in any two annotations in which they satisfy their rules from the masks that
+-- reach them.
 abbrev pub PrefixesAgree : Type 0
 PrefixesAgree =
     (core : CoreData) (a b : Ann) (n k : ℕ) → Formed core → KeepsWritten core a → KeepsWritten core b → ((i : ℕ) → i < n → MeetsReached core a i)

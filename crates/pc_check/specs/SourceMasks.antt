@@ -1,4 +1,4 @@
--- The masks of a source, which a node follows.
+-- The masks of the source of a node.
 use Rattle.std.specs.Prelude.{Option, Some, None, slice_get}
 use Rattle.pc_core.specs.declared.declarations.Method.{Method}
 use Rattle.pc_core.specs.CoreData.{CoreData}

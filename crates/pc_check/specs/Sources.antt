@@ -18,13 +18,13 @@ use Rattle.pc_check.specs.declared.sources.Source.TheVariants as source
 abbrev pub start_masks : CoreData → Method → Masks
 start_masks core f = (first (1 + length f.params), start_set core f)
 
--- Whatever the notes are, the masks of this source reach node n: those with which a method starts, or those behind a node
--- that comes before number `low`.
+-- Whatever the notes are, the masks of this source reach node n: those with which a method starts, or those after a
+-- node that comes before number `low`.
 abbrev pub Comes : CoreData → (low node : ℕ) → Source → Type 0
 Comes core low n (source.Start m) = (f : Method) × (slice_get core.methods m ≡ Some f) × ((ann : Ann) → StartsFrom core ann n (start_masks core f))
 Comes core low n (source.Behind s) = (s < low) × ((ann : Ann) (t : Note) → slice_get ann.notes s ≡ Some t → StartsFrom core ann n (after t))
 
--- It is the source of node n, and comes before what stands in n.
+-- It is the source of node n, and comes before the subtree of n.
 abbrev pub Placed : CoreData → ℕ → Source → Type 0
 Placed core n s = (low : ℕ) × Tree core low n × Comes core low n s
 
@@ -32,7 +32,7 @@ Placed core n s = (low : ℕ) × Tree core low n × Comes core low n s
 abbrev pub Sourced : CoreData → List Source → Type 0
 Sourced core sources = (length sources ≡ length core.nodes) × Each (λ n s. Placed core n s) sources
 
--- ---- while they are found
+-- ---- while the sources are being found
 
 -- Node n is the body of a method.
 abbrev pub IsBody : CoreData → ℕ → Type 0
@@ -50,16 +50,16 @@ Known core i n = IsBody core n ⊎ ((p : ℕ) × (i ≤ p) × IsChild core p n)
 abbrev pub Filled : CoreData → List Source → ℕ → Type 0
 Filled core sources i = (length sources ≡ length core.nodes) × Each (λ n s. Known core i n → Placed core n s) sources
 
--- Besides, the first j children of node x, which comes before them.
+-- In addition, so have the first j children of node x, which come before it.
 abbrev pub PartFilled : CoreData → List Source → ℕ → Node → ℕ → Type 0
 PartFilled core sources i x j =
     (length sources ≡ length core.nodes)
     × Each (λ n s. (Known core i n ⊎ ((k : ℕ) × (k < j) × (slice_get x.children k ≡ Some n))) → Placed core n s) sources
 
--- Where node x has the first source, its child of index i has the second.
+-- If node x has the first source, its child with index i has the second.
 abbrev pub PassesOn : Node → ℕ → Source → Source → Type 0
 PassesOn x i s t = (core : CoreData) (p c : ℕ) → slice_get core.nodes p ≡ Some x → Placed core p s → slice_get x.children i ≡ Some c → Placed core c t
 
--- Whatever the source of node x is.
+-- The same, whatever the source of node x is.
 abbrev pub ComesLater : Node → ℕ → Source → Type 0
 ComesLater x i t = (s : Source) → PassesOn x i s t

@@ -31,7 +31,7 @@ fn nothing_noted(alloc: Global, core: &Core) -> Result<Ann, AllocError>
     })
 }
 
-// The nodes get their notes, one after the other.
+// Gives the nodes their notes, one after the other.
 fn note_nodes(core: &Core, sources: &[Source], mut ann: Ann) -> Result<Ann, CheckFault>
     requires declarations { DeclOk core.now }
     requires sources { Sourced core.now sources.now }
@@ -77,7 +77,7 @@ fn infer(alloc: Global, core: &Core) -> Result<Ann, CheckFault>
     note_nodes(core, &sources, ann)
 }
 
-// The declarations, and then the nodes.
+// Checks the declarations, and then the nodes.
 fn looked_through(alloc: Global, core: &Core) -> Result<Ann, CheckFault>
     ensures ok { IfOk result (Valid core.now) }
     ensures err { IfErr result (Refuses core.now) }
@@ -89,20 +89,20 @@ fn looked_through(alloc: Global, core: &Core) -> Result<Ann, CheckFault>
     }
 }
 
-/// The core's annotation: the declarations are looked at first, and then the nodes, one after the other.
+/// The core's annotation: the declarations are checked first, and then the nodes, one after the other.
 ///
-/// `Decl` comes exactly where the declarations fail, with the first that does. `NoRule` names a node of which no rule says
-/// anything, from the masks that reach it, and `Unset` the first constructor that leaves a field unset; `so_far` has a
-/// type for each slot, the written one where there is one, and the notes of the nodes before the first, or up to and with
-/// the second one's body, and these meet their rules.
+/// `Decl` is returned iff the declarations fail, with the first one that does. `NoRule` names a node to which no rule
+/// applies, from the masks that reach it, and `Unset` the first constructor that leaves a field unset; `so_far` has a
+/// type for each slot, the written one if there is one, and the notes of the nodes before that node, or up to and
+/// including the body of that constructor, and these satisfy their rules.
 pub fn check(alloc: Global, core: &Core) -> Result<Ann, CheckFault>
     // The annotation is valid.
     ensures ok { IfOk result (Valid core.now) }
-    // The fault is shown by what it carries.
+    // The error carries the evidence for its fault.
     ensures err { IfErr result (Refuses core.now) }
-    // Where an annotation is valid, it is the answer, unless memory ran out.
+    // If an annotation is valid, it is returned, unless memory ran out.
     ensures exact { (ann : Ann) → Valid core.now ann → Answers result (Ok ann) }
-    // Where the declarations fail, no want of memory comes before their fault.
+    // If the declarations fail, their fault is returned, and memory does not run out before.
     ensures declarations { (fault : DeclFault) → first_fault core.now ≡ Some fault → result ≡ Err (fault_of.Decl fault) }
 {
     core.formed();

@@ -6,12 +6,12 @@ use pc_masks::Mask;
 use pc_sub::DeclFault;
 use std::alloc::AllocError;
 
-/// Why a core gets no annotation.
+/// Why a core has no annotation.
 #[derive(Debug, Drop, PartialEq)]
 pub enum CheckFault {
     /// The first declaration that fails.
     Decl(DeclFault),
-    /// No rule says anything of this node.
+    /// No rule applies to this node.
     NoRule {
         /// The node's number.
         node: u32,
@@ -26,7 +26,7 @@ pub enum CheckFault {
     Unset {
         /// The constructor's number.
         method: u32,
-        /// A type for each slot, and the notes of the nodes up to and with the constructor's body.
+        /// A type for each slot, and the notes of the nodes up to and including the constructor's body.
         so_far: Ann,
     },
     /// Memory ran out.

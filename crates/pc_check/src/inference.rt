@@ -19,7 +19,7 @@ fn masks_in(core: &Core, method: u32) -> (Mask, Mask)
     }
 }
 
-// The masks behind a node.
+// The masks after a node.
 fn masks_behind(ann: &Ann, node: u32) -> (Mask, Mask)
     ensures { result ≡ sources.masks_behind (slice_get ann.now.notes node) }
 {
@@ -39,7 +39,7 @@ pub(crate) fn masks_from(core: &Core, ann: &Ann, source: Source) -> (Mask, Mask)
     }
 }
 
-/// The rules for nodes of a kind, in the order in which they are tried. Takes no memory.
+/// The rules for nodes of a kind, in the order in which they are tried. Does not allocate.
 pub fn rules_for(kind: &NodeKind) -> &'static [Rule]
     ensures { result.now ≡ spec.rules_for kind.now }
 {
@@ -77,7 +77,7 @@ pub fn rules_for(kind: &NodeKind) -> &'static [Rule]
     }
 }
 
-// What a rule says, as a note.
+// The conclusion of a rule, as a note.
 fn note_of(rule: Rule, masks: (Mask, Mask), said: Said) -> Note
     ensures { result ≡ spec.note_of rule masks said }
 {
@@ -91,7 +91,7 @@ fn note_of(rule: Rule, masks: (Mask, Mask), said: Said) -> Note
     }
 }
 
-// The note by the first of these rules that says something of the node.
+// The note by the first of these rules that applies to the node.
 fn first_note(
     core: &Core,
     ann: &Ann,
@@ -109,14 +109,14 @@ fn first_note(
     None
 }
 
-/// The node's note, with these masks before it. `None` exactly where no rule says anything of it.
+/// The node's note, with these masks before it. `None` iff no rule applies to it.
 pub(crate) fn infer_note(core: &Core, ann: &Ann, node: &Node, masks: (Mask, Mask)) -> Option<Note>
     ensures { result ≡ spec.first_note core.now ann.now node.now masks (spec.rules_for node.now.kind) }
 {
     first_note(core, ann, node, masks, rules_for(&node.kind))
 }
 
-// Whether a method is a constructor that leaves a field unset, where these are set behind its body.
+// Whether a method is a constructor that leaves a field unset, if these are set after its body.
 fn lacks_field(core: &Core, method: u32, set: Mask) -> bool
     ensures { result ≡ spec.lacks_field core.now (slice_get core.now.methods method) set }
 {
@@ -126,7 +126,7 @@ fn lacks_field(core: &Core, method: u32, set: Mask) -> bool
     }
 }
 
-/// Whether the node is the body of a constructor that leaves a field unset, by its note.
+/// Whether the node is the body of a constructor that, by the node's note, leaves a field unset.
 pub(crate) fn leaves_unset(core: &Core, node: &Node, note: Note) -> bool
     ensures { result ≡ spec.leaves_unset core.now node.now note }
 {

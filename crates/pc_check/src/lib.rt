@@ -1,9 +1,9 @@
-//! The inference of an annotation: a core's valid annotation, or what shows that there is none.
+//! The inference of an annotation: a core's valid annotation, or a proof that there is none.
 //!
-//! Proved: `check` answers the valid annotation of a core, for every core; or else the first declaration that fails, a
-//! node of which no rule says anything with the masks that reach it, or a constructor that leaves a field unset, each
-//! with notes that show it. Where one of these is shown no annotation is valid, and a core has at most one of them
-//! (`faults_are_one`). The notes before a node are one in any two annotations that reach it (`prefixes_agree`).
+//! Proved: `check` returns the valid annotation of a core, for every core; or else the first declaration that fails, a
+//! node to which no rule applies with the masks that reach it, or a constructor that leaves a field unset, each with
+//! notes that prove it. If one of these is returned no annotation is valid, and a core has at most one of them
+//! (`faults_are_one`). The notes before a node are the same in any two annotations that reach it (`prefixes_agree`).
 #![tactic(auto)]
 
 mod checking;

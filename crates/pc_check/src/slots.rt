@@ -8,7 +8,7 @@ use pc_core::{Core, Node, NodeKind, Slot};
 use pc_tree::NONE_ENTITY;
 use std::alloc::{AllocError, Global};
 
-// The written type of a slot, or any where none is written.
+// The written type of a slot, or an arbitrary one if none is written.
 fn written_type(slot: &Slot) -> (u32, Cap)
     ensures { result ≡ spec.written_type slot.now.written }
 {
@@ -18,7 +18,7 @@ fn written_type(slot: &Slot) -> (u32, Cap)
     }
 }
 
-/// A type for each slot: the written one, or any where none is written.
+/// A type for each slot: the written one, or an arbitrary one if none is written.
 pub(crate) fn first_types(alloc: Global, core: &Core) -> Result<Vec<(u32, Cap)>, AllocError>
     ensures { IfOk result (λ types. types.items ≡ spec.first_types core.now) }
 {
@@ -41,7 +41,7 @@ fn value_type(ann: &Ann, children: &[u32]) -> Option<(u32, Form)>
     }
 }
 
-// The type of the value of a definition, where none is written for its slot.
+// The type of the value of a definition, if no type is written for its slot.
 fn unwritten(ann: &Ann, children: &[u32], written: Option<(u32, Cap)>) -> Option<(u32, Form)>
     ensures { result ≡ spec.unwritten ann.now children.now written }
 {
@@ -51,7 +51,7 @@ fn unwritten(ann: &Ann, children: &[u32], written: Option<(u32, Cap)>) -> Option
     }
 }
 
-// The place of a slot whose type follows from its definition, and that type.
+// The number of a slot whose type follows from its definition, and that type.
 fn slot_type(core: &Core, ann: &Ann, node: &Node, slot: u32) -> Option<(usize, (u32, Cap))>
     ensures { result ≡ spec.slot_type core.now ann.now node.now slot }
 {
@@ -95,7 +95,7 @@ fn inferred_slot(core: &Core, ann: &Ann, node: &Node) -> Option<(usize, (u32, Ca
     }
 }
 
-/// Where the node defines a slot without a written type, the slot gets the type that follows.
+/// If the node defines a slot without a written type, gives the slot the type that follows.
 pub(crate) fn infer_slot(core: &Core, ann: &mut Ann, node: &Node)
     requires { length ann.old.slots ≡ length core.now.slots }
     ensures { ann.new ≡ spec.with_inferred core.now ann.old node.now }

@@ -10,9 +10,9 @@ use std::alloc::{AllocError, Global};
 /// Where the masks that reach a node come from.
 #[derive(Clone, Copy, Debug, PartialEq, Eq)]
 pub(crate) enum Source {
-    /// They are those with which this method starts.
+    /// From the start of this method.
     Start(u32),
-    /// They are those behind this node.
+    /// From after this node.
     Behind(u32),
 }
 
@@ -26,7 +26,7 @@ fn starts(alloc: Global, core: &Core) -> Result<Vec<Source>, AllocError>
         .collect(alloc)
 }
 
-// Whether the child of this index is an `else` branch.
+// Whether the child with this index is an `else` branch.
 fn is_else(kind: &NodeKind, index: usize) -> bool
     ensures { result ≡ is_else kind.now index }
 {
@@ -58,7 +58,7 @@ fn is_else(kind: &NodeKind, index: usize) -> bool
     }
 }
 
-// The source of a later child: an `else` branch comes behind the condition, and any other behind the child before it.
+// The source of a later child: for an `else` branch the condition, and for any other child the one before it.
 fn later_source(parent: &Node, index: usize) -> Source
     requires later { 0 < index }
     requires child { index < length parent.now.children }
@@ -72,7 +72,7 @@ fn later_source(parent: &Node, index: usize) -> Source
     }
 }
 
-// The source of the child of this index. A first child has its parent's.
+// The source of the child with this index. A first child has its parent's.
 fn child_source(parent: &Node, source: Source, index: usize) -> Source
     requires { index < length parent.now.children }
     ensures { spec.PassesOn parent.now index source result }
@@ -92,7 +92,7 @@ pub(crate) fn source_at(sources: &[Source], number: usize) -> Source
     sources[number]
 }
 
-// The children of this node get their sources.
+// Gives the children of this node their sources.
 fn pass_on(core: &Core, sources: &mut [Source], number: usize)
     requires node { number < length core.now.nodes }
     requires filled { spec.Filled core.now sources.old (number + 1) }
@@ -107,8 +107,8 @@ fn pass_on(core: &Core, sources: &mut [Source], number: usize)
     }
 }
 
-/// Where the masks that reach each node come from: found from the last node to the first, since a node's parent comes
-/// behind it.
+/// Where the masks that reach each node come from. They are found from the last node to the first, since a node's
+/// parent comes after it.
 pub(crate) fn sources(alloc: Global, core: &Core) -> Result<Vec<Source>, AllocError>
     ensures { IfOk result (λ sources. spec.Sourced core.now sources.items) }
 {

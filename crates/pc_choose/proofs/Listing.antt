@@ -1,4 +1,4 @@
--- A seed has one list.
+-- A seed has exactly one list.
 use Rattle.std.proofs.Common.{◌≡◌, ℕ, zero, suc, ◌≤◌, List, [], ◌∷◌, ◌++◌, length, Option, Some, None, refl, sym, ap, subst, ◌∙◌, arith}
 use Rattle.std.specs.Prelude.{IsSomeAnd}
 use Rattle.pc_core.specs.CoreData.{CoreData}

@@ -62,7 +62,7 @@ past_set [] i v e = refl
 past_set (m ∷ ms) zero v e = absurd (none-some m (sym e))
 past_set (m ∷ ms) (suc i) v e = ap (λ (l : List ℕ). m ∷ l) (past_set ms i v e)
 
--- There are no more marks that are 1 than marks.
+-- There are no more marks equal to 1 than marks.
 pub marks_sum : (ms : List ℕ) → AreMarks ms → sum ms ≤ length ms
 marks_sum [] a = omega arith
 marks_sum (m ∷ ms) a =
@@ -225,7 +225,7 @@ module _ (c : Configuration) where
       let n = count_among (length c.actors) 0 in
       omega (arith, a, n)
 
-  -- ---- where the sums of marks fall
+  -- ---- if the sums of marks fall
 
   module _ (k i : ℕ) (f : FallsOn (marks_of c) k i) where
     falls_by : (b : Bool) → able c i ≡ b → able c i ≡ true

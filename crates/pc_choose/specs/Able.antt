@@ -18,11 +18,11 @@ abbrev pub is_able : Option Actor → Bool
 is_able None = false
 is_able (Some a) = has_work a.frames a.mailbox
 
--- Actor i is there and has something to do. Its step is then not skipped, and it is skipped otherwise.
+-- Actor i exists and has something to do. If so, its step is not skipped; otherwise it is.
 abbrev pub able : Configuration → ℕ → Bool
 able c i = is_able (slice_get c.actors i)
 
--- Those of this many numbers, from a first one on, whose actors are able, in ascending order.
+-- The able actors among `count` numbers from the first one on, in ascending order.
 abbrev pub able_among : Configuration → (first count : ℕ) → List ℕ
 able_among c first count = filter (able c) (range_with_len first count)
 
@@ -30,7 +30,7 @@ able_among c first count = filter (able c) (range_with_len first count)
 abbrev pub able_actors : Configuration → List ℕ
 able_actors c = able_among c 0 (length c.actors)
 
--- The step ahead is not a skipped one.
+-- The next step is not skipped.
 abbrev pub is_ahead : Ahead → Bool
 is_ahead ahead.Skipped = false
 is_ahead ahead.Lacks = true

@@ -1,4 +1,4 @@
--- Choosers: where a choice stands.
+-- Choosers: the state of a choice.
 use Rattle.std.specs.Prelude.{◌≡◌, ℕ, ◌*◌, List, Option, Some, None, IfSome, IsSomeAnd, refl}
 use Rattle.std.specs.Coded.{Coded, code_by, coded×, coded_list, coded_ℕ}
 use Rattle.pc_core.specs.CoreData.{CoreData}
@@ -27,12 +27,12 @@ coded_chooser =
     code_by (ℕ × (ℕ × (Point × List ℕ))) (coded× coded_ℕ (coded× coded_ℕ (coded× point.the_row.coded (coded_list coded_ℕ))))
     (λ c. (c.seed, (c.drawn, (c.point, c.marks)))) (λ p. record { seed = p.0; drawn = p.1.0; point = p.1.1.0; marks = p.1.1.1 }) (λ _. refl)
 
--- The chooser stands at a configuration: two numbers were drawn for each turn that began, and it knows who is able.
+-- The chooser is at a configuration: two numbers have been drawn for each turn that began, and it knows who is able.
 pub record IsAt (chooser : ChooserData) (c : Configuration) : Type 0 where
   pub drawn : chooser.drawn ≡ state chooser.seed (2 * chooser.point.turns)
   pub marks : chooser.marks ≡ marks_of c
 
--- From point p and configuration c to q and d: it is no one's turn, or the step of whoever's turn it is was taken.
+-- From point p and configuration c to q and d: it is no one's turn, or the actor whose turn it is took its step.
 abbrev pub Advances : CoreData → (seed : ℕ) → Point → Configuration → Point → Configuration → Option Step → Type 0
 Advances core seed p c q d None = (turn seed p c ≡ None) × (d ≡ c)
 Advances core seed p c q d (Some taken) = IsSomeAnd (turn seed p c) (λ t. (taken.actor ≡ t.actor) × (q ≡ stepped t) × (◌≡◌ {A = Outcome × Configuration} (taken.outcome, d) (step core c taken.actor)))
@@ -42,6 +42,6 @@ abbrev pub step_of : Option Onward → Option Step
 step_of None = None
 step_of (Some onward) = Some onward.step
 
--- What is ahead of actor i is this, if it is known.
+-- This is actor i's next step, if it is known.
 abbrev pub IsKnown : CoreData → Configuration → (i : ℕ) → Option Ahead → Type 0
 IsKnown core c i known = IfSome known (λ ahead. ahead ≡ ahead_of core c i)

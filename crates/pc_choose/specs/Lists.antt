@@ -9,19 +9,19 @@ use Rattle.pc_sched.specs.Limits.{turn_limit}
 use Rattle.pc_choose.specs.declared.point.Point.{Point}
 use Rattle.pc_choose.specs.Choice.{turn, stepped, at_first}
 
--- how many steps a list may have at most: as many as a schedule may have
+-- the greatest number of steps of a list: as many as a schedule may have
 abbrev pub most_steps : ℕ
 most_steps = turn_limit
 
--- After a step that moved the rest goes on as stated; after any other there is none.
+-- After a step that moved, the rest continues as stated; after any other step there is none.
 abbrev pub AfterStep : (Configuration → Type 0) → List ℕ → Outcome × Configuration → Type 0
 AfterStep goes_on rest (Moved, d) = goes_on d
 AfterStep goes_on rest (Skipped, d) = rest ≡ []
 AfterStep goes_on rest (Lacks l, d) = rest ≡ []
 AfterStep goes_on rest (TooLong, d) = rest ≡ []
 
--- From configuration c on, with room for this number of steps: each step is of the actor whose turn it is, and the list ends
--- when it is no one's turn.
+-- From configuration c on, with room for this number of steps: each step is taken by the actor whose turn it is, and
+-- the list ends when it is no one's turn.
 abbrev pub Follows : CoreData → (seed room : ℕ) → Point → Configuration → List ℕ → Type 0
 Follows core seed zero p c list = list ≡ []
 Follows core seed (suc room) p c [] = turn seed p c ≡ None

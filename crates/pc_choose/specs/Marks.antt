@@ -1,4 +1,4 @@
--- Marks of actors: 1 for one that is able, and 0 for another.
+-- Marks of actors: 1 for one that is able, and 0 for any other.
 use Rattle.std.specs.Prelude.{ℕ, ◌≤◌, Bool, true, false, List, [], ◌∷◌, ◌++◌, map, slice_index, slice_set}
 use Rattle.pc_semantics.specs.declared.actors.Actor.{Actor}
 use Rattle.pc_semantics.specs.Configurations.{Configuration}
@@ -21,7 +21,7 @@ marks_of c = map mark_of c.actors
 abbrev pub AreMarks : List ℕ → Type 0
 AreMarks marks = (i : ℕ) → slice_index marks i ≤ 1
 
--- What a step makes of the marks of the others: whoever is sent a message is able, and so is a new actor.
+-- The marks of the other actors after a step: whoever is sent a message is able, and so is a new actor.
 abbrev pub marks_by : Ahead → List ℕ → List ℕ
 marks_by ahead.Skipped marks = marks
 marks_by ahead.Lacks marks = marks

@@ -17,7 +17,8 @@ use pc_tally::Tally;
 use std::alloc::{AllocError, Global};
 use std::marker::Model;
 
-/// Chooses the steps of a machine by a seed: it knows whose turn it is, what was drawn and which actors are able.
+/// Chooses the steps of a machine by a seed: it knows whose turn it is, how far the draws are, and which actors are
+/// able.
 #[derive(Drop)]
 pub struct Chooser {
     seed: u64,
@@ -57,7 +58,7 @@ impl Chooser {
         })
     }
 
-    /// Takes the step of the actor whose turn it is. `None` exactly if it is no one's turn; then the machine is as it was.
+    /// Takes the step of the actor whose turn it is. `None` iff it is no one's turn; then the machine is unchanged.
     pub fn step(&mut self, machine: &mut Machine<'_>) -> Result<Option<Step>, AllocError>
         requires at { IsAt self.old machine.old.configuration }
         requires objects { len machine.old.configuration.objects < object_limit }
@@ -73,8 +74,8 @@ impl Chooser {
         }
     }
 
-    /// The same, with what is ahead of the actor of the last step, if it is known: it came with that step, and is then not looked
-    /// up again.
+    /// The same, given the next step of the last step's actor, if it is known: it came with that step, and is not
+    /// looked up again.
     pub fn step_on(
         &mut self,
         machine: &mut Machine<'_>,

@@ -11,7 +11,7 @@ ghost use Rattle.pc_choose.specs.Laws.{
   StepsMove,
 };
 
-/// A step is skipped exactly if its actor is not able.
+/// A step is skipped iff its actor is not able.
 #[tactic(auto, using(crate::proofs::Working::skips_unable))]
 pub fn skips_unable()
     ensures { SkipsUnable }
@@ -23,7 +23,7 @@ pub fn able_stay()
     ensures { AbleStay }
 {}
 
-/// A seed has one list.
+/// A seed has exactly one list.
 #[tactic(auto, using(crate::proofs::Listing::lists_are_one))]
 pub fn lists_are_one()
     ensures { ListsAreOne }
@@ -35,13 +35,13 @@ pub fn lists_are_short()
     ensures { ListsAreShort }
 {}
 
-/// Each step of the list of a seed moves, except that the last one may end the run.
+/// Every step of a seed's list moves, except that the last one may end the run.
 #[tactic(auto, using(crate::proofs::Listing::steps_move))]
 pub fn steps_move()
     ensures { StepsMove }
 {}
 
-/// A step changes whether an actor is able only for its own actor, for the one to which it sends and for a new one.
+/// A step changes whether an actor is able only for its own actor, for the one that it sends to, and for a new one.
 #[tactic(auto, using(crate::proofs::Changing::few_change))]
 pub fn few_change()
     ensures { FewChange }
@@ -53,13 +53,13 @@ pub fn lists_end()
     ensures { ListsEnd }
 {}
 
-/// The list of a seed is one of at most 95,000 turns, each of 1 to 64 steps of one actor.
+/// The list of a seed consists of at most 95,000 turns, each of 1 to 64 steps of one actor.
 pub fn lists_are_in_turns()
     ensures { ListsAreInTurns }
 {}
 
-/// Round robin is fair: at seed 0 an actor that is able takes a step within 128 times the number of actors that there are when it
-/// begins to wait, unless the list ends before.
+/// Round robin is fair: under seed 0, an actor that is able takes a step within 128 times the number of actors that
+/// exist when it begins to wait, unless the list ends before.
 pub fn round_robin_is_fair()
     ensures { RoundRobinIsFair }
 {}

@@ -1,12 +1,12 @@
-//! Schedules that the machine chooses: for each seed a list of steps, repeatable and fair. `docs/schedules.md` says how it is
-//! chosen, `specs/Choice.antt` and `specs/Lists.antt` define it.
+//! Schedules that the machine chooses: for each seed a list of steps, repeatable and fair. `docs/schedules.md` explains
+//! how it is chosen; `specs/Choice.antt` and `specs/Lists.antt` define it.
 //!
-//! Proved: a `Chooser` takes the step of the actor whose turn it is, and `choose` gives the list of a seed. That there is exactly
-//! one list of each seed, how long it is, of how many turns and how it ends (`lists_are_one`, `lists_are_short`,
-//! `lists_are_in_turns`, `steps_move`, `lists_end`), who is able after a step (`skips_unable`, `able_stay`, `few_change`) and how
-//! long one waits at seed 0 (`round_robin_is_fair`) are laws.
+//! Proved: a `Chooser` takes the step of the actor whose turn it is, and `choose` returns the list of a seed. Laws
+//! state that each seed has exactly one list, how long it is, how many turns it has and how it ends (`lists_are_one`,
+//! `lists_are_short`, `lists_are_in_turns`, `steps_move`, `lists_end`), who is able after a step (`skips_unable`,
+//! `able_stay`, `few_change`), and how long an actor waits under seed 0 (`round_robin_is_fair`).
 //!
-//! Not proved: time. No test looks at a clock.
+//! Not proved: time. No test measures it.
 #![tactic(auto)]
 
 mod able;

@@ -11,7 +11,7 @@ pub struct Step {
     pub outcome: Outcome,
 }
 
-/// A step that was taken, and what is ahead of its actor then.
+/// A step that was taken, and the next step of its actor.
 #[derive(Clone, Copy)]
 pub struct Onward {
     pub step: Step,

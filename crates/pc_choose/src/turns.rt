@@ -15,7 +15,7 @@ const MOST_TURNS: u32 = 95_000;
 
 const MOST_TIMES: u32 = 64;
 
-// The next actor of the round that began.
+// The next actor of the current round.
 #[tactic(auto, using(crate::proofs::Turning::past_round))]
 fn next_in_round(machine: &Machine<'_>, marks: &Tally, point: Point) -> Option<u32>
     requires known { marks.now ≡ marks_of machine.now.configuration }
@@ -57,8 +57,8 @@ fn by_draw(machine: &Machine<'_>, marks: &Tally, draws: &mut Draws) -> Option<Pi
     Some(Picked { actor, round: 0 })
 }
 
-// The actor that is picked for a new turn. Round robin draws a number too, which nothing looks at, so that each turn is two
-// draws whatever the seed.
+// The actor that is picked for a new turn. Round robin draws a number too, which is not used, so that each turn takes
+// two draws whatever the seed.
 #[tactic(auto, using(crate::proofs::Turning::is_round, crate::proofs::Turning::is_drawn))]
 fn picked(
     machine: &Machine<'_>,

@@ -42,9 +42,9 @@ fn end_of(alloc: Global, program: &[u8], seed: u64) -> Option<(usize, u32)> {
 
 const PRINTS: &[u8] = b"actor Main\n  new create(env: Env) => env.out.print(\"\")\n";
 
-// Main has 10 steps, of which the 9th sends, and the stream one. At seed 0 a round begins with Main, the only able actor, and
-// no higher one is in it; the next begins with the stream. Seed 1 draws the place 0 and the count 63, then the place 0 and the
-// count 44; each time one actor alone is able.
+// Main has 10 steps, of which the 9th sends, and the stream has one. Under seed 0 a round begins with Main, the only
+// able actor, and there is no higher one in it; the next begins with the stream. Seed 1 draws the place 0 and the count
+// 63, then the place 0 and the count 44; each time only one actor is able.
 const PRINTS_LIST: [u32; 11] = [1, 1, 1, 1, 1, 1, 1, 1, 1, 1, 0];
 
 #[test]

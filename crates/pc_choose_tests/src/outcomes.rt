@@ -6,7 +6,7 @@ use pc_test_inputs::core_of;
 use pc_test_inputs::programs::{DOUBLES, HELLO};
 use std::alloc::Global;
 
-/// What an entry is to be: the steps of its play if they are known, its text and its ending.
+/// What an entry should be: the steps of its play if they are known, its text and its ending.
 type Wanted = (Option<u32>, &'static [u8], Ending);
 
 fn is_entry(entry: &Entry, wanted: &Wanted) -> bool {

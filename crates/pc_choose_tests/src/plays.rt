@@ -27,7 +27,7 @@ pub(crate) fn is_accepted(alloc: Global, core: &Core) -> bool
     }
 }
 
-// Plays an accepted program. What is no accepted program is answered as out of memory.
+// Plays an accepted program. If it is not accepted, the answer is that memory ran out.
 fn play_program(
     alloc: Global,
     program: &[u8],
@@ -66,8 +66,8 @@ fn a_play_writes_its_texts_and_then_its_numbers(rt: HostRuntime) {
     assert!(rt; writes(rt.alloc(), HELLO, 1, Ok(11), text));
 }
 
-// By round robin Main takes 64 steps, of which the 9th sends, and then the stream takes its one. The first join is Main's 24th
-// step, a turn of its loop takes 12 steps, and the 12th join, its 156th step, is too long.
+// By round robin, Main takes 64 steps, of which the 9th sends, and then the stream takes its one. The first join is
+// Main's 24th step, a round of its loop takes 12 steps, and the 12th join, its 156th step, is too long.
 #[test]
 fn a_play_ends_at_a_text_that_is_too_long(rt: HostRuntime) {
     assert!(rt; writes(rt.alloc(), DOUBLES, 0, Err(157), b"go\n"));

@@ -1,4 +1,4 @@
-//! The program: it makes the real files and streams, and calls `rcap`.
+//! The program: it opens the real files and streams, and calls `rcap`.
 #![tactic(auto)]
 
 use pc_io::{HostFiles, HostSink};
@@ -8,10 +8,10 @@ use std::alloc::Global;
 use std::process::ExitCode;
 use std::{env, io};
 
-/// The status of words that are no command's, as `rcap` answers it.
+/// The status for words that are not a command, as `rcap` returns it.
 const WORDS_REFUSED: u8 = 2;
 
-/// The status at want of memory, as `rcap` answers it.
+/// The status if memory ran out, as `rcap` returns it.
 const NO_MEMORY: u8 = 11;
 
 fn main(rt: HostRuntime) -> ExitCode {
@@ -23,7 +23,7 @@ fn main(rt: HostRuntime) -> ExitCode {
     }
 }
 
-// The words after the program's name, which have to be text.
+// The words after the program's name, which must be text.
 fn read_args(alloc: Global, rt: &HostRuntime) -> io::Result<Vec<String>> {
     let words = env::args(rt)?.skip(1).collect(alloc)?;
     Ok(words)

@@ -1,4 +1,4 @@
--- Clocks of actors and of the messages that wait for them.
+-- Vector clocks of actors and of the messages waiting for them.
 use Rattle.std.specs.Prelude.{◌≡◌, ◌≢◌, ℕ, suc, max, List, [], length, get_or, Option, Some, None, slice_get}
 use Rattle.pc_clocks.specs.declared.seat.Seat.{Seat}
 
@@ -6,8 +6,8 @@ use Rattle.pc_clocks.specs.declared.seat.Seat.{Seat}
 abbrev pub number : List ℕ → ℕ → ℕ
 number clock a = get_or clock a 0
 
--- The clock behind an event of an actor, where there are so many actors: the greater numbers of the actor's clock and of that of
--- the message that it took, and one more for itself.
+-- The clock after an event of an actor, of `count` actors: the pointwise maximum of the actor's clock and that of the
+-- message it took, plus one for the event itself.
 pub record Advanced (count actor : ℕ) (old taken new : List ℕ) : Type 0 where
   pub width : length new ≡ count
   pub own : number new actor ≡ suc (max (number old actor) (number taken actor))
@@ -21,7 +21,7 @@ clock_in (Some s) = s.clock
 abbrev pub clock_of : List Seat → ℕ → List ℕ
 clock_of seats a = clock_in (slice_get seats a)
 
--- Of these seats one has changed, and in this way.
+-- Only the seat at place `i` has changed, and in this way.
 pub record ChangedAt (old new : List Seat) (i : ℕ) (R : Seat → Seat → Type 0) : Type 0 where
   pub count : length new ≡ length old
   pub here : (s t : Seat) → slice_get old i ≡ Some s → slice_get new i ≡ Some t → R s t

@@ -1,11 +1,11 @@
-//! One clock: how many events of each actor are known. What stands behind its last number is 0.
+//! One clock: how many events of each actor are known. Numbers past its end are 0.
 ghost use Rattle.std.specs.Prelude.{◌≡◌, ◌+◌, ◌<◌, ◌≤◌, ◌^◌, ℕ, max, length, get_or, slice_set, OnOk};
 ghost use Rattle.pc_clocks.specs.Seats.{Advanced, number};
 
 use pc_caps::List;
 use std::alloc::AllocError;
 
-// The clock gets so many numbers, with 0 for those that it did not have.
+// Extends the clock to this length with zeros.
 fn widen(clock: &mut List<u64>, count: usize) -> Result<(), AllocError>
     requires { length clock.old ≤ count }
     ensures count { OnOk result (length clock.new ≡ count) }
@@ -17,7 +17,7 @@ fn widen(clock: &mut List<u64>, count: usize) -> Result<(), AllocError>
     Ok(())
 }
 
-// Each number becomes the greater one of its own and of the other clock's.
+// Raises each number to the other clock's if that is greater.
 fn join(clock: &mut List<u64>, other: &[u64])
     requires { length other.now ≤ length clock.old }
     ensures count { length clock.new ≡ length clock.old }
@@ -30,7 +30,7 @@ fn join(clock: &mut List<u64>, other: &[u64])
     }
 }
 
-// One more event of an actor.
+// Counts one more event of an actor.
 fn tick(clock: &mut List<u64>, actor: usize)
     requires there { actor < length clock.old }
     requires small { number clock.old actor + 1 < 2 ^ 64 }
@@ -40,8 +40,8 @@ fn tick(clock: &mut List<u64>, actor: usize)
     let _ = clock.replace(actor, count + 1);
 }
 
-/// What an actor knows behind its next event, with the clock of the message that it takes there, or none. There are so many
-/// actors.
+/// What an actor knows after its next event, given the clock of the message that it takes there, if any. `count` is the
+/// number of actors.
 pub fn advance(
     clock: &mut List<u64>,
     taken: &[u64],

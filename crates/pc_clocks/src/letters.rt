@@ -1,4 +1,4 @@
-//! The clocks of the messages that wait for an actor.
+//! The clocks of the messages waiting for an actor.
 ghost use Rattle.std.specs.Prelude.{◌≡◌, ◌++◌, ◌∷◌, [], length, drop, slice_get, OnOk};
 
 use pc_caps::List;
@@ -6,7 +6,7 @@ use std::alloc::{AllocError, Global};
 use std::collections::VecDeque;
 use std::marker::Model;
 
-/// The clocks of the messages that wait for an actor, that of the oldest first.
+/// The clocks of the messages waiting for an actor, the oldest message's first.
 #[derive(Drop)]
 pub struct Letters {
     waiting: VecDeque<List<u64>>,
@@ -21,7 +21,7 @@ impl Model for Letters {
 }
 
 impl Letters {
-    /// No message waits. It takes no memory.
+    /// No messages. Does not allocate.
     pub fn new(alloc: Global) -> Letters
         ensures { result ≡ [] }
     {
@@ -30,7 +30,7 @@ impl Letters {
         }
     }
 
-    /// One more message, behind the others.
+    /// Appends the clock of one more message.
     pub fn put(&mut self, clock: List<u64>) -> Result<(), AllocError>
         ensures { OnOk result (self.new ≡ self.old ++ clock ∷ []) }
     {
@@ -38,7 +38,7 @@ impl Letters {
         Ok(())
     }
 
-    /// The oldest message goes. `None` exactly where none waits.
+    /// Removes the oldest message's clock and returns it. `None` iff no message waits.
     pub fn take(&mut self) -> Option<List<u64>>
         ensures clock { result ≡ slice_get self.old 0 }
         ensures rest { self.new ≡ drop 1 self.old }

@@ -1,7 +1,8 @@
-//! Vector clocks: for each actor how many events of every actor are known to it, and the same for each message that waits.
+//! Vector clocks: for each actor how many events of every actor it knows, and the same for each waiting message.
 //!
-//! Proved: behind an event an actor's clock has one number for each actor, the greater one of its own and of that of the message
-//! that it took, and its own number is one greater. A message that is sent carries its sender's clock. `specs/Seats.antt` says so.
+//! Proved: after an event an actor's clock has one number for each actor, the greater of its own and that of the
+//! message it took, and one more for the actor itself. A message that is sent carries its sender's clock. These are the
+//! definitions of `specs/Seats.antt`.
 #![tactic(auto)]
 
 mod clock;

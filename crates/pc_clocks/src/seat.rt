@@ -1,4 +1,4 @@
-//! What is known to one actor.
+//! What one actor knows.
 ghost use Rattle.std.specs.Prelude.{◌≡◌, ◌+◌, ◌<◌, ◌≤◌, ◌^◌, ◌++◌, ◌∷◌, [], max, length, drop, slice_get, get_or, IsSomeAnd, IfSome, OnOk, IfOk, OnErr};
 ghost use Rattle.pc_clocks.specs.Seats.{Advanced, number};
 
@@ -7,14 +7,14 @@ use crate::letters::Letters;
 use pc_caps::List;
 use std::alloc::{AllocError, Global};
 
-/// An actor's clock, and those of the messages that wait for it.
+/// An actor's clock, and those of the messages waiting for it.
 #[derive(Drop)]
 pub struct Seat {
     pub clock: List<u64>,
     pub letters: Letters,
 }
 
-/// An actor that did nothing yet and for which no message waits. It takes no memory.
+/// An actor that has done nothing yet and for which no message waits. Does not allocate.
 pub fn empty_seat(alloc: Global) -> Seat
     ensures { result ≡ record { clock = []; letters = [] } }
 {
@@ -24,7 +24,7 @@ pub fn empty_seat(alloc: Global) -> Seat
     }
 }
 
-/// An actor that did nothing yet and for which a message with this clock waits.
+/// An actor that has done nothing yet and for which a message with this clock waits.
 pub fn new_seat(alloc: Global, letter: List<u64>) -> Result<Seat, AllocError>
     ensures { IfOk result (λ seat. seat ≡ record { clock = []; letters = letter ∷ [] }) }
 {
@@ -34,7 +34,7 @@ pub fn new_seat(alloc: Global, letter: List<u64>) -> Result<Seat, AllocError>
     Ok(Seat { clock, letters })
 }
 
-/// The actor does something and takes no message.
+/// The actor does something without taking a message.
 pub fn act(seat: &mut Seat, count: usize, actor: usize) -> Result<(), AllocError>
     requires there { actor < count }
     requires clock { length seat.old.clock ≤ count }

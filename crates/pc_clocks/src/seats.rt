@@ -1,4 +1,4 @@
-//! What is known to the actors and to the messages that wait for them.
+//! What the actors know, and the messages waiting for them.
 ghost use Rattle.std.specs.Prelude.{◌≡◌, ◌+◌, ◌<◌, ◌≤◌, ◌^◌, ◌++◌, ◌∷◌, [], max, length, drop, slice_get, IsSomeAnd, IfSome, OnOk, IfOk};
 ghost use Rattle.pc_clocks.specs.Seats.{Advanced, ChangedAt, clock_of, number};
 
@@ -7,7 +7,7 @@ use pc_caps::List;
 use std::alloc::{AllocError, Global};
 use std::marker::Model;
 
-/// The clocks of the actors, in the order in which they were made, and those of the messages that wait for them.
+/// The clocks of the actors, in the order in which they were made, and those of the messages waiting for them.
 #[derive(Drop)]
 pub struct Seats {
     all: Vec<Seat>,
@@ -23,7 +23,7 @@ impl Model for Seats {
 }
 
 impl Seats {
-    /// No actor. It takes no memory.
+    /// No actors. Does not allocate.
     pub fn new(alloc: Global) -> Seats
         ensures { result ≡ [] }
     {
@@ -32,7 +32,7 @@ impl Seats {
         }
     }
 
-    /// An actor behind the others, for which no message waits.
+    /// Appends an actor for which no message waits.
     pub fn add_idle(&mut self, alloc: Global) -> Result<(), AllocError>
         ensures { OnOk result (self.new ≡ self.old ++ record { clock = []; letters = [] } ∷ []) }
     {
@@ -40,7 +40,7 @@ impl Seats {
         Ok(())
     }
 
-    /// An actor behind the others, for which a message with this clock waits.
+    /// Appends an actor for which a message with this clock waits.
     pub fn add_waiting(&mut self, alloc: Global, letter: List<u64>) -> Result<(), AllocError>
         ensures { OnOk result (self.new ≡ self.old ++ record { clock = []; letters = letter ∷ [] } ∷ []) }
     {
@@ -48,7 +48,7 @@ impl Seats {
         Ok(())
     }
 
-    /// An actor does something and takes no message. There are so many actors.
+    /// An actor does something without taking a message. `count` is the number of actors.
     pub fn act(&mut self, count: usize, actor: usize) -> Result<(), AllocError>
         requires there { actor < count }
         requires seat { IsSomeAnd (slice_get self.old actor) (λ s. (length s.clock ≤ count) × (number s.clock actor + 1 < 2 ^ 64)) }
@@ -57,7 +57,7 @@ impl Seats {
         act_at(&mut self.all, count, actor)
     }
 
-    /// An actor takes its oldest message. There are so many actors.
+    /// An actor takes its oldest message. `count` is the number of actors.
     pub fn receive(&mut self, count: usize, actor: usize) -> Result<(), AllocError>
         requires there { actor < count }
         requires seat { IsSomeAnd (slice_get self.old actor) (λ s. (length s.clock ≤ count) × (number s.clock actor + 1 < 2 ^ 64) × IsSomeAnd (slice_get s.letters 0) (λ l. (length l ≤ count) × (number l actor + 1 < 2 ^ 64))) }
@@ -66,7 +66,7 @@ impl Seats {
         receive_at(&mut self.all, count, actor)
     }
 
-    /// A copy of an actor's clock. It is empty where there is no such actor.
+    /// A copy of an actor's clock, empty if there is no such actor.
     pub fn clock(&self, alloc: Global, actor: usize) -> Result<List<u64>, AllocError>
         ensures { IfOk result (λ clock. clock ≡ clock_of self.now actor) }
     {
@@ -76,7 +76,7 @@ impl Seats {
         }
     }
 
-    /// A message for an actor, with the clock of the one that sent it.
+    /// A message to an actor, with its sender's clock.
     pub fn send(&mut self, alloc: Global, sender: usize, receiver: usize) -> Result<(), AllocError>
         requires { receiver < length self.old }
         ensures { OnOk result (ChangedAt self.old self.new receiver (λ s t. (t.clock ≡ s.clock) × (t.letters ≡ s.letters ++ clock_of self.old sender ∷ []))) }
@@ -85,7 +85,7 @@ impl Seats {
         put_at(&mut self.all, receiver, letter)
     }
 
-    /// A new actor, with a message that has the clock of the one that made it.
+    /// A new actor, with a message that carries the clock of its maker.
     pub fn spawn(&mut self, alloc: Global, maker: usize) -> Result<(), AllocError>
         ensures { OnOk result (self.new ≡ self.old ++ record { clock = []; letters = clock_of self.old maker ∷ [] } ∷ []) }
     {
@@ -94,7 +94,7 @@ impl Seats {
     }
 }
 
-// One of these does something.
+// An actor of this list does something.
 fn act_at(all: &mut Vec<Seat>, count: usize, actor: usize) -> Result<(), AllocError>
     requires there { actor < count }
     requires seat { IsSomeAnd (slice_get all.old.items actor) (λ s. (length s.clock ≤ count) × (number s.clock actor + 1 < 2 ^ 64)) }
@@ -104,7 +104,7 @@ fn act_at(all: &mut Vec<Seat>, count: usize, actor: usize) -> Result<(), AllocEr
     act(seat, count, actor)
 }
 
-// One of these takes a message.
+// An actor of this list takes its oldest message.
 fn receive_at(all: &mut Vec<Seat>, count: usize, actor: usize) -> Result<(), AllocError>
     requires there { actor < count }
     requires seat { IsSomeAnd (slice_get all.old.items actor) (λ s. (length s.clock ≤ count) × (number s.clock actor + 1 < 2 ^ 64) × IsSomeAnd (slice_get s.letters 0) (λ l. (length l ≤ count) × (number l actor + 1 < 2 ^ 64))) }
@@ -114,7 +114,7 @@ fn receive_at(all: &mut Vec<Seat>, count: usize, actor: usize) -> Result<(), All
     receive(seat, count, actor)
 }
 
-// A message for one of these.
+// Adds a message for an actor of this list.
 fn put_at(all: &mut Vec<Seat>, receiver: usize, letter: List<u64>) -> Result<(), AllocError>
     requires { receiver < length all.old.items }
     ensures { OnOk result (ChangedAt all.old.items all.new.items receiver (λ s t. (t.clock ≡ s.clock) × (t.letters ≡ s.letters ++ letter ∷ []))) }

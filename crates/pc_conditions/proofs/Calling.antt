@@ -34,13 +34,13 @@ use Rattle.pc_conditions.specs.declared.condition.Condition.TheVariants as asks
 use Rattle.pc_conditions.proofs.Opposed.{Opposed, Agrees, typed, is_some, asks_all, asks_false}
 use Rattle.pc_conditions.proofs.Plain.{AtNode}
 
--- ---- tests in a row
+-- ---- several tests
 
 one_fails : (a : Bool) (c d : Condition) → Opposed {A = Said} None (if a then Some d else Some c)
 one_fails true c d = tt
 one_fails false c d = tt
 
--- A test that agrees with what is asked.
+-- A test that agrees with what is required.
 agreed : {A : Type 0} → (b : Bool) (f : Option Condition) (s : Option A) → Agrees b f → Opposed s None → Opposed (if b then s else None) f
 agreed true None s a h = h
 agreed true (Some c) s a h = absurd a
@@ -80,7 +80,7 @@ module _ (core : CoreData) (slots : Slots) (ns : List Note) (x : Node) (m : Mask
   go_row p i None b f a = tt
   go_row p i (Some v) b f a = go_tests (is_sub core v.0 p.entity) (fits v.1 p.cap) b f (asks.Under i p.entity) (asks.Fits i p.cap) a
 
-  -- These notes stand in the children from this index on.
+  -- These notes are those of the children from this index on.
   abbrev StandsFrom : ℕ → List Note → Type 0
   StandsFrom i ts = (j : ℕ) → j < length ts → type_at ns (i + j) ≡ type_at ts j
 
@@ -181,7 +181,7 @@ module _ (core : CoreData) (slots : Slots) (ns : List Note) (x : Node) (m : Mask
   receiver_type : (name : ℕ) (i : Ty × ℕ) → called core ns name ≡ Some i → type_at ns receiver ≡ Some i.0
   receiver_type name i e = noted_of (slice_get ns receiver) name i e
 
-  -- What a rule says of a method of the receiver, against what it asks of it.
+  -- The conclusion of a rule for a method of the receiver, against what it requires of it.
   module _ (name : ℕ) (says : Ty → Method → Option Said) (ask : Method → List Condition) (each : (o : Ty) (f : Method) → type_at ns receiver ≡ Some o → Opposed (says o f) (first_false (holds_of core slots ns x m) (ask f))) where
     abbrev Row : Option (Ty × ℕ) → Bool → Type 0
     Row c t =

@@ -1,4 +1,4 @@
--- The conditions are the rule, and a node without a rule has its reasons.
+-- The conditions are the rule, and a node to which no rule applies has its reasons.
 use Rattle.std.specs.Prelude.{◌≡◌, ◌⊎◌, ◌↔◌, ℕ, ◌&&◌, Bool, true, false, not, List, [], ◌∷◌, Option, Some, None, slice_get, if◌then◌else◌, refl}
 use Rattle.std.proofs.Common.{inl, inr, ap, sym, subst, ◌∙◌}
 use Rattle.std.proofs.lemmas.List.{length-set}
@@ -44,7 +44,7 @@ use Rattle.pc_conditions.specs.declared.condition.Condition.{Condition}
 use Rattle.pc_conditions.proofs.Opposed.{opposed_none, opposed_fails, opposed_some, opposed_holds}
 use Rattle.pc_conditions.proofs.TheRule.{one_rule, more_rules, each_rule}
 
--- ---- a rule that is not looked at says nothing
+-- ---- a rule that is not considered does not apply
 
 skip_if : {A : Type 0} → (b : Bool) (s : Option A) → not b ≡ false → (if b then None else s) ≡ None
 skip_if true s e = refl
@@ -77,7 +77,7 @@ no_function method.New e = absurd (false_true e)
 no_function method.Spawn e = absurd (false_true e)
 
 module _ (core : CoreData) (ns : List Note) (x : Node) (m : Masks) where
-  -- A rule for calls, whose method is another.
+  -- A rule for calls of another kind of method.
   no_call : (name : ℕ) (test : Ty → Method → Bool) (g : Ty → Method → Masks → Said) → ((o : Ty) (f : Method) → callee core ns name ≡ Some f → test o f ≡ false)
       → (called core ns name >>= λ i. slice_get core.methods i.1 >>= λ f. through_notes ns m >>= λ k. if test i.0 f then Some (g i.0 f k) else None) ≡ None
   no_call name test g h =
@@ -182,7 +182,7 @@ conditions_are_the_rule core ann n x m ns r at has = both_ways core ann n x m ns
 pub conditions_are_the_record : ConditionsAreTheRecord
 conditions_are_the_record core ann n x m ns r at has = (to_record core ann n x m ns r at has, from_record core ann n x m ns r at has)
 
--- ---- where no rule says anything
+-- ---- if no rule applies
 
 differ : (core : CoreData) (ann : Ann) (x : Node) (o : Option (ℕ × (ℕ × Cap))) → inferred_slot core ann x x.kind ≡ o → DifferAt core x ann.slots (with_slot ann o).slots
 differ core ann x None e = (refl, λ k h. refl)

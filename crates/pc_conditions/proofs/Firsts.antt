@@ -1,4 +1,4 @@
--- The first that does not hold of two lists, one behind the other.
+-- The first of two lists, one after the other, that does not hold.
 use Rattle.std.specs.Prelude.{◌≡◌, ℕ, ◌+◌, ◌<◌, Bool, true, false, List, [], ◌∷◌, ◌++◌, length, drop, Option, Some, None, refl, if◌then◌else◌}
 use Rattle.std.proofs.Common.{ap, ◌∙◌}
 use Rattle.pc_core.specs.declared.declarations.ParamInfo.{ParamInfo}
@@ -21,7 +21,7 @@ pub first_of_both : (holds : Condition → Bool) (cs ds : List Condition) → fi
 first_of_both holds [] ds = refl
 first_of_both holds (c ∷ cs) ds = either (holds c) c (first_false holds (cs ++ ds)) (first_false holds cs) (first_false holds ds) (first_of_both holds cs ds)
 
--- The first argument that is left has no type.
+-- The first remaining argument has no type.
 pub typed_fails : (holds : Condition → Bool) (ps : List ParamInfo) (i k : ℕ) → k < length ps → holds (asks.Typed i) ≡ false → first_false holds (arguments_go i (drop k ps)) ≡ Some (asks.Typed i)
 typed_fails holds ps i k l e =
     let p = get_within ps k l in

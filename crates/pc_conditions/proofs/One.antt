@@ -1,4 +1,4 @@
--- A core has one node without a rule, and one list of reasons.
+-- A core has only one node to which no rule applies, and only one list of reasons.
 use Rattle.std.specs.Prelude.{◌≡◌, ℕ, suc, ◌+◌, Bool, true, false, ◌&&◌, List, [], ◌∷◌, ◌++◌, length, Option, Some, None, slice_get, if◌then◌else◌, refl}
 use Rattle.std.proofs.Common.{ap, sym, subst, ◌∙◌, arith}
 use Rattle.std.proofs.lemmas.Option.{same_Some, none-some}
@@ -47,7 +47,7 @@ use Rattle.pc_conditions.specs.Failing.{first_false, holds_of, on, is_there}
 use Rattle.pc_conditions.specs.declared.condition.Condition.{Condition}
 use Rattle.pc_conditions.specs.declared.condition.Condition.TheVariants as asks
 
--- ---- conditions that look at no slot
+-- ---- conditions that depend on no slot
 
 abbrev pub slotless : Condition → Bool
 slotless (asks.Reached s) = false
@@ -168,7 +168,7 @@ module _ (core : CoreData) (a b : Slots) (ns : List Note) (x : Node) (m : Masks)
   pub other_alike : (r : Rule) (k : NodeKind) → looked_at k ≡ None → first_false (holds_of core a ns x m) (asked.conditions core a ns x r k) ≡ first_false (holds_of core b ns x m) (asked.conditions core b ns x r k)
   other_alike r k e = first_alike (asked.conditions core a ns x r k) (rule_slotless core a ns x r k e) ∙ ap (first_false (holds_of core b ns x m)) (conditions_alike r k e)
 
-  -- A slot that both have with the same type.
+  -- A slot with the same type in both.
   pub used_alike : (s : ℕ) → slot_of core a x.method s ≡ slot_of core b x.method s → first_false (holds_of core a ns x m) (asks.Live s ∷ asks.Reached s ∷ []) ≡ first_false (holds_of core b ns x m) (asks.Live s ∷ asks.Reached s ∷ [])
   used_alike s e = ap (λ o. if has m.0 s then (if on o (reachable x) then None else Some (asks.Reached s)) else Some (asks.Live s)) e
 
@@ -198,7 +198,7 @@ notes_same a b (c ∷ cs) h =
     bind_same (slice_get a c) (slice_get b c) _ _ (h 0 c refl) (λ t e.
     bind_same (notes_of a cs) (notes_of b cs) _ _ (notes_same a b cs (λ i d g. h (suc i) d g)) (λ ts f. refl))
 
--- ---- two that go up to one node
+-- ---- two partial annotations up to one node
 
 abbrev pair : {A B : Type 0} → A → B → A × B
 pair a b = (a, b)
@@ -225,7 +225,7 @@ module _ (core : CoreData) (a b : Ann) (n : ℕ) (formed : Formed core) (p : NoR
       ∙ slot_same a b core x.method s (λ h i. use_alike core a b formed p.written q.written n x k s same is_at e u names h i)
       ∙ sym (ap (λ o. slot_of core (with_slot b o).slots x.method s) other)
 
-  -- The slot that the node defines, where its value has a type.
+  -- The slot that the node defines, if its value has a type.
   slot_placed : (s : ℕ) (t : Note) (v : Ty) → x.kind ≡ node.Define s → ns ≡ t ∷ [] → t.ty ≡ Some v → slot_of core From x.method s ≡ slot_of core To x.method s
   slot_placed s t v k e is =
       let local = subst (NamesFit core x.method) k (formed.nodes n x is_at).names in
@@ -236,7 +236,7 @@ module _ (core : CoreData) (a b : Ann) (n : ℕ) (formed : Formed core) (p : NoR
       let ty : i.0 ≡ j.0 = same_Some i.0 j.0 (sym i.1 ∙ mine ∙ sym other ∙ j.1) in
       i.2 ∙ ap (λ (z : ℕ × Cap). Some (pair local.1 z)) ty ∙ sym j.2
 
-  -- Where it has none, that is what fails.
+  -- If it has none, that is what fails.
   untyped : (slots : Slots) (s : ℕ) (t : Note) (i : Slot × (ℕ × Cap)) → slot_of core slots x.method s ≡ Some i → t.ty ≡ None
       → first_false (holds_of core slots (t ∷ []) x m) (asked.of_found (asked.slot_type core slots x.method s) (asked.goes 0)) ≡ Some (asks.Typed 0)
   untyped slots s t i e f =
@@ -295,7 +295,7 @@ same_notes : (ann : Ann) (o : Option (ℕ × (ℕ × Cap))) → (with_slot ann o
 same_notes ann None = refl
 same_notes ann (Some i) = refl
 
--- The reasons in an annotation, where the children's notes are known.
+-- The reasons in an annotation, if the children's notes are known.
 reasons_are : (core : CoreData) (ann : Ann) (x : Node) (m : Masks) (ns : List Note) → notes_of ann.notes x.children ≡ Some ns → reasons_at core (with_inferred core ann x) x m ≡ Some (reasons core (with_inferred core ann x).slots ns x m)
 reasons_are core ann x m ns e = bind_is (notes_of (with_inferred core ann x).notes x.children) (λ ts. Some (reasons core (with_inferred core ann x).slots ts x m)) ns (ap (λ ts. notes_of ts x.children) (same_notes ann (inferred_slot core ann x x.kind)) ∙ e)
 

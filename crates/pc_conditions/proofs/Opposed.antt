@@ -1,4 +1,4 @@
--- A rule against its conditions: the one says something exactly where none of the others fails.
+-- A rule against its conditions: the rule applies iff none of the conditions fails.
 use Rattle.std.specs.Prelude.{◌≡◌, Bool, true, false, ◌&&◌, List, [], ◌∷◌, ◌++◌, Option, Some, None, if◌then◌else◌, refl}
 use Rattle.std.proofs.Common.{sym, subst}
 use Rattle.std.proofs.lemmas.Option.{none-some}
@@ -9,13 +9,13 @@ use Rattle.pc_lists.proofs.Bools.{false_true}
 use Rattle.pc_conditions.specs.Failing.{first_false}
 use Rattle.pc_conditions.specs.declared.condition.Condition.{Condition}
 
--- It says something and nothing fails, or it says nothing and something fails.
+-- It applies and nothing fails, or it does not apply and something fails.
 abbrev pub Opposed : {A : Type 0} → Option A → Option Condition → Type 0
 Opposed (Some q) None = Unit {0}
 Opposed None (Some c) = Unit {0}
 Opposed s f = ⊥
 
--- The same of a test.
+-- The same for a test.
 abbrev pub Agrees : Bool → Option Condition → Type 0
 Agrees true None = Unit {0}
 Agrees false (Some c) = Unit {0}

@@ -1,4 +1,4 @@
--- Rules that look at one slot, at fields, or at one or two children: each against its conditions.
+-- Rules that depend on one slot, on fields, or on one or two children: each against its conditions.
 use Rattle.std.specs.Prelude.{◌≡◌, ℕ, Bool, true, false, ◌&&◌, ◌||◌, not, List, [], ◌∷◌, Option, Some, None, nat_eq, slice_get, if◌then◌else◌, refl}
 use Rattle.pc_lists.specs.Options.{◌>>=◌}
 use Rattle.pc_lists.proofs.Bools.{false_true}
@@ -40,7 +40,7 @@ use Rattle.pc_conditions.proofs.Opposed.{Opposed, typed, goes_through, is_some, 
 abbrev pub AtNode : CoreData → Slots → List Note → Node → Masks → Rule → NodeKind → Type 0
 AtNode core slots ns x m r k = Opposed (rule_says core slots ns x m r k) (first_false (holds_of core slots ns x m) (conditions core slots ns x r k))
 
--- ---- tests in a row
+-- ---- several tests
 
 four_tests : {A B C : Type 0} → (n s f w t : Bool) (F : A) (k : A → Option B) (l : B → Option C) (cn cs cf ce cw : Condition) → Opposed (k F >>= l) (if t then None else Some cw)
     → Opposed (((if n && ((s && f) && w) then Some F else None) >>= k) >>= l) (if n then (if s then (if f then (if t then (if w then None else Some ce) else Some cw) else Some cf) else Some cs) else Some cn)
@@ -228,7 +228,7 @@ module _ (core : CoreData) (slots : Slots) (x : Node) (m : Masks) where
   pub value_there : (e : ℕ) (ns : List Note) (n : Masks) → through_notes ns m ≡ Some n → Opposed (value_says e ns m) None
   value_there e ns n t = goes_through (through_notes ns m) n (says_of (Some (e, form.Val))) t
 
-  -- Two sides of one entity, and what the rule says then.
+  -- Two sides with one entity, and the conclusion of the rule then.
   pub both_at : (g : Bool) (e : ℕ) (a b : Note) (v w : Option Ty) (s : Option Said) → g ≡ true → Opposed s None
       → Opposed ((v >>= λ p. w >>= λ q. Some (p, q)) >>= λ vs. if g && both_read_as e vs then s else None) (first_false (holds_of core slots (typed a v ∷ typed b w ∷ []) x m) (both_read e))
   both_at g e a b None w s c h = tt

@@ -1,4 +1,4 @@
--- A node without a rule has a reason.
+-- A node to which no rule applies has a reason.
 use Rattle.std.specs.Prelude.{◌≡◌, ℕ, zero, suc, Bool, true, false, not, List, [], ◌∷◌, length, Option, Some, None, slice_get, if◌then◌else◌, refl}
 use Rattle.std.proofs.Common.{ap, sym, ◌∙◌, arith}
 use Rattle.std.proofs.lemmas.Option.{same_Some, none-some}
@@ -25,7 +25,7 @@ use Rattle.pc_conditions.specs.declared.condition.Condition.{Condition}
 use Rattle.pc_conditions.specs.declared.reason.Reason.{Reason}
 use Rattle.pc_conditions.proofs.Explained.{because}
 
--- ---- one of the rules is looked at
+-- ---- one of the rules is considered
 
 abbrev ChosenOne : CoreData → List Note → Node → NodeKind → Type 0
 ChosenOne core ns x k = (r : Rule) × Has (rules_for k) r × (chosen core ns x r k ≡ true)

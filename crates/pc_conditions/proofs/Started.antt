@@ -1,4 +1,4 @@
--- What is known at a node that was come to: the masks from which its children start, and its slots.
+-- What is known at a node that was reached: the masks from which its children start, and its slots.
 use Rattle.std.specs.Prelude.{◌≡◌, ℕ, zero, suc, ◌+◌, ◌<◌, ◌≤◌, Bool, true, false, ◌&&◌, List, [], ◌∷◌, length, Option, Some, None, nat_eq, slice_get, slice_set, refl}
 use Rattle.std.proofs.Common.{ap, sym, subst, ◌∙◌, arith}
 use Rattle.std.proofs.lemmas.Bool.{eq-eqb}
@@ -43,7 +43,7 @@ notes_length notes (c ∷ cs) ns e =
     let ts = bind_some (notes_of notes cs) _ ns t.2 in
     ap length (sym (same_Some (t.0 ∷ ts.0) ns ts.2)) ∙ ap suc (notes_length notes cs ts.0 ts.1)
 
--- The note of the child of an index.
+-- The note of the child with an index.
 noted : (notes : List Note) (cs : List ℕ) (ns : List Note) (i : ℕ) (t : Note) → notes_of notes cs ≡ Some ns → slice_get ns i ≡ Some t → (c : ℕ) × (slice_get cs i ≡ Some c) × (slice_get notes c ≡ Some t)
 noted notes [] ns i t e g = absurd (none-some t (ap (λ ts. slice_get ts i) (same_Some [] ns e) ∙ g))
 noted notes (c ∷ cs) ns zero t e g =
@@ -90,7 +90,7 @@ module _ (core : CoreData) (ann : Ann) (n : ℕ) (x : Node) (m : Masks) (ns : Li
       let d = noted ann.notes x.children ns 0 u at.are_children g in
       child_before 2 c.0 t (after u) c.1 c.2 (else_branch n d.0 x u at.is_at k c.1 d.1 d.2)
 
-  -- Each starts from the masks behind the one before it.
+  -- Each starts from the masks after the one before it.
   abbrev Follows : List Note → Masks → Type 0
   Follows ts k = ((t : Note) → slice_get ts 0 ≡ Some t → before t ≡ k) × ((i : ℕ) (t u : Note) → slice_get ts (suc i) ≡ Some t → slice_get ts i ≡ Some u → before t ≡ after u)
 

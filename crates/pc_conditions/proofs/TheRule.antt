@@ -80,7 +80,7 @@ module _ (core : CoreData) (ann : Ann) (n : ℕ) (x : Node) (m : Masks) (ns : Li
   abbrev Held : List Note → Rule → NodeKind → Type 0
   Held ts r k = AtNode core (with_inferred core ann x).slots ts x m r k
 
-  -- Where the rule is looked at.
+  -- If the rule is considered.
   abbrev Law : List Note → NodeKind → Rule → Type 0
   Law ts k r = chosen core ts x r k ≡ true → Held ts r k
 

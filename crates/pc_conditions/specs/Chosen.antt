@@ -1,4 +1,4 @@
--- Which rules are looked at for a node.
+-- Which rules are considered for a node.
 use Rattle.std.specs.Prelude.{ℕ, Bool, true, false, not, List, Option, Some, None, slice_get, codes}
 use Rattle.pc_ann.specs.declared.annotation.Note.{Note}
 use Rattle.pc_ann.specs.declared.annotation.Rule.{Rule}
@@ -25,8 +25,9 @@ abbrev pub is_string : Option (List ℕ) → Bool
 is_string None = false
 is_string (Some text) = same_text text (codes "string")
 
--- The rule is looked at for a node x of this kind: by whether the node is incomplete, by the kind of the method that is
--- called, by the method's name, or by the operator. A rule that is not looked at says nothing of the node.
+-- The rule is considered for a node x of this kind, depending on whether the node is incomplete, on the kind of the
+-- method that is called, on the method's name, or on the operator. A rule that is not considered does not apply to the
+-- node.
 abbrev pub chosen : CoreData → List Note → Node → Rule → NodeKind → Bool
 chosen core ns x rule.Get (node.Field name) = not (incomplete core ns x)
 chosen core ns x rule.GetOwn (node.Field name) = incomplete core ns x

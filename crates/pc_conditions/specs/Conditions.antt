@@ -1,4 +1,4 @@
--- What each rule asks of a node, one thing after the other.
+-- What each rule requires of a node, one condition at a time.
 use Rattle.std.specs.Prelude.{ℕ, ◌+◌, ◌-◌, List, [], ◌∷◌, ◌++◌, length, Option, Some, None, slice_get, if◌then◌else◌}
 use Rattle.pc_ann.specs.declared.annotation.Note.{Note}
 use Rattle.pc_ann.specs.declared.annotation.Rule.{Rule}
@@ -41,11 +41,11 @@ abbrev pub arguments_go : ℕ → List ParamInfo → List Condition
 arguments_go i [] = []
 arguments_go i (p ∷ ps) = asks.Typed i ∷ asks.Under i p.entity ∷ asks.Fits i p.cap ∷ arguments_go (i + 1) ps
 
--- As many arguments as parameters, and each goes.
+-- There are as many arguments as parameters, and each goes to its parameter.
 abbrev pub all_go : (arguments : ℕ) → List ParamInfo → List Condition
 all_go n ps = asks.Counted n (length ps) ∷ arguments_go 0 ps
 
--- Each argument, from this index on, may be passed beside a receiver that is lent.
+-- Each argument, from this index on, may be passed along with a receiver that is lent.
 abbrev pub arguments_sent : ℕ → List ParamInfo → List Condition
 arguments_sent i [] = []
 arguments_sent i (p ∷ ps) = asks.Sent i p.cap ∷ arguments_sent (i + 1) ps
@@ -54,13 +54,13 @@ arguments_sent i (p ∷ ps) = asks.Sent i p.cap ∷ arguments_sent (i + 1) ps
 abbrev pub reads : (child entity : ℕ) → List Condition
 reads i e = asks.Typed i ∷ asks.IsA i e ∷ asks.Readable i ∷ []
 
--- Both sides are.
+-- Both sides are such values.
 abbrev pub both_read : (entity : ℕ) → List Condition
 both_read e = reads 0 e ++ reads 1 e
 
--- ---- what is asked of what was found
+-- ---- what is required of something that is looked up
 
--- What is asked of it, where there is one. Where there is none, a condition before this fails.
+-- What is required of it, if it is found. If it is not, an earlier condition fails.
 abbrev pub of_found : {A : Type 0} → Option A → (A → List Condition) → List Condition
 of_found None ask = []
 of_found (Some a) ask = ask a
@@ -71,27 +71,27 @@ slot_type core slots m s = do
   i ← slot_of core slots m s
   Some i.1
 
--- The field of this name of the child's entity.
+-- The field with this name of the child's entity.
 abbrev pub child_field : CoreData → List Note → (child name : ℕ) → Option (ℕ × FieldInfo)
 child_field core ns i name = do
   o ← type_at ns i
   field_of core o.0 name
 
--- The method of this name of the receiver's entity.
+-- The method with this name of the receiver's entity.
 abbrev pub callee : CoreData → List Note → (name : ℕ) → Option Method
 callee core ns name = do
   i ← called core ns name
   slice_get core.methods i.1
 
--- The index of the receiver, and so the number of the arguments.
+-- The index of the receiver, which is the number of arguments.
 abbrev pub receiver_index : List Note → ℕ
 receiver_index ns = length ns - 1
 
--- The right side is of the entity of the left one.
+-- The right side has the entity of the left one.
 abbrev pub same_read : Ty → List Condition
 same_read left = reads 1 left.0
 
--- ---- what each rule asks after what was found
+-- ---- what each rule requires of what was looked up
 
 abbrev pub get_of : ℕ × FieldInfo → List Condition
 get_of f = asks.Seen 0 f.1.cap ∷ []
@@ -118,12 +118,12 @@ call_recover_of o f =
 abbrev pub send_of : (receiver : ℕ) → Method → List Condition
 send_of o f = asks.Behaviour f.kind ∷ all_go o f.params
 
--- Of methods that are no functions nothing is asked.
+-- For methods that are not functions there is no requirement.
 abbrev pub body_of : Method → List Condition
 body_of f = if is_function f.kind then asks.Typed 0 ∷ asks.Under 0 f.result.0 ∷ asks.Below 0 f.result.1 ∷ [] else []
 
--- What a rule asks of a node x of kind k whose children have these notes, in order. A rule asks nothing of a node that it
--- is no rule for.
+-- What a rule requires of a node x of kind k whose children have these notes, in order. A rule requires nothing of a
+-- node of another kind.
 abbrev pub conditions : CoreData → Slots → List Note → Node → Rule → NodeKind → List Condition
 conditions core slots ns x rule.Local (node.Local s) = asks.Live s ∷ asks.Reached s ∷ []
 conditions core slots ns x rule.Consume (node.Consume s) = asks.Live s ∷ asks.Reached s ∷ []

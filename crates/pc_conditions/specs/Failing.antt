@@ -1,4 +1,4 @@
--- Whether what a rule asks holds, and the first of it that does not.
+-- Whether the conditions of a rule hold, and the first one that does not.
 use Rattle.std.specs.Prelude.{◌≡◌, ℕ, Bool, true, false, ◌||◌, not, List, [], ◌∷◌, Option, Some, None, nat_eq, slice_get, if◌then◌else◌}
 use Rattle.pc_ann.specs.declared.annotation.Ann.{Ann}
 use Rattle.pc_ann.specs.declared.annotation.Note.{Note}
@@ -24,7 +24,7 @@ use Rattle.pc_conditions.specs.declared.condition.Condition.{Condition}
 use Rattle.pc_conditions.specs.declared.reason.Reason.{Reason}
 use Rattle.pc_conditions.specs.declared.condition.Condition.TheVariants as asks
 
--- ---- whether it holds
+-- ---- whether a condition holds
 
 -- It is there, and has this property.
 abbrev pub on : {A : Type 0} → Option A → (A → Bool) → Bool
@@ -35,7 +35,7 @@ abbrev pub is_there : {A : Type 0} → Option A → Bool
 is_there None = false
 is_there (Some a) = true
 
--- A U64 or a Bool, and besides a String.
+-- A U64 or a Bool, and in addition a String.
 abbrev pub is_printable : Ty → Bool
 is_printable v = nat_eq v.0 u64 || nat_eq v.0 bool
 
@@ -81,12 +81,12 @@ abbrev pub first_false : (Condition → Bool) → List Condition → Option Cond
 first_false holds [] = None
 first_false holds (c ∷ cs) = if holds c then first_false holds cs else Some c
 
--- The first thing that a rule asks of node x and that does not hold.
+-- The first condition of a rule that does not hold for node x.
 abbrev pub failing : CoreData → Slots → List Note → Node → Masks → Rule → Option Condition
 failing core slots ns x m r = first_false (holds_of core slots ns x m) (conditions core slots ns x r x.kind)
 
--- What shows that a rule says nothing of node n, with these masks before it, because of a condition: the rule is looked at,
--- all that it asks before the condition holds, and the condition does not.
+-- Evidence that a rule does not apply to node n, with these masks before it, because of a condition: the rule is
+-- considered, all earlier conditions hold, and this one does not.
 pub record Because (core : CoreData) (ann : Ann) (n : ℕ) (m : Masks) (r : Rule) (c : Condition) : Type 0 where
   pub at : Node
   pub is_at : slice_get core.nodes n ≡ Some at
@@ -97,7 +97,7 @@ pub record Because (core : CoreData) (ann : Ann) (n : ℕ) (m : Masks) (r : Rule
 
 -- ---- all rules for a node
 
--- Why a rule says nothing, if it is looked at.
+-- Why a rule does not apply, if it is considered.
 abbrev pub failure : CoreData → Slots → List Note → Node → Masks → Rule → Option Condition
 failure core slots ns x m r = if chosen core ns x r x.kind then failing core slots ns x m r else None
 
@@ -105,16 +105,17 @@ abbrev pub reason_of : Rule → Option Condition → List Reason → List Reason
 reason_of r None more = more
 reason_of r (Some c) more = record { rule = r; condition = c } ∷ more
 
--- Of these rules, in order, those that are looked at and ask something that does not hold, each with the first of it.
+-- Those of these rules, in order, that are considered and have a condition that does not hold, each with the first such
+-- condition.
 abbrev pub reasons_among : CoreData → Slots → List Note → Node → Masks → List Rule → List Reason
 reasons_among core slots ns x m [] = []
 reasons_among core slots ns x m (r ∷ rs) = reason_of r (failure core slots ns x m r) (reasons_among core slots ns x m rs)
 
--- Of the rules for node x.
+-- The same for the rules for node x.
 abbrev pub reasons : CoreData → Slots → List Note → Node → Masks → List Reason
 reasons core slots ns x m = reasons_among core slots ns x m (rules_for x.kind)
 
--- The same in an annotation, which has the notes of the children. There is none where one of them has no note.
+-- The same in an annotation, which has the notes of the children. None if one of them has no note.
 abbrev pub reasons_at : CoreData → Ann → Node → Masks → Option (List Reason)
 reasons_at core ann x m = do
   ns ← notes_of ann.notes x.children

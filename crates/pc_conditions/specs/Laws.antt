@@ -1,4 +1,4 @@
--- What the conditions of the rules say.
+-- Laws of the conditions of the rules.
 use Rattle.std.specs.Prelude.{◌≡◌, ◌≢◌, ◌⊎◌, ◌↔◌, ℕ, ◌<◌, List, [], length, Some, None, true, false, slice_get}
 use Rattle.pc_ann.specs.declared.annotation.Ann.{Ann}
 use Rattle.pc_ann.specs.declared.annotation.Note.{Note}
@@ -17,14 +17,14 @@ use Rattle.pc_conditions.specs.Chosen.{chosen}
 use Rattle.pc_conditions.specs.Failing.{Because, failing, reasons, reasons_at}
 use Rattle.pc_conditions.specs.declared.condition.Condition.{Condition}
 
--- The notes of the nodes before n, each met from the masks that reach it.
+-- The notes of the nodes before n, each of which satisfies its rule from the masks that reach it.
 pub record Prefix (core : CoreData) (ann : Ann) (n : ℕ) : Type 0 where
   pub slots : length ann.slots ≡ length core.slots
   pub written : KeepsWritten core ann
   pub before : (k : ℕ) → k < n → MeetsReached core ann k
 
--- A node that was come to: its masks, and the notes of its children. The type of a slot that the node defines is the one
--- that follows from its value.
+-- A node that was reached: its masks, and the notes of its children. The type of a slot that the node defines is the
+-- one that follows from its value.
 pub record Reached (core : CoreData) (ann : Ann) (n : ℕ) (x : Node) (m : Masks) (ns : List Note) : Type 0 where
   pub formed : Formed core
   pub prefix : Prefix core ann n
@@ -32,36 +32,36 @@ pub record Reached (core : CoreData) (ann : Ann) (n : ℕ) (x : Node) (m : Masks
   pub reaches : Reaches core ann n m
   pub are_children : notes_of ann.notes x.children ≡ Some ns
 
--- The conditions are the rule: a rule for a node says nothing of it exactly where it is not looked at or one of its
--- conditions fails.
+-- The conditions are the rule: a rule for a node does not apply to it iff it is not considered or one of its conditions
+-- fails.
 abbrev pub ConditionsAreTheRule : Type 0
 ConditionsAreTheRule =
     (core : CoreData) (ann : Ann) (n : ℕ) (x : Node) (m : Masks) (ns : List Note) (r : Rule) → Reached core ann n x m ns → Has (rules_for x.kind) r
     → let slots = (with_inferred core ann x).slots in
     (rule_says core slots ns x m r x.kind ≡ None) ↔ ((chosen core ns x r x.kind ≡ false) ⊎ ((c : Condition) × (failing core slots ns x m r ≡ Some c)))
 
--- And so they are the rule's record: it holds of some note of the node exactly where the rule is looked at and all its
--- conditions hold.
+-- So they are the rule's record: it holds for some note of the node iff the rule is considered and all its conditions
+-- hold.
 abbrev pub ConditionsAreTheRecord : Type 0
 ConditionsAreTheRecord =
     (core : CoreData) (ann : Ann) (n : ℕ) (x : Node) (m : Masks) (ns : List Note) (r : Rule) → Reached core ann n x m ns → Has (rules_for x.kind) r
     → let slots = (with_inferred core ann x).slots in
     ((own : Note) × (before own ≡ m) × Means core slots own ns x r x.kind) ↔ ((chosen core ns x r x.kind ≡ true) × (failing core slots ns x m r ≡ None))
 
--- Where no rule says anything, each rule that is looked at has one condition that it fails by.
+-- If no rule applies, each rule that is considered has one condition by which it fails.
 abbrev pub EachRuleFails : Type 0
 EachRuleFails =
     (core : CoreData) (ann : Ann) (n : ℕ) (r : Rule) (ns : List Note) → Formed core → (stop : NoRule core ann n) → Has (rules_for stop.at.kind) r
     → notes_of ann.notes stop.at.children ≡ Some ns → chosen core ns stop.at r stop.at.kind ≡ true
     → (c : Condition) × Because core (with_inferred core ann stop.at) n stop.masks r c
 
--- And one of them is looked at, so there is a reason.
+-- One rule is considered, so there is a reason.
 abbrev pub SomeReason : Type 0
 SomeReason =
     (core : CoreData) (ann : Ann) (n : ℕ) (ns : List Note) → Formed core → (stop : NoRule core ann n) → notes_of ann.notes stop.at.children ≡ Some ns
     → reasons core (with_inferred core ann stop.at).slots ns stop.at stop.masks ≢ []
 
--- A core has one node without a rule, and the reasons are the same whichever notes show it.
+-- A core has one node to which no rule applies, and the reasons are the same whichever notes lead to it.
 abbrev pub OneExplanation : Type 0
 OneExplanation =
     (core : CoreData) (a b : Ann) (n k : ℕ) → Formed core → (p : NoRule core a n) → (q : NoRule core b k)

@@ -1,4 +1,4 @@
-//! The first thing that a rule asks of a node and that does not hold.
+//! The first condition of a rule that does not hold for a node.
 ghost use Rattle.std.specs.Prelude.{◌≡◌, ◌∷◌, ◌++◌, [], slice_get};
 ghost use Rattle.pc_ann.specs.declared.annotation.Rule.TheVariants as rule;
 ghost use Rattle.pc_core.specs.declared.nodes.NodeKind.TheVariants as node;
@@ -35,7 +35,7 @@ fn first_false(site: &Site, asked: &[Condition]) -> Option<Condition>
     None
 }
 
-// What is asked of arguments that go to these parameters.
+// What is required of arguments that go to these parameters.
 fn argument_failing(site: &Site, params: &[ParamInfo]) -> Option<Condition>
     ensures { result ≡ spec.first_false (spec.holds_of site.now.core.now site.now.slots.now site.now.children.now site.now.node.now (site.now.live, site.now.set)) (asked_is.arguments_go 0 params.now) }
 {
@@ -58,7 +58,7 @@ fn argument_failing(site: &Site, params: &[ParamInfo]) -> Option<Condition>
     None
 }
 
-// The same, and that there are as many.
+// The same, and that their number is right.
 fn arguments_failing(site: &Site, count: usize, params: &[ParamInfo]) -> Option<Condition>
     ensures { result ≡ spec.first_false (spec.holds_of site.now.core.now site.now.slots.now site.now.children.now site.now.node.now (site.now.live, site.now.set)) (asked_is.all_go count params.now) }
 {
@@ -69,7 +69,7 @@ fn arguments_failing(site: &Site, count: usize, params: &[ParamInfo]) -> Option<
     }
 }
 
-// What is asked of arguments beside a receiver that is lent.
+// What is required of arguments along with a receiver that is lent.
 fn sent_failing(site: &Site, params: &[ParamInfo]) -> Option<Condition>
     ensures { result ≡ spec.first_false (spec.holds_of site.now.core.now site.now.slots.now site.now.children.now site.now.node.now (site.now.live, site.now.set)) (asked_is.arguments_sent 0 params.now) }
 {
@@ -84,7 +84,7 @@ fn sent_failing(site: &Site, params: &[ParamInfo]) -> Option<Condition>
     None
 }
 
-// What is asked of a field that is read.
+// What is required for reading a field.
 fn get_failing(site: &Site, name: u32) -> Option<Condition>
     ensures { result ≡ spec.first_false (spec.holds_of site.now.core.now site.now.slots.now site.now.children.now site.now.node.now (site.now.live, site.now.set)) (asked_is.conditions site.now.core.now site.now.slots.now site.now.children.now site.now.node.now rule.Get (node.Field name)) }
 {
@@ -98,7 +98,7 @@ fn get_failing(site: &Site, name: u32) -> Option<Condition>
     }
 }
 
-// What is asked of a field of `this` that is read before all are set.
+// What is required for reading a field of `this` before all are set.
 fn get_own_failing(site: &Site, name: u32) -> Option<Condition>
     ensures { result ≡ spec.first_false (spec.holds_of site.now.core.now site.now.slots.now site.now.children.now site.now.node.now (site.now.live, site.now.set)) (asked_is.conditions site.now.core.now site.now.slots.now site.now.children.now site.now.node.now rule.GetOwn (node.Field name)) }
 {
@@ -112,7 +112,7 @@ fn get_own_failing(site: &Site, name: u32) -> Option<Condition>
     }
 }
 
-// What is asked of the field that is written, once it is found.
+// What is required of the field that is written, once it is found.
 fn written_failing(site: &Site, field: FieldInfo) -> Option<Condition>
     ensures { result ≡ spec.first_false (spec.holds_of site.now.core.now site.now.slots.now site.now.children.now site.now.node.now (site.now.live, site.now.set)) (asked_is.put_of (0, field)) }
 {
@@ -128,7 +128,7 @@ fn written_failing(site: &Site, field: FieldInfo) -> Option<Condition>
     )
 }
 
-// What is asked of a field that is written.
+// What is required for writing a field.
 fn put_failing(site: &Site, name: u32) -> Option<Condition>
     ensures { result ≡ spec.first_false (spec.holds_of site.now.core.now site.now.slots.now site.now.children.now site.now.node.now (site.now.live, site.now.set)) (asked_is.conditions site.now.core.now site.now.slots.now site.now.children.now site.now.node.now rule.Put (node.SetField name)) }
 {
@@ -149,7 +149,7 @@ fn put_failing(site: &Site, name: u32) -> Option<Condition>
     }
 }
 
-// What is asked of the own field, once it is found.
+// What is required of the own field, once it is found.
 fn own_written_failing(site: &Site, index: u32, field: FieldInfo) -> Option<Condition>
     ensures { result ≡ spec.first_false (spec.holds_of site.now.core.now site.now.slots.now site.now.children.now site.now.node.now (site.now.live, site.now.set)) (asked_is.put_own_of (index, field)) }
 {
@@ -164,7 +164,7 @@ fn own_written_failing(site: &Site, index: u32, field: FieldInfo) -> Option<Cond
     )
 }
 
-// What is asked of a field of `this` that is written before all are set.
+// What is required for writing a field of `this` before all are set.
 fn put_own_failing(site: &Site, name: u32) -> Option<Condition>
     ensures { result ≡ spec.first_false (spec.holds_of site.now.core.now site.now.slots.now site.now.children.now site.now.node.now (site.now.live, site.now.set)) (asked_is.conditions site.now.core.now site.now.slots.now site.now.children.now site.now.node.now rule.PutOwn (node.SetField name)) }
 {
@@ -178,7 +178,7 @@ fn put_own_failing(site: &Site, name: u32) -> Option<Condition>
     }
 }
 
-// What is asked of a definition.
+// What is required of a definition.
 fn define_failing(site: &Site, slot: u32) -> Option<Condition>
     ensures { result ≡ spec.first_false (spec.holds_of site.now.core.now site.now.slots.now site.now.children.now site.now.node.now (site.now.live, site.now.set)) (asked_is.conditions site.now.core.now site.now.slots.now site.now.children.now site.now.node.now rule.Define (node.Define slot)) }
 {
@@ -195,7 +195,7 @@ fn define_failing(site: &Site, slot: u32) -> Option<Condition>
     }
 }
 
-// What is asked of an assignment.
+// What is required of an assignment.
 fn assign_failing(site: &Site, slot: u32) -> Option<Condition>
     ensures { result ≡ spec.first_false (spec.holds_of site.now.core.now site.now.slots.now site.now.children.now site.now.node.now (site.now.live, site.now.set)) (asked_is.conditions site.now.core.now site.now.slots.now site.now.children.now site.now.node.now rule.Assign (node.Assign slot)) }
 {
@@ -221,7 +221,7 @@ fn assign_failing(site: &Site, slot: u32) -> Option<Condition>
     }
 }
 
-// What is asked of a constructor.
+// What is required of a constructor call.
 fn new_failing(site: &Site, method: u32) -> Option<Condition>
     ensures { result ≡ spec.first_false (spec.holds_of site.now.core.now site.now.slots.now site.now.children.now site.now.node.now (site.now.live, site.now.set)) (asked_is.conditions site.now.core.now site.now.slots.now site.now.children.now site.now.node.now rule.New (node.New method)) }
 {
@@ -231,7 +231,7 @@ fn new_failing(site: &Site, method: u32) -> Option<Condition>
     }
 }
 
-// What is asked of the function that is called, once it is found.
+// What is required of the function that is called, once it is found.
 #[tactic(auto, using(crate::proofs::Firsts::first_of_both))]
 fn called_failing(site: &Site, receiver: usize, method: &Method) -> Option<Condition>
     ensures { result ≡ spec.first_false (spec.holds_of site.now.core.now site.now.slots.now site.now.children.now site.now.node.now (site.now.live, site.now.set)) (asked_is.call_of receiver method.now) }
@@ -247,7 +247,7 @@ fn called_failing(site: &Site, receiver: usize, method: &Method) -> Option<Condi
     first_false(site, &[Condition::Fits(receiver, method.receiver)])
 }
 
-// What is asked of the receiver of a call that lends it.
+// What is required of the receiver of a call that lends it.
 fn lent_failing(site: &Site, receiver: usize, method: &Method) -> Option<Condition>
     ensures { result ≡ spec.first_false (spec.holds_of site.now.core.now site.now.slots.now site.now.children.now site.now.node.now (site.now.live, site.now.set)) (asks.Unfit receiver method.now.receiver ∷ asks.Isolated receiver ∷ asks.Lent method.now.receiver ∷ asked_is.arguments_sent 0 method.now.params) }
 {
@@ -265,7 +265,7 @@ fn lent_failing(site: &Site, receiver: usize, method: &Method) -> Option<Conditi
     sent_failing(site, method.params.as_slice())
 }
 
-// What is asked of the function that the receiver is lent to, once it is found.
+// What is required of the function to which the receiver is lent, once it is found.
 #[tactic(auto, using(crate::proofs::Firsts::first_of_both))]
 fn recovered_failing(site: &Site, receiver: usize, method: &Method) -> Option<Condition>
     ensures { result ≡ spec.first_false (spec.holds_of site.now.core.now site.now.slots.now site.now.children.now site.now.node.now (site.now.live, site.now.set)) (asked_is.call_recover_of receiver method.now) }
@@ -281,7 +281,7 @@ fn recovered_failing(site: &Site, receiver: usize, method: &Method) -> Option<Co
     lent_failing(site, receiver, method)
 }
 
-// What is asked of the behaviour that a message is for, once it is found.
+// What is required of the behaviour to which a message is sent, once it is found.
 fn sent_to_failing(site: &Site, receiver: usize, method: &Method) -> Option<Condition>
     ensures { result ≡ spec.first_false (spec.holds_of site.now.core.now site.now.slots.now site.now.children.now site.now.node.now (site.now.live, site.now.set)) (asked_is.send_of receiver method.now) }
 {
@@ -292,7 +292,7 @@ fn sent_to_failing(site: &Site, receiver: usize, method: &Method) -> Option<Cond
     arguments_failing(site, receiver, method.params.as_slice())
 }
 
-// What is asked of a call.
+// What is required of a call.
 fn call_failing(site: &Site, name: u32) -> Option<Condition>
     ensures { result ≡ spec.first_false (spec.holds_of site.now.core.now site.now.slots.now site.now.children.now site.now.node.now (site.now.live, site.now.set)) (asked_is.conditions site.now.core.now site.now.slots.now site.now.children.now site.now.node.now rule.Call (node.Call name)) }
 {
@@ -310,7 +310,7 @@ fn call_failing(site: &Site, name: u32) -> Option<Condition>
     }
 }
 
-// What is asked of a call whose receiver is lent.
+// What is required of a call whose receiver is lent.
 fn call_recover_failing(site: &Site, name: u32) -> Option<Condition>
     ensures { result ≡ spec.first_false (spec.holds_of site.now.core.now site.now.slots.now site.now.children.now site.now.node.now (site.now.live, site.now.set)) (asked_is.conditions site.now.core.now site.now.slots.now site.now.children.now site.now.node.now rule.CallRecover (node.Call name)) }
 {
@@ -328,7 +328,7 @@ fn call_recover_failing(site: &Site, name: u32) -> Option<Condition>
     }
 }
 
-// What is asked of a message.
+// What is required of a message.
 fn send_failing(site: &Site, name: u32) -> Option<Condition>
     ensures { result ≡ spec.first_false (spec.holds_of site.now.core.now site.now.slots.now site.now.children.now site.now.node.now (site.now.live, site.now.set)) (asked_is.conditions site.now.core.now site.now.slots.now site.now.children.now site.now.node.now rule.Send (node.Call name)) }
 {
@@ -346,7 +346,7 @@ fn send_failing(site: &Site, name: u32) -> Option<Condition>
     }
 }
 
-// What is asked of the text of a number or of a truth value.
+// What is required for the text of a number or of a truth value.
 fn builtin_failing(site: &Site) -> Option<Condition>
     ensures { result ≡ spec.first_false (spec.holds_of site.now.core.now site.now.slots.now site.now.children.now site.now.node.now (site.now.live, site.now.set)) (asks.Counted (asked_is.receiver_index site.now.children.now) 0 ∷ asks.Typed 0 ∷ asks.Printable 0 ∷ asks.Readable 0 ∷ []) }
 {
@@ -375,7 +375,7 @@ fn read_failing(site: &Site, child: usize, entity: u32) -> Option<Condition>
     )
 }
 
-// Whether both sides are.
+// Whether both sides are such values.
 fn both_failing(site: &Site, entity: u32) -> Option<Condition>
     ensures { result ≡ spec.first_false (spec.holds_of site.now.core.now site.now.slots.now site.now.children.now site.now.node.now (site.now.live, site.now.set)) (asked_is.both_read entity) }
 {
@@ -386,7 +386,7 @@ fn both_failing(site: &Site, entity: u32) -> Option<Condition>
     read_failing(site, 1, entity)
 }
 
-// What is asked of `==` and `!=`.
+// What is required of `==` and `!=`.
 fn equal_failing(site: &Site) -> Option<Condition>
     ensures { result ≡ spec.first_false (spec.holds_of site.now.core.now site.now.slots.now site.now.children.now site.now.node.now (site.now.live, site.now.set)) (asks.Typed 0 ∷ asks.Comparable 0 ∷ asks.Readable 0 ∷ asked_is.of_found (type_is site.now.children.now 0) asked_is.same_read) }
 {
@@ -406,7 +406,7 @@ fn equal_failing(site: &Site) -> Option<Condition>
     }
 }
 
-// What is asked of a loop.
+// What is required of a loop.
 fn while_failing(site: &Site) -> Option<Condition>
     ensures { result ≡ spec.first_false (spec.holds_of site.now.core.now site.now.slots.now site.now.children.now site.now.node.now (site.now.live, site.now.set)) (asked_is.reads 0 asked_is.bool ++ asks.KeepsLive ∷ asks.KeepsSet ∷ []) }
 {
@@ -422,7 +422,7 @@ fn while_failing(site: &Site) -> Option<Condition>
     )
 }
 
-// What is asked of a method's body.
+// What is required at the end of a method's body.
 fn ended_failing(site: &Site, method: &Method) -> Option<Condition>
     ensures { result ≡ spec.first_false (spec.holds_of site.now.core.now site.now.slots.now site.now.children.now site.now.node.now (site.now.live, site.now.set)) (asked_is.body_of method.now) }
 {
@@ -440,7 +440,7 @@ fn ended_failing(site: &Site, method: &Method) -> Option<Condition>
     }
 }
 
-// What is asked of the body of a method.
+// What is required of the body of a method.
 fn body_failing(site: &Site) -> Option<Condition>
     ensures { result ≡ spec.first_false (spec.holds_of site.now.core.now site.now.slots.now site.now.children.now site.now.node.now (site.now.live, site.now.set)) (asked_is.of_found (slice_get site.now.core.now.methods site.now.node.now.method) asked_is.body_of) }
 {
@@ -450,7 +450,7 @@ fn body_failing(site: &Site) -> Option<Condition>
     }
 }
 
-/// The first thing that the rule asks of the node and that does not hold. `None` also if the rule is none for such nodes.
+/// The first condition of the rule that does not hold for the node. `None` also if the rule is not one for such nodes.
 pub(crate) fn failing(site: &Site, rule: Rule) -> Option<Condition>
     ensures { result ≡ spec.failing site.now.core.now site.now.slots.now site.now.children.now site.now.node.now (site.now.live, site.now.set) rule }
 {

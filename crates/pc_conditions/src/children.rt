@@ -1,4 +1,4 @@
-//! The types of the children, and the masks behind them.
+//! The types of the children, and the masks after them.
 ghost use Rattle.std.specs.Prelude.{◌≡◌, slice_get};
 ghost use Rattle.pc_rules.specs.Calls.{called as called_is};
 ghost use Rattle.pc_rules.specs.Children.{type_at as type_is};
@@ -11,14 +11,14 @@ use pc_caps::Form;
 use pc_core::{Core, Method};
 use pc_masks::Mask;
 
-/// The note of the child of this index.
+/// The note of the child with this index.
 pub(crate) fn note_at(children: &[Note], index: usize) -> Option<Note>
     ensures { result ≡ slice_get children.now index }
 {
     children.get(index).copied()
 }
 
-/// The type of the child of this index, or none.
+/// The type of the child with this index, or none.
 pub(crate) fn type_at(children: &[Note], index: usize) -> Option<(u32, Form)>
     ensures { result ≡ type_is children.now index }
 {
@@ -33,14 +33,14 @@ pub(crate) fn receiver_index(children: &[Note]) -> usize
     children.len().saturating_sub(1)
 }
 
-// Whether a node of this note starts from these masks.
+// Whether a node with this note starts from these masks.
 fn starts(note: Note, masks: (Mask, Mask)) -> bool
     ensures { result ≡ parts.starts note masks }
 {
     note.live_before == masks.0 && note.set_before == masks.1
 }
 
-/// The masks behind the children, one evaluated after the other from these masks on.
+/// The masks after the children, evaluated one after the other from these masks on.
 pub(crate) fn through_children(children: &[Note], masks: (Mask, Mask)) -> Option<(Mask, Mask)>
     ensures { result ≡ parts.through_notes children.now masks }
 {
@@ -54,7 +54,7 @@ pub(crate) fn through_children(children: &[Note], masks: (Mask, Mask)) -> Option
     Some(reached)
 }
 
-// The number of the method of this name of the receiver's entity, with the receiver's type.
+// The number of the method with this name of the receiver's entity, with the receiver's type.
 fn called(core: &Core, children: &[Note], name: u32) -> Option<((u32, Form), u32)>
     ensures { result ≡ called_is core.now children.now name }
 {
@@ -63,7 +63,7 @@ fn called(core: &Core, children: &[Note], name: u32) -> Option<((u32, Form), u32
     Some((origin, method))
 }
 
-/// The method of this name of the receiver's entity.
+/// The method with this name of the receiver's entity.
 pub(crate) fn callee<'a>(core: &'a Core, children: &[Note], name: u32) -> Option<&'a Method>
     ensures { option_copied result ≡ callee_is core.now children.now name }
 {

@@ -1,4 +1,4 @@
-//! Which rules are looked at for a node.
+//! Which rules are considered for a node.
 ghost use Rattle.std.specs.Prelude.{◌≡◌, slice_get};
 ghost use Rattle.pc_rules.specs.Calls as calls;
 ghost use Rattle.pc_rules.specs.Operators as operators;
@@ -100,7 +100,7 @@ fn is_xor(op: Op) -> bool
     matches!(op, Op::Xor)
 }
 
-/// Whether the rule is looked at for this node.
+/// Whether the rule is considered for this node.
 pub(crate) fn chosen(site: &Site, rule: Rule) -> bool
     ensures { result ≡ spec.chosen site.now.core.now site.now.children.now site.now.node.now rule site.now.node.now.kind }
 {

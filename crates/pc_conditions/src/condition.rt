@@ -1,9 +1,9 @@
-//! What a rule asks of a node, one thing at a time.
+//! What a rule requires of a node, one condition at a time.
 
 use pc_caps::{Cap, Form};
 use pc_core::MethodKind;
 
-/// One thing that a rule asks of a node. A child is named by its index among the node's children; of a call the arguments
+/// One condition of a rule on a node. A child is given by its index among the node's children; for a call the arguments
 /// come first, and then the receiver.
 #[derive(Clone, Copy, Debug, PartialEq, Eq)]
 pub enum Condition {
@@ -23,29 +23,29 @@ pub enum Condition {
     Printable(usize),
     /// Its form is readable.
     Readable(usize),
-    /// The slot of this index is live.
+    /// The slot with this index is live.
     Live(u32),
-    /// The slot is reachable: no `recover` stands between it and the node, or its capability is sendable.
+    /// The slot is reachable: there is no `recover` between it and the node, or its capability is sendable.
     Reached(u32),
     /// The slot is a `var`.
     Variable(u32),
-    /// The child's entity has a field of this name.
+    /// The child's entity has a field with this name.
     HasField(usize, u32),
-    /// The own entity has a field of this name.
+    /// The own entity has a field with this name.
     HasOwnField(u32),
-    /// Through the child a field of this capability is seen in some form.
+    /// A field of this capability is seen in some form through the child.
     Seen(usize, Cap),
     /// The field is a `var`: its `fixed` is this.
     NotFixed(bool),
-    /// Through the child a field of this capability is written at all.
+    /// A field of this capability can be written at all through the child.
     Writable(usize, Cap),
     /// The first child may be written into a field of this capability of the second.
     Enters(Cap),
-    /// The own field of this index is set after the children.
+    /// The own field with this index is set after the children.
     Set(u32),
-    /// The own field of this index is a `var`, by its `fixed`, or is not set after the children.
+    /// The own field with this index is a `var`, by its `fixed`, or is not set after the children.
     SetOnce(bool, u32),
-    /// The receiver's entity has a method of this name.
+    /// The receiver's entity has a method with this name.
     HasMethod(u32),
     /// A method of this kind is a function.
     Function(MethodKind),
@@ -57,7 +57,7 @@ pub enum Condition {
     Unfit(usize, Cap),
     /// Its form is `iso` or `trn`.
     Isolated(usize),
-    /// A receiver of this capability is one that can be lent: `ref` or `box`.
+    /// A receiver of this capability can be lent: `ref` or `box`.
     Lent(Cap),
     /// The child has a sendable form, or goes to a parameter of this sendable capability.
     Sent(usize, Cap),

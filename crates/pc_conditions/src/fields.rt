@@ -28,7 +28,7 @@ pub(crate) fn own_field(core: &Core, node: &Node, name: u32) -> Option<(u32, Fie
     field_of(core, method.entity, name)
 }
 
-/// The field of this name of the child's entity.
+/// The field with this name of the child's entity.
 pub(crate) fn child_field(
     core: &Core,
     children: &[Note],
@@ -59,7 +59,7 @@ fn last_note(children: &[Note]) -> Option<Note>
     children.get(children.len().saturating_sub(1)).copied()
 }
 
-// The set mask of a node's last child, where that is `this`.
+// The set mask of a node's last child, if that is `this`.
 fn own_set(core: &Core, numbers: &[u32], children: &[Note]) -> Option<Mask>
     ensures { result ≡ spec.own_set core.now numbers.now children.now }
 {
@@ -82,7 +82,7 @@ fn lacks_fields(core: &Core, entity: u32, set: Option<Mask>) -> bool
     }
 }
 
-/// Whether the node is one of a constructor that has not set all fields yet.
+/// Whether the node is in a constructor that has not set all fields yet.
 pub(crate) fn incomplete(core: &Core, children: &[Note], node: &Node) -> bool
     ensures { result ≡ spec.incomplete core.now children.now node.now }
 {

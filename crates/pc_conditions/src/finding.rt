@@ -1,4 +1,4 @@
-//! Why each rule for a node says nothing.
+//! Why each rule for a node does not apply.
 ghost use Rattle.std.specs.Prelude.{◌≡◌, IfOk};
 ghost use Rattle.pc_conditions.specs.Failing as spec;
 
@@ -12,7 +12,7 @@ use pc_caps::List;
 use pc_check::rules_for;
 use std::alloc::{AllocError, Global};
 
-// Why the rule says nothing, if it is looked at.
+// Why the rule does not apply, if it is considered.
 fn failure(site: &Site, rule: Rule) -> Option<Condition>
     ensures { result ≡ spec.failure site.now.core.now site.now.slots.now site.now.children.now site.now.node.now (site.now.live, site.now.set) rule }
 {
@@ -23,8 +23,8 @@ fn failure(site: &Site, rule: Rule) -> Option<Condition>
     }
 }
 
-/// Why no rule says anything of the node: of the rules for it, in their order, each that is looked at and asks something that
-/// does not hold, with the first thing that it asks and that does not.
+/// Why no rule applies to the node: of the rules for it, in order, each that is considered and has a condition that
+/// does not hold, with the first such condition.
 pub fn reasons(alloc: Global, site: &Site) -> Result<List<Reason>, AllocError>
     ensures { IfOk result (λ found. found ≡ spec.reasons site.now.core.now site.now.slots.now site.now.children.now site.now.node.now (site.now.live, site.now.set)) }
 {

@@ -50,7 +50,7 @@ fn is_lent(cap: Cap) -> bool
     matches!(cap, Cap::Ref | Cap::Box)
 }
 
-// Whether a recover gives a value of this body.
+// Whether a recover with this body gives a value.
 fn is_lifted(written: Option<Cap>, body: Form) -> bool
     ensures { result ≡ spec.is_there (recovered_is written body) }
 {
@@ -97,7 +97,7 @@ fn slot_in(site: &Site, slot: u32) -> Option<(Slot, (u32, Cap))>
     slot_of(site.core, site.slots, site.node.method, slot)
 }
 
-/// Whether the condition holds of the node.
+/// Whether the condition holds for the node.
 pub(crate) fn holds(site: &Site, condition: Condition) -> bool
     ensures { result ≡ spec.holds_of site.now.core.now site.now.slots.now site.now.children.now site.now.node.now (site.now.live, site.now.set) condition }
 {

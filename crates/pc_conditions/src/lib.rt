@@ -1,10 +1,11 @@
-//! Why no rule says anything of a node: what each rule asks of it, one thing after the other, and the first that does not hold.
+//! Why no rule applies to a node: what each rule requires of it, one condition after the other, and the first that does
+//! not hold.
 //!
-//! Proved: `reasons` gives, of the rules for a node, in order, each that is looked at and fails, with the first condition of it
-//! that does not hold. With the masks that reach a node, the conditions are the rule and its record, of all 31 rules and in both
-//! directions (`conditions_are_the_rule`, `conditions_are_the_record`). Where no rule says anything, each that is looked at fails
-//! by one condition (`each_rule_fails`), one is looked at (`there_is_a_reason`), and the node, the masks and the reasons are the
-//! same whichever notes show them (`one_explanation`).
+//! Proved: `reasons` returns, of the rules for a node, in order, each that is considered and fails, with its first
+//! condition that does not hold. With the masks that reach a node, the conditions are the rule and its record, for all
+//! 31 rules and in both directions (`conditions_are_the_rule`, `conditions_are_the_record`). If no rule applies, each
+//! that is considered fails by one condition (`each_rule_fails`), one is considered (`there_is_a_reason`), and the
+//! node, the masks and the reasons are the same whichever notes lead to them (`one_explanation`).
 #![tactic(auto)]
 
 mod asking;

@@ -1,9 +1,9 @@
-//! Why a rule says nothing of a node.
+//! Why a rule does not apply to a node.
 
 use crate::condition::Condition;
 use pc_ann::Rule;
 
-/// A rule that says nothing of a node, and the first thing that it asks and that does not hold.
+/// A rule that does not apply to a node, and the first of its conditions that does not hold.
 #[derive(Clone, Copy, Debug, PartialEq, Eq)]
 pub struct Reason {
     pub rule: Rule,

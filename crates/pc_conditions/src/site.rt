@@ -1,11 +1,11 @@
-//! A node and what stands around it.
+//! A node and its surroundings.
 
 use pc_ann::Note;
 use pc_caps::Cap;
 use pc_core::{Core, Node};
 use pc_masks::Mask;
 
-/// A node of a core, and what the rules look at there.
+/// A node of a core, and what the rules depend on there.
 #[derive(Drop)]
 pub struct Site<'a> {
     pub core: &'a Core,

@@ -15,7 +15,7 @@ past [] i l = refl
 past (x ∷ xs) zero l = absurd (omega (arith, l))
 past (x ∷ xs) (suc i) l = let k : length xs ≤ i = omega (arith, l) in past xs i k
 
--- A mask more leaves those before it.
+-- One more mask leaves those before it as they are.
 front : (set : List Mask) (m : Mask) (i : ℕ) → i < length set → mask_at (set ++ m ∷ []) i ≡ mask_at set i
 front [] m i l = absurd (omega (arith, l))
 front (x ∷ xs) m zero l = refl
@@ -31,7 +31,7 @@ cases i zero = inr (omega arith)
 cases zero (suc n) = inl (omega arith)
 cases (suc i) (suc n) = elim (cases i n) [ inl l ↦ inl (omega (arith, l)) | inr l ↦ inr (omega (arith, l)) ]
 
--- The masks below place n have what both have.
+-- The masks below place n have the bits that both have.
 abbrev pub MetTo : (first second both : List Mask) → ℕ → Type 0
 MetTo first second both n = (i j : ℕ) → i < n → (IsIn (mask_at both i) j) ↔ (IsIn (mask_at first i) j × IsIn (mask_at second i) j)
 

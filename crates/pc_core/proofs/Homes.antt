@@ -1,4 +1,4 @@
--- The method in which a node stands.
+-- The method to which a node belongs.
 use Rattle.std.specs.Prelude.{◌≡◌, ℕ, ◌+◌, ◌-◌, ◌<◌, ◌≤◌, length, Option, Some, None, slice_get, refl}
 use Rattle.std.proofs.Common.{ap, sym, subst, arith}
 use Rattle.pc_lists.proofs.Gets.{map_get, range_get}
@@ -10,7 +10,7 @@ use Rattle.pc_core.specs.Formed.{Formed}
 use Rattle.pc_core.specs.Lookup.{node_end}
 use Rattle.pc_core.specs.Methods.{BodyFits}
 
--- The method with a body in which node n stands.
+-- The method with a body to which node n belongs.
 pub record Home (core : CoreData) (n : ℕ) : Type 0 where
   pub number : ℕ
   pub method : Method
@@ -37,7 +37,7 @@ home core n formed l =
     let high : n < f.first_node + (node_end f.first_node f.body - f.first_node) = subst (λ (z : ℕ × ℕ). n < z.0 + z.1) (sym q.2) r.4 in
     home_in core n r.0 f f.body formed q.1 refl low high
 
--- A node between the first one of a method and its body is of the method.
+-- A node between the first one of a method and its body belongs to the method.
 pub between : (core : CoreData) (m b n : ℕ) (f : Method) (y : Node) → f.body ≡ Some b → BodyFits core m f b → f.first_node ≤ n → n ≤ b → slice_get core.nodes n ≡ Some y → y.method ≡ m
 between core m b n f y has fits from to at =
     let end : node_end f.first_node f.body ≡ b + 1 = ap (node_end f.first_node) has in

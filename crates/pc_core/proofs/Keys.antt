@@ -1,4 +1,4 @@
--- A method's place among the keys of all methods is the one that is found among the methods of its entity.
+-- A method's place among the keys of all methods is the one found among the methods of its entity.
 use Rattle.std.specs.Prelude.{◌≡◌, ℕ, ◌+◌, ◌-◌, ◌<◌, ◌≤◌, Bool, true, false, cond, not, ◌&&◌, suc, List, [], ◌∷◌, length, map, take, nat_eq, nat_lt, Option, Some, None, slice_get, position, refl}
 use Rattle.std.specs.List.{list_any, position_or_len}
 use Rattle.std.proofs.Common.{inl, inr, ap, sym, subst, ◌∙◌, arith}
@@ -78,7 +78,7 @@ met_before ms i m keys added g same_keys a b d =
     let l = before.0 in
     omega (arith, l, same)
 
--- An entity has one method of a name.
+-- An entity has only one method with a given name.
 methods_are_one : (core : CoreData) (entity name i j : ℕ) → Formed core → IsMethod core entity name i → IsMethod core entity name j → i ≡ j
 methods_are_one core entity name i j f h k =
     let a = method_among core i h.0 f h.1 (get_below core.methods i h.0 h.1) in

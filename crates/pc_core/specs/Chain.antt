@@ -1,4 +1,4 @@
--- When an entity is another, or says by `is` that it is one.
+-- When an entity is another one, or is declared by `is` to be one.
 use Rattle.std.specs.Prelude.{◌≡◌, ◌⊎◌, ℕ}
 use Rattle.pc_core.specs.CoreData.{CoreData}
 use Rattle.pc_core.specs.Entities.{Leads}

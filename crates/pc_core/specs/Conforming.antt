@@ -7,7 +7,7 @@ use Rattle.pc_core.specs.Entities.{IsAbstract}
 use Rattle.pc_core.specs.Conforms.{Conforms}
 use Rattle.pc_core.specs.EntitySets.{IsSetOf}
 
--- For each trait and interface, by its number, the set of the entities that conform to it. What is there for another
--- entity is not said.
+-- For each trait and interface, by its number, the set of the entities that conform to it. Nothing is stated about the
+-- places of other entities.
 pub record TellsConforming (core : CoreData) (sets : List (List Mask)) : Type 0 where
   pub tells : Each (λ b set. IsAbstract core b → IsSetOf core (λ e. Conforms core e b) set) sets

@@ -10,12 +10,12 @@ use Rattle.pc_lists.specs.Places.{Each}
 use Rattle.pc_core.specs.Lookup.{own_methods, IsMethod}
 use Rattle.pc_core.specs.Chain.{Chain}
 
--- What a declared method takes at a parameter, the entity's method takes too. Here and below entities are compared by
--- chains of `is` alone, and not by their methods.
+-- A parameter of the entity's method accepts whatever the declared method's parameter accepts. Here and below entities
+-- are compared by chains of `is` alone, not by their methods.
 abbrev pub ParamFits : CoreData → ParamInfo → ParamInfo → Type 0
 ParamFits core p q = Chain core p.entity q.entity × IsBelow (unalias p.cap) (unalias q.cap)
 
--- The entity's method y may stand for the method t of a trait or an interface.
+-- The entity's method y may replace the method t of a trait or an interface.
 pub record StandsFor (core : CoreData) (t y : Method) : Type 0 where
   pub count : length y.params ≡ length t.params
   pub receiver : IsBelow (unalias t.receiver) (unalias y.receiver)
@@ -23,11 +23,11 @@ pub record StandsFor (core : CoreData) (t y : Method) : Type 0 where
   pub entity : Chain core y.result.0 t.result.0
   pub form : IsBelow y.result.1 t.result.1
 
--- The entity has a method of the name and kind of method t, and it may stand for t.
+-- The entity has a method with the name and kind of method t, and it may replace t.
 abbrev pub HasFor : CoreData → ℕ → Method → Type 0
 HasFor core e t = (m : ℕ) × (y : Method) × (IsMethod core e t.name m) × (slice_get core.methods m ≡ Some y) × (y.kind ≡ t.kind) × StandsFor core t y
 
--- An entity conforms to a trait or an interface: it has a method for each of the methods there. To one without methods
--- each entity conforms.
+-- An entity conforms to a trait or an interface: it has a method for each of the methods there. Every entity conforms
+-- to one without methods.
 abbrev pub Conforms : CoreData → (entity above : ℕ) → Type 0
 Conforms core e b = (x : EntityDef) → slice_get core.entities b ≡ Some x → Each (λ i t. HasFor core e t) (own_methods core x)

@@ -1,4 +1,4 @@
--- A core as its lists.
+-- A core as plain lists.
 use Rattle.std.specs.Prelude.{ℕ, List}
 use Rattle.pc_core.specs.declared.declarations.EntityDef.{EntityDef}
 use Rattle.pc_core.specs.declared.declarations.Method.{Method}

@@ -1,4 +1,4 @@
--- What entities are built in, and when an entity fits its core.
+-- The built-in entities, and when an entity fits its core.
 use Rattle.std.specs.Prelude.{◌≡◌, ℕ, true, List, [], ◌∷◌, Some, None, slice_get, codes}
 use Rattle.pc_caps.specs.declared.capability.Cap.{Cap}
 use Rattle.pc_caps.specs.declared.capability.Cap.TheVariants as cap
@@ -15,23 +15,23 @@ use Rattle.pc_core.specs.declared.declarations.MethodKind.TheVariants as method
 use Rattle.pc_core.specs.CoreData.{CoreData}
 use Rattle.pc_lists.specs.Places.{Has}
 
--- Built-in parts stand nowhere in the text.
+-- Built-in parts have no place in the text.
 abbrev pub nowhere : Span
 nowhere = record { start = 0; end = 0 }
 
--- A built-in entity, which names nothing after `is`.
+-- A built-in entity, with no names after `is`.
 abbrev pub built_in : EntityKind → Cap → List ℕ → List FieldInfo → ℕ → EntityDef
 built_in k c name fields methods = record { kind = k; cap = c; name = name; span = nowhere; provides = []; above = []; fields = fields; first_method = 0; methods = methods }
 
--- A value of the language itself.
+-- An entity of literal values.
 abbrev pub built_in_value : List ℕ → EntityDef
 built_in_value name = built_in kind.Primitive cap.Val name [] 0
 
--- The environment's only field, the stream of the program's texts.
+-- The only field of the environment, the stream of the program's output.
 abbrev pub out_field : ℕ → FieldInfo
 out_field name = record { name = name; fixed = true; entity = out_stream_entity; cap = cap.Tag }
 
--- The stream's only method, a behaviour that takes a text.
+-- The only method of the stream, a behaviour that takes a text.
 abbrev pub print_method : ℕ → Method
 print_method name = record {
   entity = out_stream_entity;
@@ -47,7 +47,7 @@ print_method name = record {
   span = nowhere;
 }
 
--- The first six entities and the first method are those of the language.
+-- The first six entities and the first method are the built-in ones.
 pub record HasBuiltIn (core : CoreData) : Type 0 where
   pub none : slice_get core.entities none_entity ≡ Some (built_in_value (codes "None"))
   pub numbers : slice_get core.entities u64_entity ≡ Some (built_in_value (codes "U64"))
@@ -69,7 +69,7 @@ IsAbstract core e = (x : EntityDef) × (slice_get core.entities e ≡ Some x) ×
 abbrev pub Names : CoreData → (entity above : ℕ) → Type 0
 Names core a b = (x : EntityDef) × (slice_get core.entities a ≡ Some x) × Has x.provides b
 
--- A chain of at least one `is` leads from an entity to another.
+-- A chain of one or more `is` leads from one entity to another.
 pub data Leads (core : CoreData) : (entity above : ℕ) → Type 0 where
   one : {a b : ℕ} → Names core a b → Leads core a b
   more : {a b c : ℕ} → Names core a b → Leads core b c → Leads core a c

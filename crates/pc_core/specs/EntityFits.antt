@@ -14,7 +14,7 @@ use Rattle.pc_lists.specs.Places.{Each, Has, Differ, Ascends}
 use Rattle.pc_core.specs.Lookup.{own_methods, field_name, method_name}
 use Rattle.pc_core.specs.Entities.{IsAbstract, Leads}
 
--- The actor with which a program begins: `create` takes the environment.
+-- The actor with which a program starts: its `create` takes the environment.
 pub record HasMain (core : CoreData) : Type 0 where
   pub entity : ℕ
   pub main : EntityDef
@@ -44,5 +44,5 @@ pub record EntityFits (core : CoreData) (e : ℕ) (x : EntityDef) : Type 0 where
   pub fields : Each (λ i f. (f.name < length core.names) × (f.entity < length core.entities)) x.fields
   -- the names of its fields and methods differ
   pub names : Differ (map field_name x.fields ++ map method_name (own_methods core x))
-  -- its methods name it
+  -- its methods belong to it
   pub methods : Each (λ i m. m.entity ≡ e) (own_methods core x)

@@ -4,11 +4,11 @@ use Rattle.pc_masks.specs.Masks.{IsIn, empty}
 use Rattle.pc_masks.specs.declared.mask.Mask.{Mask}
 use Rattle.pc_core.specs.CoreData.{CoreData}
 
--- how many entities a mask has a bit for
+-- for how many entities a mask has a bit
 abbrev pub mask_bits : ℕ
 mask_bits = 64
 
--- The mask at a place. Past the last one it is empty.
+-- The mask at a place; past the last one it is empty.
 abbrev pub mask_at : List Mask → ℕ → Mask
 mask_at set i = unwrap_or (slice_get set i) empty
 
@@ -16,14 +16,14 @@ mask_at set i = unwrap_or (slice_get set i) empty
 abbrev pub Holds : List Mask → ℕ → Type 0
 Holds set e = IsIn (mask_at set (e / mask_bits)) (e % mask_bits)
 
--- The set has a bit for each of so many entities.
+-- The set has a bit for each of this number of entities.
 abbrev pub HasRoom : ℕ → List Mask → Type 0
 HasRoom count set = count ≤ length set * mask_bits
 
--- Of the entities of the core the set has those with this property.
+-- Of the core's entities, the set contains those with this property.
 abbrev pub IsSetOf : CoreData → (ℕ → Type 0) → List Mask → Type 0
 IsSetOf core P set = (e : ℕ) → e < length core.entities → (Holds set e) ↔ (P e)
 
--- At each place the masks have the bits that two others both have.
+-- At each place the mask has the bits that both of two others have.
 abbrev pub AreMet : (first second both : List Mask) → Type 0
 AreMet first second both = (i j : ℕ) → (IsIn (mask_at both i) j) ↔ (IsIn (mask_at first i) j × IsIn (mask_at second i) j)

@@ -1,4 +1,4 @@
--- A core that grows at its ends by methods, slots and nodes, and nodes in post-order one by one.
+-- Extending a core at its ends by methods, slots and nodes, and nodes in post-order one by one.
 use Rattle.std.specs.Prelude.{◌≡◌, ◌≢◌, ℕ, zero, suc, ◌+◌, ◌-◌, ◌<◌, ◌≤◌, List, [], ◌∷◌, ◌++◌, length, Some, slice_get}
 use Rattle.std.proofs.Common.{inl, inr, ap, sym, subst, ◌∙◌, arith}
 use Rattle.std.proofs.lemmas.Option.{same_Some, none-some}
@@ -18,7 +18,7 @@ use Rattle.pc_lists.proofs.Cuts.{range_front}
 
 -- ---- post-order
 
--- One more node, whose children are the last of those that wait.
+-- One more node, whose children are the last of the nodes without a parent.
 pub post_order_push : (n : ℕ) (xs : List Node) (waiting rest : List ℕ) (x : Node) → PostOrder n xs waiting (rest ++ x.children) → PostOrder n (xs ++ x ∷ []) waiting (rest ++ (n + length xs) ∷ [])
 post_order_push n [] waiting rest x p = let e : n ≡ n + 0 = omega arith in (rest, p, ap (λ k. rest ++ k ∷ []) e)
 post_order_push n (y ∷ ys) waiting rest x p =
@@ -44,7 +44,7 @@ children_before n (y ∷ ys) waiting last p b (suc i) x e = λ k c h.
 abbrev pub grown : CoreData → List Method → List Slot → List Node → CoreData
 grown core ms ss ns = record { entities = core.entities; methods = core.methods ++ ms; slots = core.slots ++ ss; nodes = core.nodes ++ ns; names = core.names }
 
--- What grows keeps its places.
+-- What is extended keeps its places.
 module _ (core : CoreData) (ms : List Method) (ss : List Slot) (ns : List Node) where
   slot_kept : (m s : ℕ) → NamesSlot core m s → NamesSlot (grown core ms ss ns) m s
   slot_kept m s h = (h.0, (h.1.0, get_front core.methods ms m h.1.0 h.1.1, h.1.2))
@@ -58,7 +58,7 @@ module _ (core : CoreData) (ms : List Method) (ss : List Slot) (ns : List Node) 
   names_kept m (node.Spawn k) h = (h.0, get_front core.methods ms k h.0 h.1, h.2)
   names_kept m k h = h
 
-  -- A node whose children are there fits as before.
+  -- A node whose children are present fits as before.
   pub node_kept : (n : ℕ) (x : Node) → Each (λ i c. c < length core.nodes) x.children → NodeFits core n x → NodeFits (grown core ms ss ns) n x
   node_kept n x b f = record {
     arity = f.arity;
@@ -106,7 +106,7 @@ module _ (core : CoreData) (ms : List Method) (ss : List Slot) (ns : List Node) 
         one = subst (λ ys. Each (λ i y. y.kind ≡ node.Body → x.first_node + i ≡ b) ys) (sym same) f.one;
       }
 
-  -- A method fits as before, where the new nodes are of other methods.
+  -- A method fits as before if the new nodes belong to other methods.
   pub method_kept : (m : ℕ) (x : Method) → x.first_slot + x.slots ≤ length core.slots → Each (λ i y. y.method ≢ m) ns → MethodFits core m x → MethodFits (grown core ms ss ns) m x
   method_kept m x room other f = record {
     owner = f.owner;

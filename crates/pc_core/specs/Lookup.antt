@@ -18,7 +18,7 @@ own_methods core x = slice_range core.methods x.first_method (x.first_method + x
 abbrev pub own_slots : CoreData → Method → List Slot
 own_slots core x = slice_range core.slots x.first_slot (x.first_slot + x.slots)
 
--- The number behind a method's last node: its body is the last one.
+-- The number after a method's last node: the body is the last one.
 abbrev pub node_end : ℕ → Option ℕ → ℕ
 node_end first None = first
 node_end first (Some body) = body + 1
@@ -33,24 +33,24 @@ field_name f = f.name
 abbrev pub method_name : Method → ℕ
 method_name m = m.name
 
--- The index of an entity's field of this name.
+-- The index of the entity's field with this name.
 abbrev pub field_named : CoreData → (entity name : ℕ) → Option ℕ
 field_named core entity name = do
   x ← slice_get core.entities entity
   place_of field_name name x.fields 0
 
--- The number of an entity's method of this name.
+-- The number of the entity's method with this name.
 abbrev pub method_named : CoreData → (entity name : ℕ) → Option ℕ
 method_named core entity name = do
   x ← slice_get core.entities entity
   place_of method_name name (own_methods core x) x.first_method
 
--- The entity has a field of this name at this index.
+-- The entity has a field with this name at this index.
 abbrev pub IsField : CoreData → (entity name index : ℕ) → Type 0
 IsField core entity name i =
     (x : EntityDef) × (f : FieldInfo) × (slice_get core.entities entity ≡ Some x) × (slice_get x.fields i ≡ Some f) × (f.name ≡ name)
 
--- The entity has a method of this name, which is this one.
+-- The entity has a method with this name, which is this one.
 abbrev pub IsMethod : CoreData → (entity name method : ℕ) → Type 0
 IsMethod core entity name m =
     (y : Method) × (slice_get core.methods m ≡ Some y) × (y.entity ≡ entity) × (y.name ≡ name)

@@ -1,4 +1,4 @@
--- What a core that fits together gives of the fields and methods of its entities.
+-- What follows, in a core that fits together, for the fields and methods of its entities.
 use Rattle.std.specs.Prelude.{◌≡◌, ℕ, ◌+◌, ◌-◌, ◌<◌, ◌≤◌, ◌^◌, length, drop, MatchOption, Option, Some, None, slice_get}
 use Rattle.std.proofs.Common.{ap, sym, subst, ◌∙◌, arith}
 use Rattle.std.proofs.lemmas.List.{length-drop, length-take-le}
@@ -14,7 +14,7 @@ use Rattle.pc_lists.proofs.Ranges.{run_within, run_around}
 use Rattle.pc_core.specs.Formed.{Formed}
 use Rattle.pc_lists.proofs.Options.{bind_some}
 
--- An entity's methods lie within the list.
+-- An entity's methods are within the list.
 pub methods_within : (core : CoreData) (e : ℕ) (x : EntityDef) → Formed core → slice_get core.entities e ≡ Some x → x.first_method + x.methods ≤ length core.methods
 methods_within core e x f g = (run_within 0 _ (length core.methods) e (x.first_method, x.methods) f.methods_follow (get_map (λ y. (y.first_method, y.methods)) core.entities e x g)).1
 
@@ -27,7 +27,7 @@ own_methods_within core e x f g =
     let count = length-take-le ((x.first_method + x.methods) - x.first_method) (drop x.first_method core.methods) room in
     omega (arith, k, few, count)
 
--- A method stands among those of its entity.
+-- A method is among those of its entity.
 pub method_among : (core : CoreData) (m : ℕ) (y : Method) → Formed core → slice_get core.methods m ≡ Some y → m < length core.methods → (x : EntityDef) × (slice_get core.entities y.entity ≡ Some x) × (x.first_method ≤ m) × (m < x.first_method + x.methods)
 method_among core m y f g l =
     let r = run_around 0 _ (length core.methods) m f.methods_follow (omega arith) l in
@@ -66,7 +66,7 @@ method_missed core entity name f e m l h =
     let own = range_get core.methods x.first_method (x.first_method + x.methods) m y r.2 r.3 h.1 in
     place_missed method_name name (own_methods core x) x.first_method (subst (λ o. (o >>= λ z. place_of method_name name (own_methods core z) z.first_method) ≡ None) there e) (m - x.first_method) y own h.3
 
--- What is answered is exact.
+-- What is found is exact.
 pub field_exact : (core : CoreData) (entity name : ℕ) (o : Option ℕ) → o ≡ field_named core entity name → MatchOption o ((i : ℕ) → ¬ (IsField core entity name i)) (λ i. IsField core entity name i)
 field_exact core entity name None e = field_missed core entity name (sym e)
 field_exact core entity name (Some i) e = field_found core entity name i (sym e)

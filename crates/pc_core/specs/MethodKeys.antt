@@ -2,7 +2,7 @@
 use Rattle.std.specs.Prelude.{ℕ, Bool, ◌&&◌, nat_eq}
 use Rattle.pc_core.specs.declared.declarations.Method.{Method}
 
--- A method's entity and name, which no other method has.
+-- A method's entity and name, which no other method shares.
 abbrev pub method_key : Method → ℕ × ℕ
 method_key m = (m.entity, m.name)
 

@@ -11,7 +11,7 @@ use Rattle.pc_core.specs.declared.declarations.ParamInfo.{ParamInfo}
 use Rattle.pc_core.specs.declared.nodes.Slot.{Slot}
 use Rattle.pc_core.specs.declared.nodes.SlotKind.TheVariants as slot
 
--- The kind of a constructor, and of a method with this word: an actor's constructor spawns it.
+-- The kind of a constructor, and of a method with this keyword: an actor's constructor spawns it.
 abbrev pub constructor_kind : EntityKind → MethodKind
 constructor_kind kind.Class = method.New
 constructor_kind kind.Actor = method.Spawn

@@ -24,11 +24,11 @@ use Rattle.pc_lists.specs.Places.{Each, Has}
 use Rattle.pc_core.specs.Lookup.{own_slots, own_nodes}
 use Rattle.pc_core.specs.MethodKinds.{word_kind, this_slot, param_slot}
 
--- A method of this kind stands in such an entity: it is one with a word that may stand there.
+-- A method of this kind may be in such an entity: a keyword that is allowed there gives it.
 abbrev pub StandsIn : MethodKind → EntityKind → Type 0
 StandsIn m e = (w : MethodWord) × (may_stand e w ≡ true) × (word_kind e w ≡ m)
 
--- A behaviour answers None, and a constructor a new object of its entity: an actor's as `tag`, a class's as a value of
+-- A behaviour returns None, and a constructor a new object of its entity: an actor's as `tag`, a class's as a value of
 -- some capability that no place holds. In all three `this` is `ref`.
 abbrev pub ResultFits : MethodKind → Method → Type 0
 ResultFits method.Fun x = Unit {0}
@@ -42,16 +42,16 @@ is_local slot.Var = true
 is_local slot.This = false
 is_local slot.Param = false
 
--- A node of this kind uses the slot of index s.
+-- A node of this kind uses the slot with index s.
 abbrev pub Uses : ℕ → NodeKind → Type 0
 Uses s (node.Local i) = i ≡ s
 Uses s (node.Consume i) = i ≡ s
 Uses s (node.Assign i) = i ≡ s
 Uses s k = ⊥
 
--- The slot of index s in method m is that of a local. It is defined once, by an item of a sequence, at its own depth; and
--- what uses it stands in a later item of that sequence. Since nodes stand in post-order, those are the nodes between the
--- item and the sequence.
+-- The slot with index s in method m is that of a local. It is defined once, by an item of a sequence, at its own depth,
+-- and is used only in later items of that sequence. Since nodes are in post-order, those are the nodes between the item
+-- and the sequence.
 pub record LocalFits (core : CoreData) (m s : ℕ) (x : Slot) : Type 0 where
   pub kind : is_local x.kind ≡ true
   pub method : x.method ≡ m
@@ -69,7 +69,7 @@ pub record LocalFits (core : CoreData) (m s : ℕ) (x : Slot) : Type 0 where
   pub is_around : slice_get core.nodes sequence ≡ Some around
   pub is_sequence : around.kind ≡ node.Seq
   pub item : Has around.children define
-  -- there is no other definition, and each use comes after it
+  -- there is no other definition, and every use comes after it
   pub only : Each (λ n y. y.method ≡ m → y.kind ≡ node.Define s → n ≡ define) core.nodes
   pub later : Each (λ n y. y.method ≡ m → Uses s y.kind → (define < n) × (n < sequence)) core.nodes
 
@@ -79,14 +79,14 @@ SlotsFit core m x =
     (locals : List Slot) × (own_slots core x ≡ this_slot m x ∷ map (param_slot m) x.params ++ locals)
     × Each (λ i s. LocalFits core m (1 + length x.params + i) s) locals
 
--- From number n on, these nodes stand in post-order: going through them with the list of the nodes whose parent has not
--- come, each node's children are the last ones of that list, in order, and the node takes their place. The third argument
--- is the list before the nodes, and the last one the list behind them.
+-- These nodes, numbered from n on, are in post-order. `waiting` is the list of the nodes without a parent so far: each
+-- node's children are the last of that list, in order, and the node takes their place. `last` is the list after all
+-- these nodes.
 abbrev pub PostOrder : ℕ → List Node → List ℕ → List ℕ → Type 0
 PostOrder n [] waiting last = waiting ≡ last
 PostOrder n (x ∷ xs) waiting last = (rest : List ℕ) × (waiting ≡ rest ++ x.children) × PostOrder (n + 1) xs (rest ++ n ∷ []) last
 
--- The nodes of method m stand in post-order up to its one body, which is their only root.
+-- The nodes of method m are in post-order up to its body, which is their only root.
 pub record BodyFits (core : CoreData) (m : ℕ) (x : Method) (body : ℕ) : Type 0 where
   pub from : x.first_node ≤ body
   pub own : Each (λ i y. y.method ≡ m) (own_nodes core x)

@@ -43,12 +43,12 @@ HasArity node.While k = k ≡ 2
 HasArity (node.Recover c) k = k ≡ 1
 HasArity node.Body k = k ≡ 1
 
--- The depth of what stands in a node of this kind and depth: one more in a recover.
+-- The depth of the contents of a node of this kind and depth: one more in a recover.
 abbrev pub inner_depth : NodeKind → ℕ → ℕ
 inner_depth (node.Recover c) d = d + 1
 inner_depth k d = d
 
--- The operators of arithmetic, comparison and `xor`. The others have kinds of their own.
+-- The operators of arithmetic, comparison and `xor`. The others have node kinds of their own.
 abbrev pub is_binary : Op → Bool
 is_binary op.And = false
 is_binary op.Or = false
@@ -56,7 +56,7 @@ is_binary op.Is = false
 is_binary op.Isnt = false
 is_binary o = true
 
--- A primitive whose value is written: None, or one of the file.
+-- A primitive whose value can be written: None, or one of the file.
 abbrev pub NamesPrimitive : CoreData → ℕ → Type 0
 NamesPrimitive core e = (e ≡ none_entity) ⊎ ((first_own ≤ e) × ((x : EntityDef) × (slice_get core.entities e ≡ Some x) × (x.kind ≡ kind.Primitive)))
 
@@ -70,7 +70,7 @@ NamesLocal core m s =
     (x : Method) × (y : Slot) × (slice_get core.methods m ≡ Some x) × (s < x.slots)
     × (slice_get core.slots (x.first_slot + s) ≡ Some y) × (is_local y.kind ≡ true)
 
--- What the number of a node in method m names is there.
+-- The number in a node of method m refers to something of the right kind.
 abbrev pub NamesFit : CoreData → ℕ → NodeKind → Type 0
 NamesFit core m (node.Prim e) = NamesPrimitive core e
 NamesFit core m (node.Local s) = NamesSlot core m s

@@ -10,7 +10,7 @@ use pc_caps::List;
 
 impl Core {
     /// Keeps a table of what conforms to what, for later calls of `known_to_conform`: at the number of each trait and
-    /// interface the set of the entities that conform to it. What a contract sees of the core stays.
+    /// interface the set of the entities that conform to it. In contracts the core is unchanged.
     pub fn keep_conforming(&mut self, sets: List<EntitySet>)
         requires { TellsConforming self.old sets }
         ensures { self.new ≡ self.old }
@@ -19,8 +19,8 @@ impl Core {
         self.conforming = Some(sets);
     }
 
-    /// Whether the entity conforms to the trait or interface `above`, by a look-up in the table that `keep_conforming` was
-    /// given. `None` if there is none, or no such entity, trait or interface. Takes no memory.
+    /// Whether the entity conforms to the trait or interface `above`, by a look-up in the table that was given to
+    /// `keep_conforming`. `None` if there is none, or no such entity, trait or interface. Does not allocate.
     pub fn known_to_conform(&self, entity: u32, above: u32) -> Option<bool>
         ensures { IfSome result (λ known. IsTrue known ↔ Conforms self.now entity above) }
     {
@@ -41,14 +41,14 @@ impl Core {
     }
 }
 
-// Whether there is an entity of this number.
+// Whether there is an entity with this number.
 fn is_entity(core: &Core, entity: u32) -> bool
     ensures { IsTrue result ↔ (entity < length core.now.entities) }
 {
     core.entity_at(entity).is_some()
 }
 
-// What the table says of the entity and the trait or interface `above`.
+// What the table says about the entity and the trait or interface `above`.
 fn told(core: &Core, sets: &List<EntitySet>, entity: u32, above: u32) -> Option<bool>
     requires { TellsConforming core.now sets.now }
     ensures { IfSome result (λ known. IsTrue known ↔ Conforms core.now entity above) }

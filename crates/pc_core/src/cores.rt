@@ -11,7 +11,7 @@ use pc_caps::List;
 use std::alloc::{AllocError, Global};
 use std::marker::Model;
 
-/// A program whose parts fit together: `Formed`, in this crate's definitions, says how, and is true of every core.
+/// A program whose parts fit together: `Formed`, in this crate's definitions, states how, and holds for every core.
 #[derive(Debug, Drop)]
 pub struct Core {
     entities: List<EntityDef>,
@@ -19,9 +19,9 @@ pub struct Core {
     slots: List<Slot>,
     nodes: List<Node>,
     names: List<List<u8>>,
-    // Where there is an index, it is that of all the methods.
+    // If there is an index, it is that of all the methods.
     pub(crate) index: Option<MethodIndex>,
-    // Where there is a table of what conforms to what, it is right.
+    // If there is a table of what conforms to what, it is right.
     pub(crate) conforming: Option<List<EntitySet>>,
 }
 
@@ -37,7 +37,7 @@ impl Model for Core {
 }
 
 impl Core {
-    /// The core of these parts. This is the one way to make a core.
+    /// The core with these parts. This is the only way to make a core.
     pub fn from_parts(
         entities: List<EntityDef>,
         methods: List<Method>,
@@ -59,8 +59,8 @@ impl Core {
         }
     }
 
-    /// Makes the index by which later calls of `method` take a time that does not grow with the number of methods. It takes
-    /// memory. What a contract sees of the core stays, and an `Err` leaves the core as it was.
+    /// Makes the index by which later calls of `method` take a time that does not grow with the number of methods. It
+    /// allocates. In contracts the core is unchanged, and an `Err` leaves it as it was.
     pub fn index_methods(&mut self, alloc: Global) -> Result<(), AllocError>
         ensures { self.new ≡ self.old }
     {
@@ -76,7 +76,7 @@ impl Core {
         self.entities.as_slice()
     }
 
-    /// The methods: 0 is `print` of OutStream, and then come those of the file's entities.
+    /// The methods: 0 is `print` of OutStream, followed by those of the file's entities.
     pub fn methods(&self) -> &[Method]
         ensures { result.now ≡ self.now.methods }
     {
@@ -90,7 +90,7 @@ impl Core {
         self.slots.as_slice()
     }
 
-    /// The nodes, method by method, each behind its children.
+    /// The nodes, method by method, each after its children.
     pub fn nodes(&self) -> &[Node]
         ensures { result.now ≡ self.now.nodes }
     {
@@ -104,43 +104,43 @@ impl Core {
         self.names.as_slice()
     }
 
-    /// The entity of this number. `None` exactly where there is none, as of the next four.
+    /// The entity with this number. `None` iff there is none, as for the next four.
     pub fn entity_at(&self, entity: u32) -> Option<&EntityDef>
         ensures { option_copied result ≡ slice_get self.now.entities entity }
     {
         self.entities.get(entity as usize)
     }
 
-    /// The method of this number.
+    /// The method with this number.
     pub fn method_at(&self, method: u32) -> Option<&Method>
         ensures { option_copied result ≡ slice_get self.now.methods method }
     {
         self.methods.get(method as usize)
     }
 
-    /// The slot of this index in a method, counted on from the method's first slot: past its last slot stands one of a later
-    /// method. `None` exactly where no slot of the core stands there.
+    /// The slot with this index, counted from the method's first slot: an index past its last slot gives a slot of a
+    /// later method. `None` iff the core has no such slot.
     pub fn slot_at(&self, method: &Method, slot: u32) -> Option<&Slot>
         ensures { option_copied result ≡ slice_get self.now.slots (method.now.first_slot + slot) }
     {
         self.slots.get(method.first_slot as usize + slot as usize)
     }
 
-    /// The node of this number.
+    /// The node with this number.
     pub fn node_at(&self, node: u32) -> Option<&Node>
         ensures { option_copied result ≡ slice_get self.now.nodes node }
     {
         self.nodes.get(node as usize)
     }
 
-    /// The text of this number.
+    /// The text with this number.
     pub fn name_at(&self, name: u32) -> Option<&List<u8>>
         ensures { option_copied result ≡ slice_get self.now.names name }
     {
         self.names.get(name as usize)
     }
 
-    /// Every core is formed. The call does nothing, and brings the fact into a proof.
+    /// Every core is formed. The call does nothing; it makes the fact available to a proof.
     pub fn formed(&self)
         ensures { Formed self.now }
     {

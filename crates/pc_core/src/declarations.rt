@@ -7,7 +7,7 @@ use pc_tree::EntityKind;
 #[derive(Debug, Drop)]
 pub struct EntityDef {
     pub kind: EntityKind,
-    /// The capability of its type where none is written.
+    /// The capability of its type if none is written.
     pub cap: Cap,
     pub name: List<u8>,
     /// The place of the name.
@@ -28,7 +28,7 @@ pub struct EntityDef {
 pub struct FieldInfo {
     /// The number of its name's text.
     pub name: u32,
-    /// Whether it is a `let`, which is written in constructors alone.
+    /// Whether it is a `let`, which only constructors write.
     pub fixed: bool,
     /// The entity of its type.
     pub entity: u32,
@@ -79,7 +79,7 @@ pub struct Method {
     pub slots: u32,
     /// The number of its first node; the others follow, up to its body.
     pub first_node: u32,
-    /// The node of its body, or none where it has no body.
+    /// The node of its body, or none if it has no body.
     pub body: Option<u32>,
     /// The place of its name.
     pub span: Span,

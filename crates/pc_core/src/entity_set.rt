@@ -7,7 +7,7 @@ use pc_masks::Mask;
 use std::alloc::{AllocError, Global};
 use std::marker::Model;
 
-// How many entities a mask has a bit for.
+// For how many entities a mask has a bit.
 const MASK_BITS: u32 = 64;
 
 /// A set of entities, with a bit for each: entity e is bit e % 64 of mask e / 64.
@@ -26,7 +26,7 @@ impl Model for EntitySet {
 }
 
 impl EntitySet {
-    /// The set of no entity, with room for those below this number.
+    /// The empty set, with room for the entities below this number.
     pub fn none(alloc: Global, count: usize) -> Result<EntitySet, AllocError>
         ensures room { IfOk result (spec.HasRoom count) }
         ensures none { IfOk result (λ set. (e : ℕ) → ¬ (spec.Holds set e)) }
@@ -36,7 +36,7 @@ impl EntitySet {
         })
     }
 
-    /// The set of all entities below this number, and maybe of further ones.
+    /// The set of all entities below this number, and perhaps of further ones.
     pub fn all(alloc: Global, count: usize) -> Result<EntitySet, AllocError>
         ensures { IfOk result (λ set. (e : ℕ) → e < count → spec.Holds set e) }
     {
@@ -52,7 +52,7 @@ impl EntitySet {
         mask_at(&self.masks, (entity / MASK_BITS) as usize).has(entity % MASK_BITS)
     }
 
-    /// Puts an entity into the set.
+    /// Adds an entity to the set.
     pub fn add(&mut self, entity: u32)
         requires { spec.HasRoom (entity + 1) self.old }
         ensures room { length self.new ≡ length self.old }
@@ -72,7 +72,7 @@ impl EntitySet {
     }
 }
 
-// The mask at this place, and past the last one the empty mask.
+// The mask at this place, or past the last one the empty mask.
 fn mask_at(masks: &List<Mask>, place: usize) -> Mask
     ensures { result ≡ spec.mask_at masks.now place }
 {
@@ -82,7 +82,7 @@ fn mask_at(masks: &List<Mask>, place: usize) -> Mask
     }
 }
 
-// The same mask, as often as so many entities take.
+// The same mask, repeated as often as this number of entities requires.
 fn repeat(alloc: Global, mask: Mask, count: usize) -> Result<List<Mask>, AllocError>
     ensures { IfOk result (λ masks. masks ≡ replicate (count / spec.mask_bits + 1) mask) }
 {

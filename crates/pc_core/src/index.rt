@@ -33,7 +33,8 @@ impl fmt::Debug for MethodIndex {
 }
 
 impl MethodIndex {
-    /// The index of these methods. `None` exactly where two of them have one entity and one name, as no two methods of a core do.
+    /// The index of these methods. `None` iff two of them have the same entity and the same name, which no two methods
+    /// of a core have.
     pub(crate) fn of(methods: &[Method], alloc: Global) -> Result<Option<MethodIndex>, AllocError>
         requires { length methods.now < 2 ^ 32 }
         ensures { IfOk result (λ index. MatchOption index (¬ (Differ (map method_key methods.now))) (λ keys. keys ≡ map method_key methods.now)) }
@@ -48,7 +49,7 @@ impl MethodIndex {
         Ok(Some(MethodIndex { keys }))
     }
 
-    /// The number of the method of this entity and name.
+    /// The number of the method with this entity and name.
     pub(crate) fn number_of(&self, entity: u32, name: u32) -> Option<u32>
         ensures { result ≡ position (is_key entity name) self.now }
     {
@@ -58,7 +59,7 @@ impl MethodIndex {
     }
 }
 
-// The key that is made of the entities and names of these methods.
+// The key made of the entities and names of these methods.
 fn key_of(methods: &[Method]) -> KeyedBy {
     let mut key = KeyedBy::nothing();
     for method in methods {

@@ -1,7 +1,8 @@
-//! The core of a program: its entities, methods, slots and nodes as lists in which everything is named by its number.
+//! The core of a program: its entities, methods, slots and nodes as lists in which everything is referred to by number.
 //!
-//! Proved: A core is formed, in all its parts, as an invariant of its type; `field` and `method` find exactly what is
-//! there, `method` with an index of the methods as without one. How long a look-up takes is not proved.
+//! Proved: a core is formed, in all its parts, as an invariant of its type; `field` and `method` find exactly what is
+//! there, and `method` returns the same with an index of the methods as without one. How long a look-up takes is not
+//! proved.
 #![tactic(auto)]
 
 mod conforming;

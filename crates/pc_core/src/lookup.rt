@@ -8,8 +8,8 @@ use crate::cores::Core;
 use crate::declarations::{FieldInfo, Method};
 
 impl Core {
-    /// The index of the entity's field of this name. `None` exactly where there is no such entity or it has no such
-    /// field. Takes no memory.
+    /// The index of the entity's field with this name. `None` iff there is no such entity or it has no such field. Does
+    /// not allocate.
     pub fn field(&self, entity: u32, name: u32) -> Option<u32>
         ensures value { result ≡ spec.field_named self.now entity name }
         ensures exact { MatchOption result ((i : ℕ) → ¬ (spec.IsField self.now entity name i)) (λ i. spec.IsField self.now entity name i) }
@@ -19,9 +19,9 @@ impl Core {
         place_of_field(found.fields.as_slice(), name)
     }
 
-    /// The number of the entity's method of this name. `None` exactly where there is no such entity or it has no such
-    /// method. Takes no memory. Where `index_methods` has made an index, it is one look-up in a hash table, in a time that does
-    /// not grow with the number of methods.
+    /// The number of the entity's method with this name. `None` iff there is no such entity or it has no such method.
+    /// Does not allocate. Once `index_methods` has made an index, this is one look-up in a hash table, in a time that
+    /// does not grow with the number of methods.
     pub fn method(&self, entity: u32, name: u32) -> Option<u32>
         ensures value { result ≡ spec.method_named self.now entity name }
         ensures exact { MatchOption result ((m : ℕ) → ¬ (spec.IsMethod self.now entity name m)) (λ m. spec.IsMethod self.now entity name m) }
@@ -33,7 +33,7 @@ impl Core {
         }
     }
 
-    // The number of the entity's method of this name, found by going through the entity's methods.
+    // The number of the entity's method with this name, found by searching the entity's methods.
     fn method_among(&self, entity: u32, name: u32) -> Option<u32>
         ensures { result ≡ spec.method_named self.now entity name }
     {
@@ -44,7 +44,7 @@ impl Core {
     }
 }
 
-// As many methods as this, from this number on.
+// `count` methods, from this number on.
 fn part(methods: &[Method], first: u32, count: u32) -> &[Method]
     requires { first + count ≤ length methods.now }
     ensures { result.now ≡ slice_range methods.now first (first + count) }
@@ -52,7 +52,7 @@ fn part(methods: &[Method], first: u32, count: u32) -> &[Method]
     &methods[first as usize..first as usize + count as usize]
 }
 
-// The index of the first field of this name.
+// The index of the first field with this name.
 fn place_of_field(fields: &[FieldInfo], name: u32) -> Option<u32>
     requires { length fields.now ≤ field_limit }
     ensures { result ≡ place_of spec.field_name name fields.now 0 }
@@ -67,7 +67,7 @@ fn place_of_field(fields: &[FieldInfo], name: u32) -> Option<u32>
     None
 }
 
-// The number of the first method of this name, where the first one has this number.
+// The number of the first method with this name, numbering them from `first` on.
 fn place_of_method(methods: &[Method], name: u32, first: u32) -> Option<u32>
     requires { first + length methods.now < 2 ^ 32 }
     ensures { result ≡ place_of spec.method_name name methods.now first }

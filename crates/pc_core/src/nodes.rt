@@ -1,4 +1,4 @@
-//! What stands inside the methods: slots and nodes.
+//! The contents of methods: slots and nodes.
 
 use pc_caps::{Cap, List, SharedList, Span};
 use pc_tree::Op;
@@ -16,7 +16,7 @@ pub enum SlotKind {
     Var,
 }
 
-/// A place for a value in a method's frame. Within a method slots are named by their index, from 0 on.
+/// A place for a value in a method's frame. Within a method, slots are numbered by their index, from 0 on.
 #[derive(Clone, Copy, Debug, PartialEq, Eq)]
 pub struct Slot {
     /// The method that it belongs to.
@@ -24,7 +24,7 @@ pub struct Slot {
     pub kind: SlotKind,
     /// The number of `recover` bodies around its definition.
     pub depth: u32,
-    /// The entity and capability that are written for it, or none where they follow from its value.
+    /// The entity and capability that are written for it, or none if they follow from its value.
     pub written: Option<(u32, Cap)>,
 }
 
@@ -45,9 +45,9 @@ pub enum NodeKind {
     Local(u32),
     /// `consume` of a local or parameter, by the index of its slot.
     Consume(u32),
-    /// A field that is read, by the number of its name. The child is the origin.
+    /// Reading a field, by the number of its name. The child is the origin.
     Field(u32),
-    /// A field that is written, by the number of its name. The children are the value and the origin.
+    /// Writing a field, by the number of its name. The children are the value and the origin.
     SetField(u32),
     /// The definition of a local, by the index of its slot. The child is the value.
     Define(u32),
@@ -59,13 +59,13 @@ pub enum NodeKind {
     Spawn(u32),
     /// The call of a method, by the number of its name. The children are the arguments, and then the receiver.
     Call(u32),
-    /// Arithmetic, comparison and `xor`. The children are the left and the right side, as of the next three.
+    /// Arithmetic, comparison and `xor`. The children are the left and the right side, as for the next three.
     Binary(Op),
     /// `not`. The child is the operand.
     Not,
     And,
     Or,
-    /// `is`, which is true for the same object, or `isnt`.
+    /// `is`, which is true iff both are the same object, or `isnt`.
     Same(bool),
     /// A sequence. The children are its items.
     Seq,
@@ -73,7 +73,7 @@ pub enum NodeKind {
     If,
     /// `while`. The children are the condition and the body.
     While,
-    /// `recover`, with the capability where one is written. The child is the body.
+    /// `recover`, with the capability if one is written. The child is the body.
     Recover(Option<Cap>),
     /// The body of a method. The child is its sequence.
     Body,
@@ -83,7 +83,7 @@ pub enum NodeKind {
 #[derive(Debug, Drop)]
 pub struct Node {
     pub kind: NodeKind,
-    /// The parts that are evaluated before it ends, by their numbers, in the order of evaluation.
+    /// The parts that are evaluated before it finishes, by their numbers, in the order of evaluation.
     pub children: SharedList<u32>,
     /// The number of `recover` bodies around it within its method.
     pub depth: u32,

@@ -1,4 +1,4 @@
--- What a body sees of the core that is made of a file is what is known of the file.
+-- What a body knows of the core computed from a file is what it knows of the file.
 use Rattle.std.proofs.Common.{◌≡◌, ℕ, suc, ◌+◌, ◌≤◌, List, [], ◌∷◌, ◌++◌, length, map, Some, Bool, true, refl, sym, ap, ◌∙◌, subst, arith, if◌then◌else◌}
 use Rattle.std.specs.Prelude.{slice_get, slice_range, codes}
 use Rattle.std.proofs.lemmas.Option.{same_Some}
@@ -85,7 +85,7 @@ among_same names k (m ∷ ms) at (y ∷ ys) h =
 abbrev pub seen : Text → EntityKind → Cap → List Constructor → Known
 seen name k c cs = record { name = name; kind = k; cap = c; constructors = cs }
 
--- The entities of the language, with these constructors of the stream, and then others.
+-- The built-in entities, with these constructors of the stream, and then others.
 abbrev pub six : List Constructor → List Known → List Known
 six cs ks =
     known_value (codes "None") ∷ known_value (codes "U64") ∷ known_value (codes "Bool") ∷ known_value (codes "String")
@@ -170,6 +170,6 @@ module _ (file : t.File) (above : List (List ℕ)) (q : Parts) (c : Collects fil
   abbrev seeing : Owned → List Known → Context
   seeing o ks = record { fields = field_texts o.owner.fields; methods = map member_text (members file.entities o.owner); entities = ks; texts = known.texts_of file; slots = placed_of o.owner o.member }
 
-  -- So bodies mean the same.
+  -- So names in bodies mean the same.
   pub context_same : (o : Owned) → owned_context core (members file.entities o.owner) o ≡ context_of file o
   context_same o = ap (λ ks. seeing o ks) seen_same

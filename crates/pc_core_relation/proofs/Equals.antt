@@ -1,4 +1,4 @@
--- What stands for a part of a file is what is made of it.
+-- What represents a part of a file is what is computed from it.
 use Rattle.std.proofs.Common.{◌≡◌, ℕ, List, [], map, Option, Some, None, Bool, refl, sym, ap, ap₂, ◌∙◌, subst}
 use Rattle.std.specs.Prelude.{slice_get}
 use Rattle.std.proofs.lemmas.Option.{none-some}
@@ -33,7 +33,7 @@ use Rattle.pc_core_relation.proofs.Lists.{match_one}
 use Rattle.pc_core_relation.proofs.Mirror.{params_in, AnswerIs, WordResultIs, ResultIs}
 use Rattle.pc_core_relation.proofs.Types.{entity_name, type_is, is_type}
 
--- A text that is there has one number.
+-- A text of the list has only one number.
 pub text_one : (names : List Text) (x : Text) (n : ℕ) → Differ names → slice_get names n ≡ Some x → text_from 0 names x ≡ n
 text_one names x n differ h = differ (text_from 0 names x) n x (text_found names x (n, h)) h
 

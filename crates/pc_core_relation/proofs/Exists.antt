@@ -1,4 +1,4 @@
--- A file whose names have no fault has a core that stands for it, or a fault of its members.
+-- A file whose names have no fault has a core, or a fault of its members.
 use Rattle.std.proofs.Common.{inl, inr}
 use Rattle.pc_file_spec.specs.Laws.{CoreOrFault, NotBoth}
 use Rattle.pc_core_relation.specs.Laws.{CoreStandsOrFault, StandingHasNoFault}

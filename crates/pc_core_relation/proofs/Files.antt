@@ -1,4 +1,4 @@
--- The core that is made of a file stands for it.
+-- The core computed from a file is its core.
 use Rattle.std.proofs.Common.{◌≡◌, ℕ, zero, suc, ◌+◌, ◌<◌, ◌≤◌, ◌^◌, List, [], length, map, Some, refl, sym, ap, ◌∙◌, subst, arith, inl, inr}
 use Rattle.std.specs.Prelude.{slice_get, position, codes}
 use Rattle.std.specs.Str.{bytes_eq}
@@ -53,7 +53,7 @@ use Rattle.pc_core_relation.proofs.Inherited.{members_have}
 use Rattle.pc_core_relation.proofs.Mirror.{cap_said}
 use Rattle.pc_core_relation.proofs.Sound.{names_are_right}
 
--- ---- what is above the entities of the language
+-- ---- what is above the built-in entities
 
 nothing_above : (file : t.File) (n : ℕ) (b : ℕ) → ((e : t.Entity) → chain.entity_at file n e → ⊥) → Leads file n b → ⊥
 nothing_above file n b f (chain.one h) = f h.0 h.1

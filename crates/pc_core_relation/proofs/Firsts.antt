@@ -1,4 +1,4 @@
--- The methods that a walk picks are the first of their names among those that pass its test.
+-- The methods that a walk picks are the first with their names among those that pass its test.
 use Rattle.std.proofs.Common.{◌≡◌, ℕ, zero, suc, ◌<◌, ◌&&◌, List, [], ◌∷◌, ◌++◌, Some, Bool, true, false, not, refl, sym, ap, ◌∙◌, subst, arith, if◌then◌else◌, inl, inr}
 use Rattle.std.specs.Prelude.{slice_get, ◌↔◌}
 use Rattle.std.proofs.lemmas.Bool.{cases_lt, not-true}
@@ -18,7 +18,7 @@ use Rattle.pc_core_relation.proofs.Lists.{only_one, one_order}
 
 -- ---- one walk for both
 
--- Of the methods that pass a test and whose names are not known, the first of each name.
+-- Of the methods that pass a test and whose names are new, the first with each name.
 abbrev picked : (t.Method → Bool) → List Text → List t.Method → List t.Method
 picked test known [] = []
 picked test known (m ∷ ms) = if test m && not (is_among m.name.text known) then m ∷ picked test (known ++ m.name.text ∷ []) ms else picked test known ms
@@ -45,7 +45,7 @@ taken_picked k known (m ∷ ms) = by (λ ks. taken_picked k ks ms) (is_takable k
     by rest false = rest known
 
 module _ (test : t.Method → Bool) where
-  -- The method at this place is the first of its name to pass the test, and its name is not known.
+  -- The method at this place is the first with its name that passes the test, and its name is new.
   record First (known : List Text) (ms : List t.Method) (p : ℕ) (m : t.Method) : Type 0 where
     there : slice_get ms p ≡ Some m
     fits : test m ≡ true
@@ -64,7 +64,7 @@ module _ (test : t.Method → Bool) where
   new_there : (known : List Text) (m : t.Method) → goes known m ≡ true → Has known m.name.text → ⊥
   new_there known m e h = no_both (is_among m.name.text known) (has_among m.name.text known h) (not-true (is_among m.name.text known) (second_true (test m) (not (is_among m.name.text known)) e))
 
-  -- What passes the test, and does not go, is known.
+  -- A method that passes the test and is not picked has a known name.
   known_there : (known : List Text) (m : t.Method) → goes known m ≡ false → test m ≡ true → Has known m.name.text
   known_there known m e f = among_has m.name.text known (by (is_among m.name.text known) (ap (λ b. b && not (is_among m.name.text known)) (sym f) ∙ e))
     where
@@ -72,7 +72,7 @@ module _ (test : t.Method → Bool) where
       by true g = refl
       by false g = absurd (true_false g)
 
-  -- ---- one method more in front
+  -- ---- one more method at the front
 
   -- It is another one, or does not pass the test.
   on_first : (known : List Text) (x : t.Method) (ms : List t.Method) (p : ℕ) (m : t.Method) → First known ms p m → (test x ≡ true → x.name.text ≡ m.name.text → ⊥) → First known (x ∷ ms) (suc p) m
@@ -204,7 +204,7 @@ module _ (test : t.Method → Bool) where
       order = λ i j p q x y l h g a b. ordered known all i j p q x y l h g (meant p x a) (meant q y b);
     }
 
--- ---- there is one such list
+-- ---- there is only one such list
 
 module _ (P : t.Method → Type 0) (all : List t.Method) where
   abbrev Before : t.Method → t.Method → Type 0

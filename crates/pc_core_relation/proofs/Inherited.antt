@@ -25,9 +25,9 @@ module _ (file : t.File) (above : List (List ℕ)) (founded : IsFounded file) (c
   abbrev all : List t.Entity
   all = file.entities
 
-  -- ---- the computed methods are such
+  -- ---- the computed methods satisfy the relation
 
-  -- What an entity has that a name finds.
+  -- What the entity found by a name has.
   record Found (methods : t.Entity → List t.Method) (n : Name) : Type 0 where
     entity : t.Entity
     there : Has all entity

@@ -23,7 +23,7 @@ match_cons {A} {B} R x y xs ys r m = (ap suc m.0, by)
 pub match_rest : {A B : Type 0} (R : A → B → Type 0) (x : A) (y : B) (xs : List A) (ys : List B) → Match R (x ∷ xs) (y ∷ ys) → Match R xs ys
 match_rest R x y xs ys m = let e = m.0 in (omega (arith, e), λ i a b g h. m.1 (suc i) a b g h)
 
--- A list and what a function makes of it.
+-- A list and its image under a function.
 pub map_matches : {A B : Type 0} (R : A → B → Type 0) (f : A → B) (xs : List A) → ((x : A) → Has xs x → R x (f x)) → Match R xs (map f xs)
 map_matches R f xs h = (sym (length-map xs f), λ i x y a b. subst (R x) (same_Some (f x) y (sym (get_map f xs i x a) ∙ b)) (h x (i, a)))
 
@@ -52,7 +52,7 @@ module _ {T : Type 0} (Before : T → T → Type 0) (not_both : (x y : T) → Be
       let self : Before x x = subst (Before x) (sym same) (o 0 (suc h.0) x z (omega arith) refl h.1) in
       absurd (not_both x x self self)
 
-  -- Lists in this order that have the same elements are one.
+  -- Lists in this order with the same elements are the same.
   pub one_order : (xs ys : List T) → Ordered xs → Ordered ys → ((x : T) → Has xs x → Has ys x) → ((x : T) → Has ys x → Has xs x) → xs ≡ ys
   one_order [] [] o p f g = refl
   one_order [] (y ∷ ys) o p f g = absurd (none-some y (g y (0, refl)).1)
@@ -78,14 +78,14 @@ range_count xs a n l =
     let room : a + n - a ≤ length (drop a xs) = omega (arith, size, many, l) in
     take_count (drop a xs) (a + n - a) room ∙ many
 
--- A list that matches what a function makes of another is that.
+-- A list that matches the image of another is that image.
 pub match_one : {A B : Type 0} (R : A → B → Type 0) (f : A → B) → ((x : A) (y : B) → R x y → f x ≡ y) → (xs : List A) (ys : List B) → Match R xs ys → map f xs ≡ ys
 match_one R f one [] [] m = refl
 match_one R f one [] (y ∷ ys) m = let e = m.0 in absurd (omega (arith, e))
 match_one R f one (x ∷ xs) [] m = let e = m.0 in absurd (omega (arith, e))
 match_one R f one (x ∷ xs) (y ∷ ys) m = ap (λ z. z ∷ map f xs) (one x y (m.1 0 x y refl refl)) ∙ ap (λ zs. y ∷ zs) (match_one R f one xs ys (match_rest R x y xs ys m))
 
--- The front of a list, and a run after it.
+-- A prefix of a list, and a run after it.
 pub take_run : {T : Type 0} → (xs : List T) (a n : ℕ) → a + n ≤ length xs → take a xs ++ slice_range xs a (a + n) ≡ take (a + n) xs
 take_run xs a n l =
     let many : a + n - a ≡ n = omega arith in

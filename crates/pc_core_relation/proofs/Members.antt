@@ -1,4 +1,4 @@
--- The methods of the core that is made of a file member by member stand for these members.
+-- The methods of the core computed from a file member by member represent these members.
 use Rattle.std.proofs.Common.{◌≡◌, ℕ, ◌+◌, ◌≤◌, List, [], ◌++◌, length, map, Option, Some, None, refl, sym, ap, ◌∙◌, subst, arith, inl, inr}
 use Rattle.std.specs.Prelude.{slice_range, ◌↔◌}
 use Rattle.std.proofs.lemmas.List.{append_assoc}

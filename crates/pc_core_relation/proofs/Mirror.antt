@@ -1,4 +1,4 @@
--- What stands for a member by the tables from which the core of a file is made, and what is said of it.
+-- What represents a member by the tables from which the core of a file is computed, and by the definitions.
 use Rattle.std.proofs.Common.{◌≡◌, ℕ, ◌≤◌, List, [], ◌∷◌, Option, Some, None, Bool, true, false, refl, sym, subst, arith}
 use Rattle.std.specs.Prelude.{slice_get}
 use Rattle.pc_caps.specs.declared.capability.Cap.{Cap}

@@ -1,4 +1,4 @@
--- Where the names of a file are as they have to be, the passes over them find no fault.
+-- If the names of a file are right, the passes over them find no fault.
 use Rattle.std.proofs.Common.{◌≡◌, ℕ, zero, suc, ◌+◌, ◌<◌, ◌≤◌, ◌&&◌, ◌||◌, List, [], ◌∷◌, ◌++◌, length, map, drop, Option, Some, None, Bool, true, false, not, refl, sym, ap, ap₂, ◌∙◌, subst, arith, append-nil, if◌then◌else◌}
 use Rattle.std.specs.Prelude.{slice_get, nat_lt, codes}
 use Rattle.std.specs.Str.{bytes_eq}
@@ -173,7 +173,7 @@ no_methods names fields known (m ∷ ms) a h =
     (none_both (signature_faults names fields m) (method_faults names fields (known ++ m.name.text ∷ []) ms) (h m (0, refl))
     (no_methods names fields (known ++ m.name.text ∷ []) ms rest (λ x k. h x (has_on m ms x k))))
 
--- Texts after these, with none known between them.
+-- Texts after these, with no known ones in between.
 adds_behind : (fields xs : List Text) → Differ (fields ++ xs) → Adds (fields ++ []) xs
 adds_behind fields xs d = subst (λ b. Adds b xs) (sym (append-nil fields)) (differ_adds fields xs d)
 

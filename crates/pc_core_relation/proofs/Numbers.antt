@@ -1,4 +1,4 @@
--- A rose is numbered in a list of nodes exactly where it has been put into it.
+-- A rose is numbered in a list of nodes iff it was appended there.
 use Rattle.std.proofs.Common.{◌≡◌, ℕ, zero, suc, ◌+◌, ◌<◌, ◌≤◌, List, [], ◌∷◌, ◌++◌, length, take, Some, nat_lt, true, refl, ap, ◌∙◌, sym, subst, arith}
 use Rattle.std.specs.Prelude.{slice_get}
 use Rattle.std.proofs.lemmas.Bool.{lt-ltb}
@@ -15,7 +15,7 @@ use Rattle.pc_core_relation.specs.Numbers.{IsNumbered, AreNumbered}
 use Rattle.pc_core_relation.proofs.Lists.{take_count}
 use Rattle.pc_core_relation.specs.Laws.{WhatIsPutIsNumbered, WhatIsNumberedIsPut}
 
--- ---- more nodes behind
+-- ---- more nodes after it
 
 mutual
   numbered_front : (nodes extra : List Node) (m from : ℕ) (r : Rose) (n : ℕ) → IsNumbered nodes m from r n → IsNumbered (nodes ++ extra) m from r n
@@ -25,11 +25,11 @@ mutual
   all_front nodes extra m from no_roses ks next h = h
   all_front nodes extra m from (more r rs) ks next h = (h.0, h.1, h.2, numbered_front nodes extra m from r h.0 h.3, all_front nodes extra m (h.0 + 1) rs h.1 next h.4)
 
--- So it is in a list that goes on after another.
+-- The same in a list that continues another.
 pub numbered_in : (nodes all extra : List Node) (m from : ℕ) (r : Rose) (n : ℕ) → all ≡ nodes ++ extra → IsNumbered nodes m from r n → IsNumbered all m from r n
 numbered_in nodes all extra m from r n e h = subst (λ ns. IsNumbered ns m from r n) (sym e) (numbered_front nodes extra m from r n h)
 
--- ---- what has been put is numbered
+-- ---- what was appended is numbered
 
 mutual
   put_numbered : (m : ℕ) (r : Rose) (n : ℕ) (before after : List Node) → put m r before ≡ Some (n, after) → IsNumbered after m (length before) r n
@@ -63,9 +63,9 @@ mutual
 pub what_is_put_is_numbered : WhatIsPutIsNumbered
 what_is_put_is_numbered m r n before after h = (put_numbered m r n before after h, (post m r n before after h).last)
 
--- ---- what is numbered has been put
+-- ---- what is numbered was appended
 
--- One more of a list.
+-- One more element of a list.
 take_next : {T : Type 0} → (xs : List T) (n : ℕ) (x : T) → slice_get xs n ≡ Some x → take n xs ++ x ∷ [] ≡ take (n + 1) xs
 take_next [] n x e = absurd (none-some x e)
 take_next (y ∷ ys) zero x e = ap (λ z. z ∷ []) (sym (same_Some y x e))
@@ -93,7 +93,7 @@ mutual
 pub what_is_numbered_is_put : WhatIsNumberedIsPut
 what_is_numbered_is_put nodes m from r n few h = numbered_put nodes m from r n few h
 
--- ---- where numbers begin
+-- ---- where numbers start
 
 mutual
   pub numbered_from : (nodes : List Node) (m from : ℕ) (r : Rose) (n : ℕ) → IsNumbered nodes m from r n → from ≤ n

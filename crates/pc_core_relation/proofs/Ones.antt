@@ -1,4 +1,4 @@
--- A core that stands for a file is the one that is made of it.
+-- The core of a file is the one computed from it.
 use Rattle.std.proofs.Common.{◌≡◌, ℕ, suc, ◌+◌, ◌-◌, ◌<◌, ◌≤◌, ◌^◌, List, [], ◌∷◌, ◌++◌, length, map, drop, Some, refl, sym, ap, ap₂, ◌∙◌, subst, arith, length-drop}
 use Rattle.std.specs.Prelude.{slice_get, slice_range, codes, Ok}
 use Rattle.std.proofs.lemmas.Option.{same_Some}
@@ -66,7 +66,7 @@ drop_none : {T : Type 0} → (xs : List T) → drop 0 xs ≡ xs
 drop_none [] = refl
 drop_none (x ∷ xs) = refl
 
--- Runs end at one number.
+-- Runs end at only one number.
 follow_ends : (at : ℕ) (runs : List (ℕ × ℕ)) (one other : ℕ) → Follow at runs one → Follow at runs other → one ≡ other
 follow_ends at [] one other p q = sym p ∙ q
 follow_ends at (run ∷ runs) one other p q = follow_ends (at + run.1) runs one other p.1 q.1
@@ -86,9 +86,9 @@ own_names (e ∷ es) [] l h = absurd (omega (arith, l))
 own_names (e ∷ es) (x ∷ xs) l h = ap₂ (λ y ys. y ∷ ys) (h 0 e x refl refl) (own_names es xs (omega (arith, l)) (λ i a b g k. h (suc i) a b g k))
 
 module _ (file : t.File) (core : CoreData) where
-  -- ---- what is seen of the entities
+  -- ---- what is known of the entities
 
-  -- What is seen of an entity is what is known of it.
+  -- What bodies know of an entity is the same in both.
   record IsSeen (e : t.Entity) (x : EntityDef) : Type 0 where
     name : x.name ≡ e.name.text
     kind : x.kind ≡ e.kind
@@ -125,7 +125,7 @@ module _ (file : t.File) (core : CoreData) where
       let later : (i : ℕ) → n + suc i ≡ suc n + i = λ i. omega arith in
       ap₂ (λ y ys. y ∷ ys) same (entities_own es xs (suc n) (at + length (members file.entities e)) last (omega (arith, l)) next (λ i a b g k. h (suc i) a b g k ∙ ap (λ j. entity_of file (above_of core) j b.first_method a) (later i)))
 
-  -- ---- a core that stands
+  -- ---- the core of a file
 
   module _ (s : IsCoreOf file core) where
     texts_same : core.names ≡ texts_of file
@@ -223,7 +223,7 @@ module _ (file : t.File) (core : CoreData) where
     methods_split : core.methods ≡ print_method 1 ∷ drop 1 core.methods
     methods_split = sym (drop_none core.methods) ∙ drop_item core.methods 0 _ (s.built_in.method ∙ ap (λ n. Some (print_method n)) print_is)
 
-    -- ---- what is seen
+    -- ---- what is known
 
     own_seen : (i : ℕ) (e : t.Entity) (x : EntityDef) → slice_get file.entities i ≡ Some e → slice_get own i ≡ Some x → IsSeen e x
     own_seen i e x h g =

@@ -1,4 +1,4 @@
--- Where the passes over the names of a file find no fault, its names are as they have to be.
+-- If the passes over the names of a file find no fault, its names are right.
 use Rattle.std.proofs.Common.{◌≡◌, zero, suc, ◌||◌, List, [], ◌∷◌, ◌++◌, map, Bool, true, false, not, refl, sym, ◌∙◌, subst, arith, append-nil, if◌then◌else◌}
 use Rattle.std.specs.Prelude.{codes}
 use Rattle.std.specs.Str.{bytes_eq}
@@ -45,7 +45,7 @@ params_add names fields known (p ∷ ps) h =
     let fresh : is_among p.name.text (fields ++ known) ≡ false = among_parts p.name.text fields known ∙ where_none (is_among p.name.text fields || is_among p.name.text known) (fault.Double p.name.span) (nil_left own rest h) in
     (fresh, subst (λ b. Adds b (param_texts ps)) (sym (append_assoc fields known (p.name.text ∷ []))) (params_add names fields (known ++ p.name.text ∷ []) ps (nil_right (type_faults names p.ty) next (nil_right own rest h))))
 
--- What is wrong inside a method is nothing.
+-- There is no fault inside a method.
 method_none : (names fields known : List Text) (ms : List t.Method) → method_faults names fields known ms ≡ [] → (m : t.Method) → Has ms m → signature_faults names fields m ≡ []
 method_none names fields known [] h m g = absurd (none-some m g.1)
 method_none names fields known (x ∷ ms) h m g =

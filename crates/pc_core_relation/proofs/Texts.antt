@@ -30,14 +30,14 @@ before_front all more x y b = (
   ],
 )
 
--- One that is there already.
+-- A text that is there already.
 kept : (all names : List Text) (x : Text) → AreFirsts all names → Has names x → AreFirsts (all ++ x ∷ []) names
 kept all names x f there = record {
   same = λ y. (λ (h : Has names y). has_front all (x ∷ []) y ((f.same y).0 h), λ (h : Has (all ++ x ∷ []) y). elim (has_either all (x ∷ []) y h) [ inl a ↦ (f.same y).1 a | inr b ↦ subst (Has names) (only_one x y b) there ]);
   order = λ i j y z l h g. before_front all (x ∷ []) y z (f.order i j y z l h g);
 }
 
--- One that is new.
+-- A text that is new.
 pushed : (all names : List Text) (x : Text) → AreFirsts all names → (Has names x → ⊥) → AreFirsts (all ++ x ∷ []) (names ++ x ∷ [])
 pushed all names x f fresh = record {
   same = λ y. (
@@ -82,7 +82,7 @@ firsts_behind (x ∷ xs) all names f = subst (λ ys. AreFirsts ys (with_names (w
 firsts_of : (xs : List Text) → AreFirsts xs (with_names [] xs)
 firsts_of xs = firsts_behind xs [] [] (record { same = λ y. (λ (h : Has [] y). h, λ (h : Has [] y). h); order = λ i j x y l h g. absurd (none-some x h) })
 
--- ---- there is one such list
+-- ---- there is only one such list
 
 firsts_one : (all one other : List Text) → AreFirsts all one → AreFirsts all other → one ≡ other
 firsts_one all one other a b = one_order (Before all) not_both one other a.order b.order (λ x h. (b.same x).1 ((a.same x).0 h)) (λ x h. (a.same x).1 ((b.same x).0 h))

@@ -1,4 +1,4 @@
--- The type that a name finds among the entities of a core is the one that it means.
+-- The type found by a name among the entities of a core is the one that it means.
 use Rattle.std.proofs.Common.{◌≡◌, ℕ, zero, suc, ◌+◌, List, [], ◌∷◌, ◌++◌, map, Some, Bool, true, false, refl, sym, ap, ap₂, ◌∙◌, subst, arith, if◌then◌else◌}
 use Rattle.std.specs.Prelude.{slice_get, position, option_to_list}
 use Rattle.std.specs.Str.{bytes_eq}
@@ -88,7 +88,7 @@ is_type core ty p differ h =
     let same : r.0.1 ≡ p.1 = f.3 ∙ ap (λ (z : EntityDef). cap_or ty.cap z.cap) one ∙ sym h.3 in
     r.1 ∙ ap₂ (λ a b. Some (a, b)) place same
 
--- A type whose entity is there is that one.
+-- A type whose entity exists is that one.
 pub type_there : (core : CoreData) (ty : TypeRef) → Has (map entity_name core.entities) ty.name.text → IsType core ty (type_in (seen_entities core) ty)
 type_there core ty h =
     let r = type_found core ty h in
@@ -96,7 +96,7 @@ type_there core ty h =
 
 -- ---- the numbers of names
 
--- The numbers of names that are all there.
+-- The numbers of names that all exist.
 pub numbers_match : (names : List Text) (ns : List Name) → Differ names → ((n : Name) → Has ns n → Has names n.text) → Match (λ n b. position (bytes_eq n.text) names ≡ Some b) ns (numbers_of names ns)
 numbers_match names [] d h = match_none (λ n b. position (bytes_eq n.text) names ≡ Some b)
 numbers_match names (n ∷ ns) d h =
@@ -105,7 +105,7 @@ numbers_match names (n ∷ ns) d h =
     let rest = numbers_match names ns d (λ m g. h m (suc g.0, g.1)) in
     subst (λ o. Match (λ (m : Name) (b : ℕ). position (bytes_eq m.text) names ≡ Some b) (n ∷ ns) (option_to_list o ++ numbers_of names ns)) (sym is) (match_cons (λ (m : Name) (b : ℕ). position (bytes_eq m.text) names ≡ Some b) n there.0 ns (numbers_of names ns) is rest)
 
--- Names that have these numbers.
+-- Names with these numbers.
 pub numbers_one : (names : List Text) (ns : List Name) (bs : List ℕ) → Differ names → Match (λ n b. slice_get names b ≡ Some n.text) ns bs → numbers_of names ns ≡ bs
 numbers_one names [] [] d h = refl
 numbers_one names [] (b ∷ bs) d h = let e = h.0 in absurd (omega (arith, e))

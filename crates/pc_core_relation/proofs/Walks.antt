@@ -1,4 +1,4 @@
--- The methods that stand for the members of a file are those that are made of them one by one.
+-- The methods that represent the members of a file are those computed from them one by one.
 use Rattle.std.proofs.Common.{◌≡◌, ℕ, suc, ◌+◌, ◌-◌, ◌≤◌, List, [], ◌∷◌, ◌++◌, length, map, take, Option, Some, None, refl, sym, ap, ap₂, ◌∙◌, subst, arith, append_assoc, append-nil, length-append}
 use Rattle.std.specs.Prelude.{slice_get, slice_range, Ok}
 use Rattle.std.proofs.lemmas.Option.{slice_get_past}
@@ -41,7 +41,7 @@ use Rattle.pc_core_relation.proofs.Equals.{text_one, params_one, result_one, loc
 use Rattle.pc_core_relation.proofs.Members.{rose_same, faults_same}
 use Rattle.pc_core_relation.proofs.Mirror.{rose_of, faults_in, owned_context, ByTables}
 
--- ---- what becomes of a member without a fault
+-- ---- the outcome of a member without a fault
 
 outcome_ok : (c : Context) (m : ℕ) (e : t.Entity) (x : Member) (before : List Node) (r : Option ℕ × List Node) → member_faults c e x ≡ [] → slice_get (member_names e x) 63 ≡ None
     → ((s : Span) → put_body m s (member_rose c e x) before ≡ Ok r) → outcome c m e x before ≡ Ok r
@@ -52,7 +52,7 @@ outcome_ok c m e added before r f n h =
     ap (λ fs. unless_fault fs (unless_full (member_names e added) (put_body m e.name.span (member_rose c e added) before))) f
     ∙ ap (λ o. unless_name o (put_body m e.name.span (member_rose c e added) before)) n ∙ h e.name.span
 
--- A body that stands is put after the nodes before it.
+-- The body of the core is what is appended to the nodes before it.
 body_put : (core : CoreData) (m : ℕ) (s : Span) (x : Method) (o : Option Rose) (before : List Node) → length core.nodes ≤ node_limit → before ≡ take x.first_node core.nodes → BodyIs core m x o
     → put_body m s o before ≡ Ok (x.body, take (node_end x.first_node x.body) core.nodes)
 body_put core m s x None before few e h = ap (λ (ns : List Node). Ok (None, ns)) e ∙ ap (λ (b : Option ℕ). Ok (b, take (node_end x.first_node b) core.nodes)) (sym h)
@@ -140,7 +140,7 @@ module _ (file : t.File) (core : CoreData) (texts : core.names ≡ texts_of file
   abbrev parts : List Method → List Slot → List Node → Parts
   parts ms ss ns = record { methods = ms; slots = ss; nodes = ns }
 
-  -- From these members on, with the methods that stand for them.
+  -- From these members on, with the methods that represent them.
   pub walk : (os : List Owned) (ms : List Method) (front : List Method) (a b : ℕ) → front ++ ms ≡ core.methods → Follow a (map slots_run ms) (length core.slots) → Follow b (map nodes_run ms) (length core.nodes) → length os ≡ length ms
       → ((i : ℕ) (o : Owned) (x : Method) → slice_get os i ≡ Some o → slice_get ms i ≡ Some x → ByTables core (members file.entities o.owner) (length front + i) o x)
       → and_members file (parts front (take a core.slots) (take b core.nodes)) os ≡ Ok whole

@@ -1,4 +1,4 @@
--- What the body of a method sees of a finished core.
+-- What the body of a method knows of a finished core.
 use Rattle.std.specs.Prelude.{ℕ, suc, Bool, true, false, List, [], ◌∷◌, map, slice_get, if◌then◌else◌}
 use Rattle.pc_tree.specs.Tree as t
 use Rattle.pc_core.specs.declared.declarations.EntityDef.{EntityDef}
@@ -19,7 +19,7 @@ makes method.Be = false
 makes method.New = true
 makes method.Spawn = true
 
--- The text of this number.
+-- The text with this number.
 abbrev pub text_at : List Text → ℕ → Text
 text_at names n = or_nil (slice_get names n)
 
@@ -35,8 +35,8 @@ seen_entity core x = record { name = x.name; kind = x.kind; cap = x.cap; constru
 abbrev pub seen_entities : CoreData → List Known
 seen_entities core = map (seen_entity core) core.entities
 
--- What the body of a member sees: the names of its entity's fields and of these members, the entities and texts of the core, and
--- for each of its locals, by the place of its name, the slot.
+-- What the body of a member knows: the names of its entity's fields and of these members, the entities and texts of the
+-- core, and for each of its locals, by the place of its name, the slot.
 abbrev pub context_in : CoreData → List Member → t.Entity → List Placed → Context
 context_in core members e slots = record {
   fields = field_texts e.fields;

@@ -1,4 +1,4 @@
--- Which entity of a finished core stands for an entity of a file.
+-- Which entity of a finished core represents an entity of a file.
 use Rattle.std.specs.Prelude.{◌≡◌, ℕ, ◌+◌, List, length, Option, Some, slice_get}
 use Rattle.pc_caps.specs.declared.capability.Cap.{Cap}
 use Rattle.pc_caps.specs.declared.capability.Cap.TheVariants as cap
@@ -30,7 +30,7 @@ pub record FieldStands (core : CoreData) (f : t.Field) (x : FieldInfo) : Type 0 
   pub fixed : x.fixed ≡ f.fixed
   pub ty : IsType core f.ty (x.entity, x.cap)
 
--- Entity number n of the core, which is x, stands for an entity of the file.
+-- Entity number n of the core, which is x, represents an entity of the file.
 pub record EntityStands (file : t.File) (core : CoreData) (n : ℕ) (e : t.Entity) (x : EntityDef) : Type 0 where
   pub kind : x.kind ≡ e.kind
   pub cap : IsOwnCap e.kind e.cap x.cap
@@ -39,7 +39,7 @@ pub record EntityStands (file : t.File) (core : CoreData) (n : ℕ) (e : t.Entit
   -- what its `is` list names
   pub provides : Match (IsNamed core) e.provides x.provides
   pub fields : Match (FieldStands core) e.fields x.fields
-  -- its methods are its members, one after the other
+  -- its methods are its members, in order
   pub members : List Member
   pub are_members : HasMembers file e members
   pub count : x.methods ≡ length members

@@ -1,5 +1,5 @@
--- Which members an entity of a file has: its own methods, an added `create`, and those that it takes over or inherits. No list is gone
--- through here, and no number bounds a chain of `is`.
+-- The members of an entity of a file: its own methods, an added `create`, and those that it takes over. Stated without
+-- recursion over lists, and without a bound on chains of `is`.
 use Rattle.std.specs.Prelude.{◌≡◌, ◌↔◌, ℕ, ◌<◌, true, false, List, [], ◌∷◌, ◌++◌, map, Some, slice_get}
 use Rattle.pc_lists.specs.Places.{Has}
 use Rattle.pc_tree.specs.declared.names.Name.{Name}
@@ -8,15 +8,16 @@ use Rattle.pc_tree.specs.Tree as t
 use Rattle.pc_members.specs.Words.{has_added}
 use Rattle.pc_members.specs.Members.{Member, written, without_body, is_takable, own_texts, added_if}
 
--- ---- of several methods of one name, the first
+-- ---- the first of several methods with the same name
 
--- The method at this place of a list is, of those with a property, the first of its name.
+-- Of the methods with a property, the one at this place of a list is the first with its name.
 pub record IsFirstOfName (P : t.Method → Type 0) (all : List t.Method) (place : ℕ) (m : t.Method) : Type 0 where
   pub there : slice_get all place ≡ Some m
   pub fits : P m
   pub first : (q : ℕ) (x : t.Method) → q < place → slice_get all q ≡ Some x → P x → x.name.text ≡ m.name.text → ⊥
 
--- The methods of a list that are the first of their names among those with a property, and no others, in the order of the list.
+-- The methods of a list that are the first with their names among those with a property, and no others, in the order of
+-- the list.
 pub record AreFirstOfNames (P : t.Method → Type 0) (all firsts : List t.Method) : Type 0 where
   pub same : (m : t.Method) → Has firsts m ↔ ((p : ℕ) × IsFirstOfName P all p m)
   pub order : (i j p q : ℕ) (x y : t.Method) → i < j → slice_get firsts i ≡ Some x → slice_get firsts j ≡ Some y
@@ -28,12 +29,13 @@ abbrev pub AnyMethod : t.Method → Type 0
 AnyMethod m = Unit {0}
 
 mutual
-  -- The methods of a trait or an interface: of its own and then of those that its `is` list gives, the first of each name.
+  -- The methods of a trait or an interface: the first with each name, of its own methods and then those given by its
+  -- `is` list.
   pub data HasMethods (file : t.File) : t.Entity → List t.Method → Type 0 where
     inherits : {e : t.Entity} {given ms : List t.Method} → Gives file e.provides given → AreFirstOfNames AnyMethod (e.methods ++ given) ms
         → HasMethods file e ms
 
-  -- What the entities of these names have, one after the other.
+  -- The methods of the entities with these names, one after the other.
   pub data Gives (file : t.File) : List Name → List t.Method → Type 0 where
     no_more : Gives file [] []
     more : {n : Name} {ns : List Name} {ms rest : List t.Method} (f : t.Entity) → Has file.entities f → f.name.text ≡ n.text → HasMethods file f ms
@@ -41,13 +43,13 @@ mutual
 
 -- ---- all entities
 
--- Another entity takes over a method that has a body, may stand in it, and has the name of none of its own fields and methods.
+-- Another entity takes over a method that has a body, is allowed in the entity, and has none of the entity's own names.
 abbrev pub MayTake : t.Entity → t.Method → Type 0
 MayTake e m = (is_takable e.kind m ≡ true) × (Has (own_texts e) m.name.text → ⊥)
 
--- The members of an entity, in the order of their numbers. Those of a trait or an interface are its methods without their bodies.
--- Another entity has its own methods, an added `create` where it lacks a constructor, and of the methods that its `is` list gives those
--- that it takes over: of several of one name, the first.
+-- The members of an entity, in the order of their numbers. Those of a trait or an interface are its methods without
+-- bodies. Another entity has its own methods, an added `create` if it lacks a constructor, and those that it takes over
+-- of the methods given by its `is` list: the first with each name.
 pub data HasMembers (file : t.File) (e : t.Entity) : List Member → Type 0 where
   bodiless : {ms : List t.Method} → is_abstract e.kind ≡ true → HasMethods file e ms → HasMembers file e (map (λ m. written (without_body m)) ms)
   with_bodies : {given taken : List t.Method} → is_abstract e.kind ≡ false → Gives file e.provides given → AreFirstOfNames (MayTake e) given taken

@@ -1,4 +1,4 @@
--- Which method of a finished core stands for a member of an entity.
+-- Which method of a finished core represents a member of an entity.
 use Rattle.std.specs.Prelude.{◌≡◌, ℕ, ◌≤◌, Bool, true, false, List, [], ◌∷◌, ◌++◌, map, Option, Some, None, slice_get, codes}
 use Rattle.pc_caps.specs.Tables.{plain, unalias}
 use Rattle.pc_caps.specs.declared.capability.Cap.{Cap}
@@ -32,7 +32,7 @@ use Rattle.pc_core_relation.specs.Numbers.{IsNumbered}
 
 -- ---- receivers, parameters and results
 
--- `this` is `box` in a function that says nothing else, and `ref` in behaviours and constructors.
+-- `this` is `box` in a function without a written capability, and `ref` in behaviours and constructors.
 abbrev pub IsReceiver : t.Method → MethodWord → Cap → Type 0
 IsReceiver w word.Fun k = k ≡ cap_or w.cap cap.Box
 IsReceiver w word.Be k = k ≡ cap.Ref
@@ -42,17 +42,18 @@ pub record ParamStands (core : CoreData) (p : ParamDef) (x : ParamInfo) : Type 0
   pub ty : IsType core p.ty (x.entity, x.cap)
   pub span : x.span ≡ p.name.span
 
--- With `^` a value has no place yet.
+-- With `^` no place holds the value yet.
 abbrev pub IsForm : (hat : Bool) → Cap → Form → Type 0
 IsForm true k f = f ≡ unalias k
 IsForm false k f = f ≡ plain k
 
--- A function answers what is written, and else None; a behaviour answers None.
+-- A function returns what is written, or else None; a behaviour returns None.
 abbrev pub IsFunctionResult : CoreData → Option TypeRef → ℕ × Form → Type 0
 IsFunctionResult core None r = r ≡ (none_entity, form.Val)
 IsFunctionResult core (Some ty) r = (k : Cap) × IsType core ty (r.0, k) × IsForm ty.hat k r.1
 
--- A new object of entity n: an actor is a `tag`, and one of a class has the capability that its constructor gives it, and no place yet.
+-- A new object of entity n: an actor is `tag`, and an object of a class has the capability that its constructor gives
+-- it, and is in no place yet.
 abbrev pub IsObject : EntityKind → (n : ℕ) → Cap → ℕ × Form → Type 0
 IsObject kind.Class n k r = r ≡ (n, unalias k)
 IsObject kind.Actor n k r = r ≡ (n, form.Tag)
@@ -60,7 +61,7 @@ IsObject kind.Primitive n k r = r ≡ (n, unalias k)
 IsObject kind.Trait n k r = r ≡ (n, unalias k)
 IsObject kind.Interface n k r = r ≡ (n, unalias k)
 
--- A constructor gives a new object of its entity: with the capability that is written for it, or else as `ref`.
+-- A constructor returns a new object of its entity: with the capability that is written for it, or else as `ref`.
 abbrev pub IsResult : CoreData → EntityKind → (n : ℕ) → t.Method → MethodWord → ℕ × Form → Type 0
 IsResult core k n w word.Fun r = IsFunctionResult core w.result r
 IsResult core k n w word.Be r = r ≡ (none_entity, form.Val)
@@ -81,15 +82,15 @@ SlotsStand core m x locals = (slots : List Slot) × (own_slots core x ≡ this_s
 
 -- ---- bodies
 
--- The nodes from the method's first one up to its body are those of the rose, and there is no body where there is no rose.
+-- The nodes from the method's first one up to its body are those of the rose, and there is no body if there is no rose.
 abbrev pub BodyIs : CoreData → (m : ℕ) → Method → Option Rose → Type 0
 BodyIs core m x None = x.body ≡ None
 BodyIs core m x (Some r) = (b : ℕ) × (x.body ≡ Some b) × IsNumbered core.nodes m x.first_node r b
 
 -- ---- methods
 
--- Method number m of the core, which is x, stands for a method that is written, as a member of entity number n of the core, which has
--- these members. In its body nothing is at fault.
+-- Method number m of the core, which is x, represents a written method that is a member of entity number n of the core,
+-- which has these members. Its body has no fault.
 pub record WrittenStands (core : CoreData) (members : List Member) (n : ℕ) (e : t.Entity) (w : t.Method) (m : ℕ) (x : Method) : Type 0 where
   pub name : slice_get core.names x.name ≡ Some w.name.text
   pub kind : x.kind ≡ word_kind e.kind w.word
@@ -101,7 +102,8 @@ pub record WrittenStands (core : CoreData) (members : List Member) (n : ℕ) (e 
   pub no_fault : body_faults (context_in core members e (slots_of e.fields w)) e.fields w ≡ []
   pub body : BodyIs core m x (body_of (context_in core members e (slots_of e.fields w)) e.fields w)
 
--- It stands for the `create` that is added to that entity: at the entity's name, without parameters. Its object is isolated.
+-- It represents the `create` that is added to that entity: with the entity's name as its span, without parameters. Its
+-- object is isolated.
 pub record AddedStands (core : CoreData) (members : List Member) (n : ℕ) (e : t.Entity) (m : ℕ) (x : Method) : Type 0 where
   pub name : slice_get core.names x.name ≡ Some (codes "create")
   pub kind : x.kind ≡ constructor_kind e.kind
@@ -117,7 +119,7 @@ abbrev pub MemberStands : CoreData → List Member → (n : ℕ) → t.Entity �
 MemberStands core members n e (written w) m x = WrittenStands core members n e w m x
 MemberStands core members n e added m x = AddedStands core members n e m x
 
--- It stands for that member.
+-- It represents that member.
 pub record MethodStands (core : CoreData) (members : List Member) (n : ℕ) (e : t.Entity) (member : Member) (m : ℕ) (x : Method) : Type 0 where
   pub entity : x.entity ≡ n
   pub few_slots : x.slots ≤ slot_limit

@@ -1,4 +1,4 @@
--- What the names and declarations of a file are like where nothing is wrong with them.
+-- The names and declarations of a file without faults.
 use Rattle.std.specs.Prelude.{◌≡◌, ℕ, ◌≤◌, true, List, ◌++◌, map, length, Some, codes}
 use Rattle.pc_caps.specs.Limits.{entity_limit, field_limit}
 use Rattle.pc_lists.specs.Places.{Has, Differ}
@@ -13,11 +13,11 @@ use Rattle.pc_members.specs.Chains.{InCycle}
 use Rattle.pc_members.specs.Members.{own_texts}
 use Rattle.pc_names.specs.Mains.{is_main}
 
--- The name is that of an entity, of the language or of the file.
+-- The name is that of an entity, built-in or of the file.
 abbrev pub NamesEntity : t.File → Name → Type 0
 NamesEntity file n = Has (entity_names file) n.text
 
--- It is that of a trait or an interface of the file.
+-- The name is that of a trait or an interface of the file.
 abbrev pub NamesTrait : t.File → Name → Type 0
 NamesTrait file n = (e : t.Entity) × Has file.entities e × (is_abstract e.kind ≡ true) × (e.name.text ≡ n.text)
 
@@ -30,7 +30,7 @@ pub record SignatureIsRight (file : t.File) (fields : List t.Field) (m : t.Metho
   pub params : (p : ParamDef) → Has m.params p → NamesEntity file p.ty.name
   pub result : (ty : TypeRef) → m.result ≡ Some ty → NamesEntity file ty.name
 
--- An entity. The names in its `is` list differ, and those of its fields and methods do, with that of an added `create`.
+-- An entity. The names in its `is` list differ, and so do those of its fields and methods, including an added `create`.
 pub record DeclarationsAreRight (file : t.File) (e : t.Entity) : Type 0 where
   pub provides : (n : Name) → Has e.provides n → NamesTrait file n
   pub provides_differ : Differ (map (λ (n : Name). n.text) e.provides)
@@ -39,8 +39,8 @@ pub record DeclarationsAreRight (file : t.File) (e : t.Entity) : Type 0 where
   pub fields : (f : t.Field) → Has e.fields f → NamesEntity file f.ty.name
   pub methods : (m : t.Method) → Has e.methods m → SignatureIsRight file e.fields m
 
--- The whole file. The names of all entities differ, those of the language among them; no trait or interface leads back to itself; and
--- there is a Main with which a program begins.
+-- The whole file. The names of all entities differ, including the built-in ones; no trait or interface leads back to
+-- itself; and there is a Main with which a program starts.
 pub record NamesAreRight (file : t.File) : Type 0 where
   pub names : Differ (entity_names file)
   pub few_entities : length file.entities ≤ entity_limit

@@ -1,4 +1,4 @@
--- What a type that a file writes is in a finished core.
+-- What a type written in a file is in a finished core.
 use Rattle.std.specs.Prelude.{◌≡◌, ◌↔◌, ℕ, Option, Some, None, slice_get}
 use Rattle.pc_caps.specs.declared.capability.Cap.{Cap}
 use Rattle.pc_tree.specs.declared.names.Name.{Name}
@@ -11,11 +11,11 @@ use Rattle.pc_body_spec.specs.Slots.{cap_or}
 abbrev pub IsNamed : CoreData → Name → ℕ → Type 0
 IsNamed core n e = (x : EntityDef) × (slice_get core.entities e ≡ Some x) × (x.name ≡ n.text)
 
--- A type: the entity of its name, and the capability that is written, or else that of the entity.
+-- A type: the entity with its name, and the capability that is written, or else that of the entity.
 abbrev pub IsType : CoreData → TypeRef → ℕ × Cap → Type 0
 IsType core ty p = (x : EntityDef) × (slice_get core.entities p.0 ≡ Some x) × (x.name ≡ ty.name.text) × (p.1 ≡ cap_or ty.cap x.cap)
 
--- The same where no type may be written, and then there is none.
+-- The same for an optional type: if none is written, there is none.
 abbrev pub IsWritten : CoreData → Option TypeRef → Option (ℕ × Cap) → Type 0
 IsWritten core None w = w ≡ None
 IsWritten core (Some ty) w = (p : ℕ × Cap) → (w ≡ Some p) ↔ IsType core ty p

@@ -21,7 +21,7 @@ const ENTITIES: [KnownRow; 10] = [
     (b"T", EntityKind::Trait, &[]),
 ];
 
-// A constructor of one parameter, behind an initial value.
+// A constructor with one parameter, after an initial value.
 const FIRST: Written = Written {
     word: MethodWord::New,
     number: 5,
@@ -53,7 +53,7 @@ const FIRST_ROWS: [Row; 17] = [
     ("body", 0, &[15], 0, (300, 304)),
 ];
 
-// A function of one parameter without a result.
+// A function with one parameter and without a result.
 const SECOND: Written = Written {
     word: MethodWord::Fun,
     number: 6,
@@ -131,7 +131,7 @@ const NUMBER_ROWS: [Row; 3] = [
     ("body", 0, &[1], 0, (300, 304)),
 ];
 
-// The nodes of an added `create`, behind the initial value 7.
+// The nodes of an added `create`, after the initial value 7.
 const ADDED_ROWS: [Row; 6] = [
     ("number", 7, &[], 0, (0, 1)),
     ("this", 0, &[], 0, (200, 201)),
@@ -141,7 +141,7 @@ const ADDED_ROWS: [Row; 6] = [
     ("body", 0, &[4], 0, (300, 304)),
 ];
 
-// What an added `create` is put for.
+// What an added `create` is emitted for.
 const ADDED: Written = Written {
     word: MethodWord::New,
     number: 8,
@@ -151,7 +151,7 @@ const ADDED: Written = Written {
     initial: b"7",
 };
 
-// The nodes of a body behind those that are there, and its number.
+// The nodes of a body after those that are there already, and its number.
 fn nodes_of(
     alloc: Global,
     of: &Written,
@@ -171,7 +171,7 @@ fn nodes_of(
     body
 }
 
-// How far a body stands as in these rows, and its number.
+// How many nodes of a body agree with these rows, and its number.
 fn stands(
     alloc: Global,
     of: &Written,
@@ -206,7 +206,7 @@ fn no_body(rt: HostRuntime) {
     assert!(rt; stands(rt.alloc(), &THIRD, b"7", &NUMBER_ROWS) == Ok((Some(2), 3)));
 }
 
-// The nodes of the added `create` behind those that are there, and the number of its body.
+// The nodes of the added `create` after those that are there already, and the number of its body.
 fn added_nodes(alloc: Global, nodes: &mut List<Node>) -> Result<u32, EmitStop> {
     let program = program_of(alloc, &ENTITIES, &ADDED, b"")?;
     let body = emit_added(
@@ -221,7 +221,7 @@ fn added_nodes(alloc: Global, nodes: &mut List<Node>) -> Result<u32, EmitStop> {
     body
 }
 
-// How far the added `create` stands as in its rows, and the number of its body.
+// How many nodes of the added `create` agree with its rows, and the number of its body.
 fn added_stands(alloc: Global) -> Result<(u32, usize), EmitStop> {
     let mut nodes: List<Node> = List::new(alloc);
     let body = added_nodes(alloc, &mut nodes)?;
@@ -234,7 +234,7 @@ fn an_added_constructor(rt: HostRuntime) {
     assert!(rt; added_stands(rt.alloc()) == Ok((5, 6)));
 }
 
-// A text: its beginning, its middle, how many times that stands there, and its end.
+// A text: its beginning, its middle, how many times the middle is repeated, and its end.
 type Long = (&'static [u8], &'static [u8], u32, &'static [u8]);
 
 fn put_all(text: &mut Vec<u8>, row: Long) -> Result<(), AllocError> {
@@ -251,10 +251,10 @@ fn long_text(alloc: Global, row: Long) -> Result<Vec<u8>, AllocError> {
     Ok(text)
 }
 
-// A place, and the node that stands there.
+// A place, and the node there.
 type Spot = (u32, Row);
 
-// Whether these nodes stand at their places.
+// Whether these nodes are at their places.
 fn stand_at(nodes: &[Node], spots: &[Spot]) -> bool {
     for (place, row) in spots {
         if !is_node_at(nodes, *place, THIRD.number, row) {
@@ -285,7 +285,7 @@ fn long_body(
     body_of(alloc, &text, spots)
 }
 
-// The term `1` and so many operators have two nodes each and one more, with a sequence and a body around them.
+// The term `1` and each operator have two nodes, and there are one more and a sequence and a body around them.
 const OPERATORS: [Spot; 8] = [
     (0, ("number", 1, &[], 0, (0, 1))),
     (1, ("number", 1, &[], 0, (2, 3))),
@@ -323,7 +323,7 @@ fn a_long_chain_of_calls(rt: HostRuntime) {
     assert!(rt; body == Ok((Some(50_000), 50_001, true)));
 }
 
-// Each arm has six nodes but the first, which has five, and the missing `else` two.
+// Each arm has six nodes, except that the first has five, and the missing `else` has two.
 const ARMS: Long = (b"if 1 then 1 ", b"elseif 1 then 1 ", 30_000, b"end");
 
 // The conditions and branches of all arms come first, then the missing `else`, and then each `if` with its sequence, from the

@@ -29,7 +29,7 @@ const CREATE: Written = Written {
     initial: b"",
 };
 
-/// The same where the field has the initial value `p`, which stands at byte 10.
+/// The same if the field has the initial value `p`, which is at byte 10.
 const WITH_INITIAL: Written = Written {
     word: MethodWord::New,
     number: 1,
@@ -39,7 +39,7 @@ const WITH_INITIAL: Written = Written {
     initial: b"          p",
 };
 
-/// What is told of a body, with the place of what it is told of.
+/// What is reported of a body, with the place that it is about.
 #[derive(Clone, Copy)]
 enum Answer {
     Fine,
@@ -67,7 +67,7 @@ fn is_answer(alloc: Global, program: &Program, answer: Answer) -> bool {
     told.err() == fault_of(answer)
 }
 
-// Whether a text is a body, of which this is told.
+// Whether a text is a body of which this is reported.
 fn is_told(alloc: Global, of: &Written, text: &[u8], answer: Answer) -> Result<bool, AllocError> {
     let program = program_of(alloc, &ENTITIES, of, text)?;
     let told = program.method.body.is_some() && is_answer(alloc, &program, answer);
@@ -75,7 +75,7 @@ fn is_told(alloc: Global, of: &Written, text: &[u8], answer: Answer) -> Result<b
     Ok(told)
 }
 
-// A text behind so many blanks.
+// A text after this many blanks.
 fn placed(alloc: Global, place: u32, text: &[u8]) -> Result<Vec<u8>, AllocError> {
     let mut all: Vec<u8> = Vec::new(alloc);
     for _ in 0..place {
@@ -85,7 +85,7 @@ fn placed(alloc: Global, place: u32, text: &[u8]) -> Result<Vec<u8>, AllocError>
     Ok(all)
 }
 
-/// A body, and what is told of it.
+/// A body, and what is reported of it.
 type Row = (&'static [u8], Answer);
 
 fn row_is_told(alloc: Global, place: u32, row: &Row) -> Result<bool, AllocError> {
@@ -93,7 +93,7 @@ fn row_is_told(alloc: Global, place: u32, row: &Row) -> Result<bool, AllocError>
     is_told(alloc, &CREATE, &text, row.1)
 }
 
-// Whether of each of these bodies, where it stands at this place, its answer is told.
+// Whether the answer for each of these bodies is reported, if it is at this place.
 fn all_are_told(alloc: Global, place: u32, rows: &[Row]) -> Result<bool, AllocError> {
     for row in rows {
         if !row_is_told(alloc, place, row)? {
@@ -103,7 +103,7 @@ fn all_are_told(alloc: Global, place: u32, rows: &[Row]) -> Result<bool, AllocEr
     Ok(true)
 }
 
-// Each stands at byte 20.
+// Each is at byte 20.
 const EXPRESSIONS: [Row; 20] = [
     (b"p", Answer::Fine),
     (b"f", Answer::Fine),
@@ -135,7 +135,7 @@ fn put_literal(text: &mut Vec<u8>, count: u32) -> Result<(), AllocError> {
     text.extend_from_slice(b"\"")
 }
 
-// Whether of a literal of so many bytes, which stands at byte 20, this is told.
+// Whether this is reported of a literal with this many bytes at byte 20.
 fn literal_is_told(alloc: Global, count: u32, answer: Answer) -> Result<bool, AllocError> {
     let mut text = placed(alloc, 20, b"")?;
     put_literal(&mut text, count)?;
@@ -149,7 +149,7 @@ fn expressions_have_these_faults(rt: HostRuntime) {
     assert!(rt; literal_is_told(rt.alloc(), 4_097, Answer::LongText(20, 4_119)) == Ok(true));
 }
 
-// Each stands at byte 16, and so the name of the local at byte 20.
+// Each is at byte 16, and so the name of the local is at byte 20.
 const LOCALS: [Row; 7] = [
     (b"let x: T = p", Answer::Fine),
     (b"let x: Q = p", Answer::Unknown(23, 24)),
@@ -165,7 +165,7 @@ fn locals_have_these_faults(rt: HostRuntime) {
     assert!(rt; all_are_told(rt.alloc(), 16, &LOCALS) == Ok(true));
 }
 
-// Each stands at byte 15, and so what stands last at byte 40.
+// Each is at byte 15, and so its last part is at byte 40.
 const GROUPS: [Row; 2] = [
     (b"(let x =       p;  x);   p", Answer::Fine),
     (b"(let x =       p;  x);   x", Answer::Unknown(40, 41)),
@@ -190,7 +190,7 @@ fn no_parameter_is_visible_in_an_initial_value(rt: HostRuntime) {
     assert!(rt; is_told(rt.alloc(), &WITH_INITIAL, b"p", answer) == Ok(true));
 }
 
-// What is told of an added `create`.
+// What is reported of an added `create`.
 fn told_of_added(alloc: Global, of: &Written) -> Result<Option<BodyFault>, AllocError> {
     let program = program_of(alloc, &ENTITIES, of, b"")?;
     let told = check_added(alloc, &program.context, program.fields.as_slice());

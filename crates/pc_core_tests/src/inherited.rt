@@ -1,4 +1,4 @@
-//! Chains of traits, and what the methods of their cores are.
+//! Chains of traits, and the methods of their cores.
 use crate::parts::digit;
 use pc_core::{Core, MethodKind};
 use pc_test_inputs::core_of;
@@ -31,7 +31,7 @@ fn put_chain(text: &mut Vec<u8>, count: u32) -> Result<(), AllocError> {
     text.extend_from_slice(b"\n  fun m()\n")
 }
 
-/// `Main`, and so many traits, each of which names the next one in a line of 19 bytes. The last one has a method `m`.
+/// `Main`, and this many traits, each of which names the next one in a line of 19 bytes. The last one has a method `m`.
 fn chain(alloc: Global, count: u32) -> Result<Vec<u8>, AllocError> {
     let mut text = Vec::from_slice(alloc, MAIN)?;
     put_chain(&mut text, count)?;
@@ -43,16 +43,16 @@ fn core_of_chain(alloc: Global, count: u32) -> Option<Core> {
     core_of(alloc, &text)
 }
 
-/// A method: its entity, where its name starts, its kind and its count of slots.
+/// A method: its entity, where its name starts, its kind and its number of slots.
 type Row = (u32, u32, MethodKind, u32);
 
-/// What stands at a place among the methods.
+/// The method at a place.
 fn method_at(core: &Core, place: usize) -> Option<Row> {
     let found = core.methods().get(place)?;
     Some((found.entity, found.span.start, found.kind, found.slots))
 }
 
-// Whether a core has so many methods, and these at these places.
+// Whether a core has this many methods, and these at these places.
 fn has_methods(core: &Core, count: usize, rows: &[(usize, Row)]) -> bool {
     for (place, row) in rows {
         if method_at(core, *place) != Some(*row) {
@@ -62,7 +62,7 @@ fn has_methods(core: &Core, count: usize, rows: &[(usize, Row)]) -> bool {
     core.methods().len() == count
 }
 
-// Whether the core of a chain has so many methods, and these at these places.
+// Whether the core of a chain has this many methods, and these at these places.
 fn chain_has(alloc: Global, chain: u32, count: usize, rows: &[(usize, Row)]) -> bool {
     match core_of_chain(alloc, chain) {
         Some(core) => has_methods(&core, count, rows),

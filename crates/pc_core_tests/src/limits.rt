@@ -1,4 +1,4 @@
-//! Files at the limits of what may be named, and long chains.
+//! Files at the limits of their names, and long chains.
 use crate::parts::{digit, name_at, span, type_at};
 use crate::rows_of_files::{EntityRow, MAIN, entity_of, fault_in};
 use pc_caps::{List, Span};
@@ -11,7 +11,7 @@ fn numbered_span(number: u32) -> Span {
     span(start, start.saturating_add(5))
 }
 
-/// The name of a letter and four digits that starts at ten times the number.
+/// The name with a letter and four digits that starts at ten times the number.
 fn numbered(alloc: Global, letter: u8, number: u32) -> Result<Name, AllocError> {
     let text = [
         letter,
@@ -39,7 +39,7 @@ fn add_fields(alloc: Global, fields: &mut List<FieldDef>, count: u32) -> Result<
     Ok(())
 }
 
-/// A function, without a body.
+/// A function without a body.
 fn numbered_method(alloc: Global, number: u32) -> Result<MethodDef, AllocError> {
     Ok(MethodDef {
         word: MethodWord::Fun,
@@ -58,7 +58,7 @@ fn add_methods(alloc: Global, methods: &mut List<MethodDef>, count: u32) -> Resu
     Ok(())
 }
 
-/// A function, with a body of no items.
+/// A function with a body that has no items.
 fn numbered_body(alloc: Global, number: u32) -> Result<MethodDef, AllocError> {
     Ok(MethodDef {
         word: MethodWord::Fun,
@@ -80,7 +80,7 @@ fn add_bodies(alloc: Global, methods: &mut List<MethodDef>, count: u32) -> Resul
     Ok(())
 }
 
-/// A name of so many bytes.
+/// A name with this many bytes.
 fn long_name(alloc: Global, length: u32) -> Result<Name, AllocError> {
     let mut text = List::new(alloc);
     for _ in 0..length {
@@ -92,17 +92,17 @@ fn long_name(alloc: Global, length: u32) -> Result<Name, AllocError> {
     })
 }
 
-/// What an entity has besides what its row says.
+/// What an entity has besides what its row lists.
 #[derive(Clone, Copy)]
 enum More {
     Nothing,
-    /// So many fields.
+    /// This many fields.
     Fields(u32),
-    /// So many functions without bodies.
+    /// This many functions without bodies.
     Methods(u32),
-    /// So many functions with bodies of no items.
+    /// This many functions with bodies that have no items.
     Bodies(u32),
-    /// A name of so many bytes.
+    /// A name with this many bytes.
     Name(u32),
 }
 
@@ -141,13 +141,13 @@ fn file(alloc: Global, rows: &[Row]) -> Result<File, AllocError> {
     Ok(File { entities })
 }
 
-// What is told of the names of a file.
+// What is reported of the names of a file.
 fn told(alloc: Global, rows: &[Row]) -> Result<Option<NameFault>, AllocError> {
     let file = file(alloc, rows)?;
     Ok(fault_in(alloc, &file))
 }
 
-/// A class with so many fields, and `Main`.
+/// A class with this many fields, and `Main`.
 fn with_fields(count: u32) -> [Row; 2] {
     [
         (
@@ -166,7 +166,7 @@ fn fields_at_their_limit(rt: HostRuntime) {
 }
 
 /// `Main` with one method; a trait with a thousand; one that takes them over; a class with an added constructor; and a
-/// primitive with so many.
+/// primitive with this many.
 fn with_methods(count: u32) -> [Row; 5] {
     [
         (MAIN, More::Nothing),
@@ -196,8 +196,8 @@ fn methods_at_their_limit(rt: HostRuntime) {
     assert!(rt; told(rt.alloc(), &with_methods(7_999)) == Ok(Some(fault)));
 }
 
-/// `Main` with one method, a primitive with so many, a trait with a thousand bodies, and a class that takes them over, with an
-/// added constructor.
+/// `Main` with one method, a primitive with this many, a trait with a thousand bodies, and a class that takes them
+/// over, with an added constructor.
 fn with_bodies(count: u32) -> [Row; 4] {
     [
         (MAIN, More::Nothing),
@@ -223,7 +223,7 @@ fn methods_taken_over_at_their_limit(rt: HostRuntime) {
     assert!(rt; told(rt.alloc(), &with_bodies(7_999)) == Ok(Some(fault)));
 }
 
-/// Two classes with names of so many bytes, and `Main`.
+/// Two classes with names of these lengths in bytes, and `Main`.
 fn with_long_names(one: u32, other: u32) -> [Row; 3] {
     [
         (
@@ -245,7 +245,7 @@ fn long_names(rt: HostRuntime) {
     assert!(rt; told(rt.alloc(), &with_long_names(200_000, 200_000)) == Ok(Some(fault)));
 }
 
-/// A chain of traits: how many they are, whether the last names the first, and how many methods each has.
+/// A chain of traits: how many there are, whether the last names the first, and how many methods each has.
 type Chain = (u32, bool, u32);
 
 fn next_of(number: u32, chain: Chain) -> Option<u32> {
@@ -286,7 +286,7 @@ fn chain_file(alloc: Global, chain: Chain) -> Result<File, AllocError> {
     Ok(file)
 }
 
-// What is told of the names of a chain.
+// What is reported of the names of a chain.
 fn told_of_chain(alloc: Global, chain: Chain) -> Result<Option<NameFault>, AllocError> {
     let file = chain_file(alloc, chain)?;
     Ok(fault_in(alloc, &file))
@@ -296,7 +296,7 @@ fn above_count(names: &Names, entity: u32) -> Option<usize> {
     Some(names.above(entity)?.len())
 }
 
-/// What is asked of a chain of 999 traits, of which `Main` comes first.
+/// What a chain of 999 traits has to satisfy, of which `Main` comes first.
 fn is_whole_chain(names: &Names) -> bool {
     names.entity_count() == 1_006
         && names.entity(b"None") == Some(0)

@@ -3,12 +3,12 @@ use pc_caps::{Cap, List, Span};
 use pc_tree::{Name, TypeRef};
 use std::alloc::{AllocError, Global};
 
-/// What stands from one byte to another.
+/// The span from one byte to another.
 pub fn span(start: u32, end: u32) -> Span {
     Span { start, end }
 }
 
-/// A name that stands here.
+/// A name at this place.
 pub fn name_at(alloc: Global, text: &[u8], span: Span) -> Result<Name, AllocError> {
     Ok(Name {
         text: List::from_slice(alloc, text)?,
@@ -16,7 +16,7 @@ pub fn name_at(alloc: Global, text: &[u8], span: Span) -> Result<Name, AllocErro
     })
 }
 
-/// A type whose name stands here.
+/// A type whose name is at this place.
 pub fn type_at(
     alloc: Global,
     text: &[u8],

@@ -10,13 +10,13 @@ use pc_resolve::{Constructor, Constructors, Context, Known, LocalSlots, Placed};
 use pc_tree::{EntityKind, FieldDef, MethodDef, MethodWord, ParamDef, TypeRef};
 use std::alloc::{AllocError, Global};
 
-/// Where the name of each method stands.
+/// The place of the name of each method.
 pub const METHOD: Span = Span {
     start: 300,
     end: 304,
 };
 
-/// Where the name of the field stands.
+/// The place of the name of the field.
 const FIELD: Span = Span {
     start: 200,
     end: 201,
@@ -115,7 +115,7 @@ fn bare_context(alloc: Global, rows: &[KnownRow]) -> Result<Context, AllocError>
     )
 }
 
-/// The slot of a local by the place of its name.
+/// The slot of a local, by the place of its name.
 pub type SlotRow = (u32, u32);
 
 fn slots_of(alloc: Global, rows: &[SlotRow]) -> Result<LocalSlots, AllocError> {
@@ -155,7 +155,7 @@ fn typed(alloc: Global) -> Result<TypeRef, AllocError> {
     type_at(alloc, b"U64", METHOD, None)
 }
 
-// The field `f`, with an initial value where this text is not empty.
+// The field `f`, with an initial value unless this text is empty.
 fn field(alloc: Global, value: &[u8]) -> Result<FieldDef, AllocError> {
     Ok(FieldDef {
         fixed: false,
@@ -221,7 +221,7 @@ pub struct Program {
     pub context: Context,
 }
 
-/// The program of these entities around a method, where its body is this text.
+/// The program of these entities around a method, if its body is this text.
 pub fn program_of(
     alloc: Global,
     rows: &[KnownRow],

@@ -15,7 +15,7 @@ pub fn read_seq(alloc: Global, text: &[u8]) -> Option<Seq> {
     seq_of(alloc, tokens.as_slice())
 }
 
-// The sequence that these tokens spell, of which the last is the end of the text.
+// The sequence that these tokens spell, the last of which is the end of the text.
 fn seq_of(alloc: Global, tokens: &[Token]) -> Option<Seq>
     requires { EndsWithEnd tokens.now }
 {
@@ -38,7 +38,7 @@ pub fn read_expr(alloc: Global, text: &[u8]) -> Option<Expr> {
     expr_of(alloc, tokens.as_slice())
 }
 
-// The expression that these tokens spell, of which the last is the end of the text.
+// The expression that these tokens spell, the last of which is the end of the text.
 fn expr_of(alloc: Global, tokens: &[Token]) -> Option<Expr>
     requires { EndsWithEnd tokens.now }
 {

@@ -3,10 +3,10 @@ use pc_caps::Cap;
 use pc_core::{Node, NodeKind};
 use pc_tree::Op;
 
-/// A node: its kind, the number in it, its children, its depth, its first byte and the byte behind its last.
+/// A node: its kind, the number in it, its children, its depth, its first byte and the byte after its last.
 pub type Row = (&'static str, u64, &'static [u32], u32, (u32, u32));
 
-// An operator by its sign, where a node has one.
+// An operator by its sign, if a node has one.
 fn sign_of(op: Op) -> &'static str {
     match op {
         Op::Add => "+",

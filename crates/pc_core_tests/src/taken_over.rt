@@ -1,4 +1,4 @@
-//! Bodies that stand in traits: which entity takes them over, and what their names are there.
+//! Bodies in traits: which entity takes them over, and what their names mean there.
 use crate::parts::span;
 use crate::rows::shown;
 use pc_caps::Span;
@@ -15,7 +15,7 @@ fn method_at(core: &Core, place: usize) -> Option<Row> {
     Some((method.entity, method.span.start, method.body.is_some()))
 }
 
-/// Whether these are the methods of a core, behind that of the language.
+/// Whether these are the methods of a core, after those of the language.
 fn has_methods(core: &Core, rows: &[Row]) -> bool {
     for place in 0..rows.len() {
         if method_at(core, place.saturating_add(1)) != Some(rows[place]) {
@@ -122,7 +122,7 @@ const PASSED_OVER: [FileRow; 3] = [
             (8, 95, true),
         ],
     ),
-    // A method of its own has it.
+    // A method of the class itself has it.
     (
         b"trait T\n  fun m(): U64 => 1\nclass C is T\n  fun m(): U64 => 2\nactor Main\n  new create(env: Env) => None\n",
         &[(6, 14, false), (7, 47, true), (7, 34, true), (8, 78, true)],
@@ -157,7 +157,7 @@ fn is_node(alloc: Global, text: &[u8], place: usize, found: Found) -> bool {
 const PARAMETER: &[u8] =
     b"trait T\n  fun get(f: U64): U64 => f\nclass C is T\n  var f: U64 = 3\nactor Main\n  new create(env: Env) => None\n";
 
-// In a method that the class has itself it is a fault.
+// In a method of the class itself, it is a fault.
 const OWN_PARAMETER: &[u8] =
     b"class C\n  var f: U64 = 3\n  fun get(f: U64): U64 => f\nactor Main\n  new create(env: Env) => None\n";
 
@@ -190,7 +190,7 @@ const LOOKED_AT: [FaultRow; 4] = [
         b"trait T\n  fun m(): U64 => zz\nclass C is T\nactor Main\n  new create(env: Env) => None\n",
         UNKNOWN,
     ),
-    // One class has what the body names, and another has not.
+    // One class has what the body names, and another does not.
     (
         b"trait T\n  fun m(): U64 => zz\nclass C is T\n  let zz: U64 = 1\nactor Main\n  new create(env: Env) => None\n",
         None,

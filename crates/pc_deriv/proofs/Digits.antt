@@ -8,7 +8,7 @@ use Rattle.std.specs.Fmt.{digit_glyph, digits_onto, digits, decimal}
 
 -- ---- hex
 
--- These are the hex digits of a number: one of them, or those of its sixteenth and one more.
+-- These are the hex digits of a number: a single digit, or those of its sixteenth and one more.
 data Hex : ℕ → List ℕ → Type 0 where
   last : {n : ℕ} {ds : List ℕ} → n / 16 ≡ 0 → ds ≡ digit_glyph false (n % 16) ∷ [] → Hex n ds
   more : {n : ℕ} {ds : List ℕ} → (front : List ℕ) → 0 < n / 16 → Hex (n / 16) front → ds ≡ front ++ (digit_glyph false (n % 16) ∷ []) → Hex n ds
@@ -16,7 +16,7 @@ data Hex : ℕ → List ℕ → Type 0 where
 no_more : (m : ℕ) → m ≡ 0 → 0 < m → ⊥
 no_more m e h = absurd (omega (arith, e, h))
 
--- A number has them in one way.
+-- A number has only one list of digits.
 only : {n : ℕ} (ds es : List ℕ) → Hex n ds → Hex n es → ds ≡ es
 only ds es (last z e) (last y f) = e ∙ sym f
 only {n} ds es (last z e) (more front p h f) = absurd (no_more (n / 16) z p)
@@ -30,7 +30,7 @@ positive : (m : ℕ) → (m == 0) ≡ false → 0 < m
 positive zero e = absurd (eqb-false 0 0 e refl)
 positive (suc m) e = omega arith
 
--- What is written of a number, before anything else, are its digits.
+-- What is written for a number, before anything else, is its digits.
 written : (k n : ℕ) → n < 2 ^ suc k → (acc : List ℕ) → (ds : List ℕ) × Hex n ds × (digits_onto (suc k) 16 false n acc ≡ ds ++ acc)
 written zero n h acc =
     let glyph : ℕ = digit_glyph false (n % 16) in
@@ -57,7 +57,7 @@ hex_step n high small =
 
 -- ---- both bases
 
--- The digits in a base of one digit, and of one digit more.
+-- The digits in a base, for one digit and for one more digit.
 pub record Base (base : ℕ) : Type 0 where
   pub some : 2 ≤ base
   pub small : base ≤ 16

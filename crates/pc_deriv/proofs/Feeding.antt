@@ -13,14 +13,14 @@ use Rattle.pc_deriv.specs.Pieces.{NoEnd, IsNext}
 abbrev Answer : Type 0
 Answer = Result (Option Line) LineFault
 
--- ---- bytes behind bytes
+-- ---- bytes after bytes
 
 pub more_app : (a : Answer) (xs ys : List Line) → one_more a (xs ++ ys) ≡ one_more a xs ++ ys
 more_app (Ok (Some l)) xs ys = refl
 more_app (Ok None) xs ys = refl
 more_app (Err f) xs ys = refl
 
--- what is known behind two pieces
+-- the state after two pieces
 pub fed_now : (t : Taken) (a b : List ℕ) → (fed t (a ++ b)).1 ≡ (fed (fed t a).1 b).1
 fed_now t [] b = refl
 fed_now t (x ∷ a) b = fed_now (took t x).1 a b
@@ -33,7 +33,7 @@ fed_lines t (x ∷ a) b = ap (one_more (took t x).0) (fed_lines (took t x).1 a b
 pub fed_both : (t : Taken) (a b : List ℕ) → fed t (a ++ b) ≡ ((fed t a).0 ++ (fed (fed t a).1 b).0, (fed (fed t a).1 b).1)
 fed_both t a b = ap₂ (λ (x : List Line) (y : Taken). (x, y)) (fed_lines t a b) (fed_now t a b)
 
--- behind a fault nothing is taken
+-- after a fault nothing is taken
 stays_at : (t : Taken) (f : LineFault) (b : ℕ) → t.fault ≡ Some f → took t b ≡ (Err f, t)
 stays_at t f b e = ap (λ o. took_at o t b) e
 
@@ -58,7 +58,7 @@ kept_on : (t : Taken) (b : ℕ) (long : Bool) (u : Taken) → t.fault ≡ None �
 kept_on t b true u none e = let h : Ok None ≡ Err (fault.BadLine (t.ended + 1)) = ap (λ (x : Answer × Taken). x.0) e in cc
 kept_on t b false u none e = ap (λ (x : Answer × Taken). x.1.fault) e ∙ none
 
--- a byte that ends no line, and is none
+-- a byte that ends no line, and is no line end
 quiet_by : (t u : Taken) (b : ℕ) (ends : Bool) → (b == 10) ≡ ends → t.fault ≡ None
     → (Ok None, u) ≡ cond ends (answered (said t.version t.counts t.ended (t.pending ++ b ∷ [])), behind t (said t.version t.counts t.ended (t.pending ++ b ∷ []))) (kept t b (length t.pending + 1 == longest_line))
     → (b ≢ 10) × (u.fault ≡ None)
@@ -77,7 +77,7 @@ ends_by l t u b false p e = absurd (not_kept l t b (length t.pending + 1 == long
 pub ends : (l : Line) (t u : Taken) (b : ℕ) → t.fault ≡ None → (Ok (Some l), u) ≡ took t b → b ≡ 10
 ends l t u b none e = ends_by l t u b (b == 10) refl (went t b (Ok (Some l), u) none e)
 
--- a fault stands in what is known then
+-- the fault is part of the state after it
 fault_behind : (f : LineFault) (t : Taken) (s : Result Line LineFault) → Err f ≡ answered s → (behind t s).fault ≡ Some f
 fault_behind f t (Ok l) e = cc
 fault_behind f t (Err g) e = cc
@@ -100,7 +100,7 @@ pub no_end_app : (a b : List ℕ) → NoEnd a → NoEnd b → NoEnd (a ++ b)
 no_end_app [] b p q = q
 no_end_app (x ∷ a) b p q = (p.0, no_end_app a b p.1 q)
 
--- A part of a piece was taken: no line ended in it, and nothing was wrong.
+-- A part of a piece was taken: no line ended in it, and there was no fault.
 pub record Quiet (old : Taken) (piece : List ℕ) (at stop : ℕ) (now : Taken) : Type 0 where
   pub from : at ≤ stop
   pub to : stop ≤ length piece

@@ -1,4 +1,4 @@
--- What was written fits its text.
+-- What was written is well-formed.
 use Rattle.std.proofs.Common.{◌≡◌, ℕ, ◌+◌, ◌<◌, suc, zero, List, [], ◌∷◌, ◌++◌, Ok, Err, length, get_or, take, drop, sym, ap, ◌∙◌, subst, arith, append_assoc}
 use Rattle.std.specs.Prelude.{Result, IfOk}
 use Rattle.std.specs.List.{AllByRecursion}
@@ -9,7 +9,7 @@ use Rattle.pc_deriv.specs.Text.{lines, deriv_text, SlotFits, NoteFits}
 use Rattle.pc_deriv.specs.Faults.{Within, IsText}
 
 module _ {A : Type 0} where
-  -- one thing more that fits
+  -- one more thing that fits
   pub fits_more : (P : A → Type 0) (xs : List A) (i : ℕ) (d : A) → i < length xs → P (get_or xs i d) → AllByRecursion P (take i xs) → AllByRecursion P (take (i + 1) xs)
   fits_more P [] i d within p h = absurd (omega (arith, within))
   fits_more P (y ∷ ys) zero d within p h = (p, tt)
@@ -17,7 +17,7 @@ module _ {A : Type 0} where
       let same : suc (i + 1) ≡ suc i + 1 = omega arith in
       subst (λ n. AllByRecursion P (take n (y ∷ ys))) same (h.0, fits_more P ys i d (omega (arith, within)) p h.1)
 
-  -- one line more that is written
+  -- one more line that is written
   pub lines_more : (line : A → List ℕ) (xs : List A) (i : ℕ) (d : A) (old new all : List ℕ) → i < length xs → new ≡ old ++ line (get_or xs i d) → old ++ lines line (drop i xs) ≡ all → new ++ lines line (drop (i + 1) xs) ≡ all
   lines_more line xs i d old new all within puts so =
       ap (λ l. l ++ lines line (drop (i + 1) xs)) puts ∙ append_assoc old (line (get_or xs i d)) (lines line (drop (i + 1) xs))

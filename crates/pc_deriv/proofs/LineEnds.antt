@@ -31,7 +31,7 @@ use Rattle.pc_deriv.proofs.Feeding.{no_end_app}
 
 -- ---- parts of a line
 
--- at most so many bytes, and no line end among them
+-- at most this number of bytes, and no line end among them
 pub record Plain (n : ℕ) (bytes : List ℕ) : Type 0 where
   pub none : NoEnd bytes
   pub short : length bytes ≤ n
@@ -160,7 +160,7 @@ type_plain (Some (entity, form)) fits = plain_app (decimal_plain entity fits) (p
 
 -- ---- a line
 
--- bytes whose only line end is the last of them, and so many before it
+-- bytes whose only line end is the last of them, and at most this number of bytes before it
 pub record Framed (n : ℕ) (bytes : List ℕ) : Type 0 where
   pub front : List ℕ
   pub none : NoEnd front
@@ -209,7 +209,7 @@ pub note_framed : (v : Version) (x : Note) → NoteFits x → Framed 127 (note_l
 note_framed v note fits =
     within_line (omega arith) (framed_on (plain_is 2 (codes "n ") refl) (framed_on (plain_is 11 (rule_name note.rule) (rule_plain note.rule)) (framed_on space (framed_on (type_plain note.ty fits.0) (masks_framed v note fits)))))
 
--- ---- where the first line end stands
+-- ---- the place of the first line end
 
 tails : (x y : ℕ) (xs ys : List ℕ) → x ∷ xs ≡ y ∷ ys → xs ≡ ys
 tails x y xs ys e = ap (drop 1) e
@@ -217,7 +217,7 @@ tails x y xs ys e = ap (drop 1) e
 heads : (x y : ℕ) (xs ys : List ℕ) → x ∷ xs ≡ y ∷ ys → x ≡ y
 heads x y xs ys e = ap (λ l. get_or l 0 0) e
 
--- two cuts at the first line end are one
+-- two cuts at the first line end are the same
 first_end : (a b r s : List ℕ) → NoEnd a → NoEnd b → a ++ 10 ∷ r ≡ b ++ 10 ∷ s → (a ≡ b) × (r ≡ s)
 first_end [] [] r s p q e = (refl, tails 10 10 r s e)
 first_end [] (y ∷ b) r s p q e = absurd (q.0 (sym (heads 10 y r (b ++ 10 ∷ s) e)))
@@ -226,7 +226,7 @@ first_end (x ∷ a) (y ∷ b) r s p q e =
     let more = first_end a b r s p.1 q.1 (tails x y (a ++ 10 ∷ r) (b ++ 10 ∷ s) e) in
     (ap₂ (λ h t. h ∷ t) (heads x y (a ++ 10 ∷ r) (b ++ 10 ∷ s) e) more.0, more.1)
 
--- no line end stands within bytes that have none
+-- there is no line end within bytes that have none
 no_end_within : (l more b s : List ℕ) → NoEnd l → length b < length l → l ++ more ≡ b ++ 10 ∷ s → ⊥
 no_end_within [] more b s p less e = omega (arith, less)
 no_end_within (x ∷ l) more [] s p less e = p.0 (heads x 10 (l ++ more) s e)
@@ -243,14 +243,14 @@ module _ {A : Type 0} (read : List ℕ → Option (A × List ℕ)) (line : A →
   cut : (x : A) (rest : List ℕ) (f : Framed 127 (line x)) → line x ++ rest ≡ f.front ++ 10 ∷ rest
   cut x rest f = ap (λ l. l ++ rest) f.is ∙ append_assoc f.front (10 ∷ []) rest
 
-  -- bytes without a line end that are as many as the buffer holds
+  -- bytes without a line end that fill the buffer
   pub none_long : (l more : List ℕ) → NoEnd l → longest_line ≤ length l → NoLine line Fits (l ++ more)
   none_long l more none long x rest fits e =
       let f = framed x fits in
       let s = f.short in
       no_end_within l more f.front rest none (omega (arith, s, long)) (e ∙ cut x rest f)
 
-  -- a line that is not of the form
+  -- a malformed line
   pub none_ended : (pending more : List ℕ) → NoEnd pending → read (pending ++ 10 ∷ []) ≡ None → NoLine line Fits (pending ++ 10 ∷ more)
   none_ended pending more none unread x rest fits e =
       let f = framed x fits in
@@ -261,7 +261,7 @@ module _ {A : Type 0} (read : List ℕ → Option (A × List ℕ)) (line : A →
   pub none_open : (pending : List ℕ) → NoEnd pending → NoLine line Fits pending
   none_open pending none x rest fits e = let f = framed x fits in no_end_at pending f.front rest none (e ∙ cut x rest f)
 
-  -- a line that is of the form
+  -- a well-formed line
   pub is_line : (pending : List ℕ) (x : A) (rest : List ℕ) → NoEnd pending → read (pending ++ 10 ∷ []) ≡ Some (x, rest) → Fits x × (pending ++ 10 ∷ [] ≡ line x)
   is_line pending x rest none e =
       let s = reads.sound (pending ++ 10 ∷ []) x rest e in

@@ -1,4 +1,4 @@
--- A line is read where it stands, and nowhere else.
+-- A line is read if it is there, and only then.
 use Rattle.std.proofs.Common.{◌≡◌, ℕ, ◌-◌, ◌^◌, ◌<◌, List, ◌∷◌, ◌++◌, Option, Some, None, refl, sym, ap, ◌∙◌, subst, arith, append_assoc}
 use Rattle.std.specs.Prelude.{codes, decimal, ⊤}
 use Rattle.pc_caps.specs.declared.capability.Cap.{Cap}
@@ -19,12 +19,12 @@ use Rattle.pc_lists.proofs.Options.{none_some, bind_some}
 use Rattle.pc_deriv.proofs.Shown.{shown_twice, shown_fits}
 use Rattle.pc_deriv.proofs.NameReading.{after_sound, after_own, version_sound, version_own, rule_sound, rule_own, cap_sound, cap_own, form_sound, form_own}
 
--- What is read from the front of a text is what stands there, and what stands there is read.
+-- What is read from the start of a text is there, and what is there is read.
 pub record Reads {A : Type 0} (read : List ℕ → Option (A × List ℕ)) (text : A → List ℕ → List ℕ) (Fits : A → Type 0) : Type 0 where
   pub sound : (bytes : List ℕ) (x : A) (rest : List ℕ) → read bytes ≡ Some (x, rest) → Fits x × (bytes ≡ text x rest)
   pub own : (x : A) (rest : List ℕ) → Fits x → read (text x rest) ≡ Some (x, rest)
 
--- two readings, one behind the other
+-- two readings, one after the other
 abbrev mask_of : ℕ → Mask
 mask_of n = record { 0 = n }
 
@@ -135,7 +135,7 @@ type_reads : Reads type_at (λ ty rest. type_text ty ++ (32 ∷ rest)) TypeFits
 unfolding type_at
 type_reads = record { sound = λ bytes ty rest e. type_by bytes ty rest (after (codes "- ") bytes) refl e; own = type_own }
 
--- a line in front of the rest
+-- a line before the rest
 onto : (a b r : List ℕ) {c : List ℕ} → b ++ r ≡ c → (a ++ b) ++ r ≡ a ++ c
 onto a b r h = append_assoc a b r ∙ ap (λ l. a ++ l) h
 
@@ -159,7 +159,7 @@ counts_on version text = decimal_at 32 text >>= (λ a. decimal_at 10 a.1 >>= (λ
 abbrev version_on : List ℕ → Option ((Version × (ℕ × ℕ)) × List ℕ)
 version_on text = version_at text >>= (λ v. counts_on v.0 v.1)
 
--- a first line of a version and its counts
+-- a first line with a version and its counts
 abbrev pub head_text : Version × (ℕ × ℕ) → List ℕ
 head_text x = head_line x.0 x.1
 

@@ -1,4 +1,4 @@
--- Nodes with the same masks have one text of them.
+-- Nodes with the same masks have the same text for them.
 use Rattle.std.proofs.Common.{◌≡◌, ℕ, List, Some, refl, ap, ◌∙◌}
 use Rattle.std.proofs.lemmas.Option.{same_Some}
 use Rattle.pc_ann.specs.declared.annotation.Note.{Note}

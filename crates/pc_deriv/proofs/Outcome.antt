@@ -1,4 +1,4 @@
--- The outcome of a text, and that there is one.
+-- The outcome of a text, and its existence.
 use Rattle.std.proofs.Common.{◌≡◌, ℕ, zero, suc, ◌+◌, ◌<◌, ◌≤◌, Bool, true, false, cond, ◌&&◌, List, [], ◌∷◌, ◌++◌, Option, Some, None, Ok, Err, length, refl, sym, ap, ◌∙◌, inl, inr, ◌⊎◌, arith, append_assoc, append-nil}
 use Rattle.std.specs.Prelude.{Result, IfOk, IfErr, nat_lt, nat_le}
 use Rattle.std.specs.List.{AllByRecursion}
@@ -16,12 +16,12 @@ use Rattle.pc_deriv.specs.Faults.{Within, IsText, Begins, NoLine, BeginsHead, Is
 use Rattle.pc_deriv.specs.Answers.{Answers}
 use Rattle.pc_deriv.proofs.LineReading.{Reads, head_text, HeadFits, head_reads, slot_reads, note_reads}
 
--- one more, and those behind it
+-- one more, and the later ones
 abbrev one_more : {A : Type 0} → List ℕ → (List ℕ → List A × List ℕ) → Option (A × List ℕ) → List A × List ℕ
 one_more text more None = ([], text)
 one_more text more (Some (x, rest)) = (x ∷ (more rest).0, (more rest).1)
 
--- as many as can be read, and not more than so many
+-- as many as can be read, but at most this number
 abbrev many : {A : Type 0} → (List ℕ → Option (A × List ℕ)) → ℕ → List ℕ → List A × List ℕ
 many read zero text = ([], text)
 many read (suc n) text = one_more text (many read n) (read text)
@@ -184,7 +184,7 @@ one_fault bytes f g p q = err_one (outcome bytes) f g (fault_outcome bytes f p) 
 pub no_fault : (bytes : List ℕ) (ann : Ann) (f : DerivFault) → IsText bytes ann → IsFault bytes f → ⊥
 no_fault bytes ann f p q = ok_err (outcome bytes) (p.version, ann) f (text_outcome bytes ann p) (fault_outcome bytes f q)
 
--- what is answered, where the bytes are a text, and where they have a fault
+-- what is returned if the bytes are a text, and if they have a fault
 pub answers_text : (bytes : List ℕ) (result : Result Ann DerivFault) (ann : Ann) → IfOk result (IsText bytes) → IfErr result (Refuses bytes) → IsText bytes ann → Answers result (Ok ann)
 answers_text bytes (Ok other) ann ok err is = inl (ap Ok (one_annotation bytes other ann ok is))
 answers_text bytes (Err fault.Memory) ann ok err is = inr refl

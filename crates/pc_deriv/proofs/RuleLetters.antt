@@ -1,4 +1,4 @@
--- A rule's name is looked for among those that begin with the text's first byte.
+-- A rule's name is looked for among those that begin with the first byte of the text.
 use Rattle.std.proofs.Common.{◌≡◌, ℕ, ◌<◌, List, [], ◌∷◌, refl, sym, subst, arith, slice_index_or}
 use Rattle.pc_ann.specs.declared.annotation.Rule.{Rule}
 use Rattle.pc_ann.specs.declared.annotation.Rule.TheVariants as rule

@@ -8,7 +8,7 @@ use Rattle.pc_deriv.specs.declared.version.Version.{Version}
 use Rattle.pc_deriv.specs.declared.version.Version.TheVariants as version
 use Rattle.pc_deriv.specs.Text.{shown_after, MaskFits}
 
--- from what is written it gives the mask again
+-- applied to what is written, it gives the mask
 pub shown_twice : (v : Version) (before after : Mask) → shown_after v before (shown_after v before after) ≡ after
 shown_twice version.One before after = refl
 shown_twice version.Two before after =

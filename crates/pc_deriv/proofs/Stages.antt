@@ -1,4 +1,4 @@
--- Behind lines that are of their form, the next line is the next thing of the text, or makes the text's fault.
+-- After well-formed lines, the next line is the next thing of the text, or is the fault of the text.
 use Rattle.std.proofs.Common.{◌≡◌, ℕ, suc, ◌+◌, ◌<◌, ◌≤◌, Bool, true, false, cond, ◌&&◌, ◌==◌, List, [], ◌∷◌, ◌++◌, Option, Some, None, Ok, Err, length, refl, sym, ap, ap₂, ◌∙◌, subst, inl, inr, arith, append_assoc, append-nil, length-append}
 use Rattle.std.specs.Prelude.{map, option_map, nat_le}
 use Rattle.std.specs.List.{AllByRecursion}
@@ -27,7 +27,7 @@ use Rattle.pc_deriv.proofs.LineEnds.{head_framed, slot_framed, note_framed, none
 
 -- ---- what was read
 
--- so many slots, fewer than the first line says
+-- this number of slots, fewer than the first line states
 pub record InSlots (v : Version) (counts : ℕ × ℕ) (prefix : List ℕ) (ls : List Line) (ended : ℕ) : Type 0 where
   pub slots : List (ℕ × Cap)
   pub fits : CountsFit counts
@@ -38,7 +38,7 @@ pub record InSlots (v : Version) (counts : ℕ × ℕ) (prefix : List ℕ) (ls :
   pub number : ended ≡ length slots + 1
   pub said : ls ≡ line.Head (version_number v) counts.0 counts.1 ∷ map slot_of slots
 
--- all slots, and so many nodes
+-- all slots, and this number of nodes
 pub record InNotes (v : Version) (counts : ℕ × ℕ) (prefix : List ℕ) (ls : List Line) (ended : ℕ) : Type 0 where
   pub slots : List (ℕ × Cap)
   pub notes : List Note
@@ -57,14 +57,14 @@ pub data Place (v : Version) (counts : Option (ℕ × ℕ)) (prefix : List ℕ) 
   in_slots : (c : ℕ × ℕ) → counts ≡ Some c → InSlots v c prefix ls ended → Place v counts prefix ls ended
   in_notes : (c : ℕ × ℕ) → counts ≡ Some c → InNotes v c prefix ls ended → Place v counts prefix ls ended
 
--- ---- what a line makes of it
+-- ---- the effect of a line
 
--- A line that is of its form is the next one, or its counts pass a limit.
+-- A well-formed line is the next one, or its counts exceed a limit.
 pub data Took (v : Version) (counts : Option (ℕ × ℕ)) (prefix : List ℕ) (ls : List Line) (ended : ℕ) (pending : List ℕ) (l : Line) : Type 0 where
   next : within_limits l ≡ Ok l → Place (version_with v l) (counts_with counts l) (prefix ++ (pending ++ 10 ∷ [])) (ls ++ l ∷ []) (ended + 1) → Took v counts prefix ls ended pending l
   passes : within_limits l ≡ Err fault.TooMany → ((more : List ℕ) → IsTooMany (prefix ++ (pending ++ 10 ∷ more))) → Took v counts prefix ls ended pending l
 
--- where nothing follows
+-- if nothing follows
 abbrev pub Closes : List ℕ → List Line → (n : ℕ) → Bool → Type 0
 Closes bytes ls n true = (ann : Ann) × (is : IsText bytes ann) × (ls ≡ lines_of is.version ann)
 Closes bytes ls n false = IsBadLine bytes n

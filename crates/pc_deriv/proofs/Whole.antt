@@ -18,13 +18,13 @@ use Rattle.pc_deriv.proofs.Stages.{Place, at_first, Stage, stage, Took, next, pa
 abbrev Answer : Type 0
 Answer = Result (Option Line) LineFault
 
--- What is known behind these bytes: all lines were of their form, and the rest is a line that has not ended; or a fault was
--- found, which is theirs whatever follows.
+-- What is known after these bytes: all lines were well-formed, and the rest is a line that has not ended; or a fault
+-- was found, which is theirs whatever follows.
 pub data Known (bytes : List ℕ) (ls : List Line) (t : Taken) : Type 0 where
   going : (prefix : List ℕ) → Place t.version t.counts prefix ls t.ended → bytes ≡ prefix ++ t.pending → NoEnd t.pending → length t.pending < longest_line → t.fault ≡ None → Known bytes ls t
   wrong : (f : LineFault) → t.fault ≡ Some f → ((more : List ℕ) → IsFault (bytes ++ more) (as_read f)) → Known bytes ls t
 
--- ---- one byte more
+-- ---- one more byte
 
 abbrev Goes : List ℕ → List Line → ℕ → Answer × Taken → Type 0
 Goes bytes ls b r = Known (bytes ++ b ∷ []) (ls ++ one_more r.0 []) r.1
@@ -103,7 +103,7 @@ run (b ∷ bs) bytes ls t k =
 known : (bytes : List ℕ) → Known bytes (fed nothing_taken bytes).0 (fed nothing_taken bytes).1
 known bytes = run bytes [] [] nothing_taken (going [] (at_first refl refl refl refl) refl tt (omega arith) refl)
 
--- ---- where nothing follows
+-- ---- if nothing follows
 
 closed : (bytes : List ℕ) (ls : List Line) (n : ℕ) (whole : Bool) → Closes bytes ls n whole → IsRead bytes ls (cond whole (Ok tt) (Err (fault.BadLine n)))
 closed bytes ls n true h = h

@@ -1,4 +1,4 @@
--- A line that is read where it stands is the line that its bytes give one by one.
+-- A line that is read in place is the line that its bytes give one by one.
 use Rattle.std.proofs.Common.{◌≡◌, ◌≢◌, ℕ, suc, ◌+◌, ◌-◌, ◌<◌, ◌≤◌, Bool, true, false, cond, ◌==◌, List, [], ◌∷◌, ◌++◌, Option, Some, None, Ok, Err, length, take, drop, refl, sym, ap, ◌∙◌, subst, arith, append_assoc, append-nil, length-append, length-drop}
 use Rattle.std.specs.Prelude.{Result, option_map, nat_le, slice_range}
 use Rattle.std.proofs.lemmas.Bool.{ne_eqb}
@@ -38,9 +38,10 @@ front_is_in v (Some (slots, nodes)) ended text =
     (without_count slot_says text (slot_at text))
     (mapped_cond first (nat_le ended (slots + nodes)) (front_node v text) none (node_in v text) None (without_count line.Node text (note_at v text)) refl)
 
--- ---- a line that stands whole at the front of a text
+-- ---- a complete line at the start of a text
 
--- The text begins with a line of so many bytes, no more than the buffer holds, and these bytes alone say the same.
+-- The text begins with a line of this number of bytes, no more than the buffer holds, and these bytes alone give the
+-- same line.
 pub record Stands (says : List ℕ → Option Line) (text : List ℕ) (l : Line) (size : ℕ) : Type 0 where
   pub line : List ℕ
   pub rest : List ℕ
@@ -88,7 +89,7 @@ stands v (Some (slots, nodes)) ended text l size e =
 
 -- ---- its bytes, one by one
 
--- bytes that end no line, and are fewer than the buffer holds
+-- bytes that end no line, and do not fill the buffer
 quiet_byte : (t : Taken) (b : ℕ) → t.fault ≡ None → b ≢ 10 → length t.pending + 1 < longest_line → took t b ≡ (Ok None, record t { pending = t.pending ++ b ∷ [] })
 quiet_byte t b right other short =
     let answer : Result Line LineFault = said t.version t.counts t.ended (t.pending ++ b ∷ []) in

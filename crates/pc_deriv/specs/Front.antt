@@ -1,4 +1,4 @@
--- The line at the front of a text, with the number of its bytes.
+-- The line at the start of a text, with the number of its bytes.
 use Rattle.std.specs.Prelude.{ℕ, ◌+◌, ◌-◌, nat_le, List, length, Option, Some, None, option_map, if◌then◌else◌}
 use Rattle.pc_caps.specs.declared.capability.Cap.{Cap}
 use Rattle.pc_deriv.specs.Names.{version_number}
@@ -7,7 +7,7 @@ use Rattle.pc_deriv.specs.declared.version.Version.{Version}
 use Rattle.pc_deriv.specs.declared.line.Line.{Line}
 use Rattle.pc_deriv.specs.declared.line.Line.TheVariants as line
 
--- what was read as a line, and how many bytes stand before what follows
+-- what was read as a line, and how many bytes come before what follows
 abbrev pub counted : {A : Type 0} → (A → Line) → List ℕ → Option (A × List ℕ) → Option (Line × ℕ)
 counted says text read = option_map (λ r. (says r.0, length text - length r.1)) read
 
@@ -26,7 +26,7 @@ front_slot text = counted slot_says text (slot_at text)
 abbrev pub front_node : Version → List ℕ → Option (Line × ℕ)
 front_node version text = counted line.Node text (note_at version text)
 
--- The line behind so many lines: first the counts, then as many slots and as many nodes as they say, and then nothing.
+-- The line after `ended` lines: first the counts, then that number of slots and that number of nodes, and then nothing.
 abbrev pub front_line : Version → Option (ℕ × ℕ) → (ended : ℕ) → List ℕ → Option (Line × ℕ)
 front_line version None ended text = front_head text
 front_line version (Some (slots, nodes)) ended text = if nat_le ended slots then front_slot text else (if nat_le ended (slots + nodes) then front_node version text else None)

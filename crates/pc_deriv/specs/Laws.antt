@@ -1,4 +1,4 @@
--- What holds of all texts.
+-- Laws of all derivation texts.
 use Rattle.std.specs.Prelude.{◌≡◌, ℕ, List, ◌++◌, Some, Result, Ok, Err}
 use Rattle.pc_ann.specs.declared.annotation.Ann.{Ann}
 use Rattle.pc_deriv.specs.declared.fault.DerivFault.{DerivFault}
@@ -9,7 +9,7 @@ use Rattle.pc_deriv.specs.declared.line.LineFault.TheVariants as line_fault
 use Rattle.pc_deriv.specs.Lines.{Taken, nothing_taken, fed, ended_so, lines_of}
 use Rattle.pc_deriv.specs.Faults.{IsText, IsFault}
 
--- No bytes are the text of two annotations, in one version or in two.
+-- No bytes are the text of two annotations, in one version or in different ones.
 abbrev pub OneAnnotation : Type 0
 OneAnnotation = (bytes : List ℕ) (a b : Ann) → IsText bytes a → IsText bytes b → a ≡ b
 
@@ -17,23 +17,23 @@ OneAnnotation = (bytes : List ℕ) (a b : Ann) → IsText bytes a → IsText byt
 abbrev pub OneFault : Type 0
 OneFault = (bytes : List ℕ) (f g : DerivFault) → IsFault bytes f → IsFault bytes g → f ≡ g
 
--- No bytes are a text and have a fault.
+-- No bytes are a text and also have a fault.
 abbrev pub NoFaultOfText : Type 0
 NoFaultOfText = (bytes : List ℕ) (ann : Ann) (f : DerivFault) → IsText bytes ann → IsFault bytes f → ⊥
 
--- ---- a text that is taken in pieces
+-- ---- a text that is read in pieces
 
--- the same fault of the whole text
+-- the same fault, as one of the whole text
 abbrev pub as_read : LineFault → DerivFault
 as_read (line_fault.BadLine n) = fault.BadLine n
 as_read line_fault.TooMany = fault.TooMany
 
--- However bytes are cut, the same lines end in them, and the same is known behind them.
+-- However bytes are cut into pieces, the same lines end in them, and the state after them is the same.
 abbrev pub CutsAreOne : Type 0
 CutsAreOne = (t : Taken) (a b : List ℕ) → fed t (a ++ b) ≡ ((fed t a).0 ++ (fed (fed t a).1 b).0, (fed (fed t a).1 b).1)
 
--- What was wrong with the bytes taken, or else is wrong where nothing follows them, is the fault of the bytes. Where nothing
--- is wrong, they are the text of an annotation in a version, and the lines are those of that text.
+-- The fault found in the bytes taken, or else at their end, is the fault of the bytes. If there is none, they are the
+-- text of an annotation in some version, and the lines are those of that text.
 abbrev pub IsRead : List ℕ → List Line → Result (Unit {0}) LineFault → Type 0
 IsRead bytes ls (Ok _) = (ann : Ann) × (is : IsText bytes ann) × (ls ≡ lines_of is.version ann)
 IsRead bytes ls (Err f) = IsFault bytes (as_read f)
@@ -41,11 +41,11 @@ IsRead bytes ls (Err f) = IsFault bytes (as_read f)
 abbrev pub LinesAreRead : Type 0
 LinesAreRead = (bytes : List ℕ) → IsRead bytes (fed nothing_taken bytes).0 (ended_so (fed nothing_taken bytes).1)
 
--- All lines of an annotation's text end in it, and nothing is wrong.
+-- All lines of an annotation's text end in it, and there is no fault.
 abbrev pub TextsAreTaken : Type 0
 TextsAreTaken = (bytes : List ℕ) (ann : Ann) → (is : IsText bytes ann) → ((fed nothing_taken bytes).0 ≡ lines_of is.version ann) × (ended_so (fed nothing_taken bytes).1 ≡ Ok tt)
 
--- The fault of the bytes is the one that is found.
+-- If the bytes have a fault, it is found.
 abbrev pub FaultsAreFound : Type 0
 FaultsAreFound = (bytes : List ℕ) (f : LineFault) → IsFault bytes (as_read f) → ended_so (fed nothing_taken bytes).1 ≡ Err f
 

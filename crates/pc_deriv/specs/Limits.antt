@@ -1,4 +1,4 @@
--- The most slots and the most nodes of an annotation's text: as many as a program may have.
+-- The greatest numbers of slots and of nodes in an annotation's text: those that a program may have.
 use Rattle.std.specs.Prelude.{ℕ}
 use Rattle.pc_caps.specs.Limits as program
 

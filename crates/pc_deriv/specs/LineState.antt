@@ -1,4 +1,4 @@
--- What the reader of lines keeps.
+-- The state of the reader of lines.
 use Rattle.std.specs.Prelude.{◌≡◌, ℕ, ◌+◌, ◌<◌, ◌≤◌, length, take, Option, Some, None}
 use Rattle.pc_deriv.specs.Limits.{slot_limit, node_limit}
 use Rattle.pc_deriv.specs.Lines.{Taken, longest_line}
@@ -7,12 +7,12 @@ use Rattle.pc_deriv.specs.declared.line_state.LineState.{LineState}
 abbrev pub taken_of : LineState → Taken
 taken_of s = record { version = s.version; counts = s.counts; ended = s.ended; pending = take s.filled s.buffer; fault = s.fault }
 
--- no more lines have ended than there are
+-- at most as many lines have ended as there are
 abbrev pub Room : Option (ℕ × ℕ) → ℕ → Type 0
 Room None ended = ended ≡ 0
 Room (Some (slots, nodes)) ended = (slots ≤ slot_limit) × (nodes ≤ node_limit) × (ended ≤ slots + nodes + 1)
 
--- the buffer has a place for a further byte
+-- the buffer has room for one more byte
 pub record Sound (s : LineState) : Type 0 where
   pub place : s.filled < longest_line
   pub size : length s.buffer ≡ longest_line

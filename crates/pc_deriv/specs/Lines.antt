@@ -1,4 +1,4 @@
--- A text that is taken in pieces: the lines that have ended, and what is known behind them.
+-- A text that is read in pieces: the lines that have ended, and the state after them.
 use Rattle.std.specs.Prelude.{ℕ, ◌+◌, ◌==◌, nat_le, Bool, false, ◌&&◌, List, [], ◌∷◌, ◌++◌, length, map, Option, Some, None, option_map, Result, Ok, Err, if◌then◌else◌}
 use Rattle.pc_caps.specs.declared.capability.Cap.{Cap}
 use Rattle.pc_ann.specs.declared.annotation.Ann.{Ann}
@@ -12,8 +12,8 @@ use Rattle.pc_deriv.specs.declared.line.Line.TheVariants as line
 use Rattle.pc_deriv.specs.declared.line.LineFault.{LineFault}
 use Rattle.pc_deriv.specs.declared.line.LineFault.TheVariants as fault
 
--- What is known behind some bytes: the version and the counts of the first line, once it has ended; how many lines have
--- ended; the bytes behind the last of them; the fault, if there is one.
+-- The state after some bytes: the version and the counts of the first line, once it has ended; how many lines have
+-- ended; the bytes after the last of them; the fault, if there is one.
 pub record Taken : Type 0 where
   pub version : Version
   pub counts : Option (ℕ × ℕ)
@@ -25,11 +25,11 @@ pub record Taken : Type 0 where
 abbrev pub nothing_taken : Taken
 nothing_taken = record { version = version.One; counts = None; ended = 0; pending = []; fault = None }
 
--- the most bytes of a line, its end among them
+-- the greatest number of bytes of a line, including its end
 abbrev pub longest_line : ℕ
 longest_line = 128
 
--- the line that such bytes are, by what is to stand there
+-- the line that these bytes are, if the first line is expected
 abbrev pub head_in : List ℕ → Option Line
 head_in bytes = option_map (λ r. line.Head (version_number r.0.0) r.0.1.0 r.0.1.1) (head_at bytes)
 
@@ -39,44 +39,44 @@ slot_in bytes = option_map (λ r. line.Slot r.0.0 r.0.1) (slot_at bytes)
 abbrev pub node_in : Version → List ℕ → Option Line
 node_in version bytes = option_map (λ r. line.Node r.0) (note_at version bytes)
 
--- The line that such bytes are behind so many lines: first the counts, then as many slots and as many nodes as they say,
--- and then nothing.
+-- The line that these bytes are after `ended` lines: first the counts, then that number of slots and that number of
+-- nodes, and then nothing.
 abbrev pub line_in : Version → Option (ℕ × ℕ) → (ended : ℕ) → List ℕ → Option Line
 line_in version None ended bytes = head_in bytes
 line_in version (Some (slots, nodes)) ended bytes = if nat_le ended slots then slot_in bytes else (if nat_le ended (slots + nodes) then node_in version bytes else None)
 
--- counts that pass a limit are refused
+-- counts that exceed a limit are refused
 abbrev pub within_limits : Line → Result Line LineFault
 within_limits (line.Head version slots nodes) = if nat_le slots slot_limit && nat_le nodes node_limit then Ok (line.Head version slots nodes) else Err fault.TooMany
 within_limits (line.Slot entity cap) = Ok (line.Slot entity cap)
 within_limits (line.Node note) = Ok (line.Node note)
 
--- line n, or what is wrong with it
+-- line n, or its fault
 abbrev pub checked : (n : ℕ) → Option Line → Result Line LineFault
 checked n None = Err (fault.BadLine n)
 checked n (Some l) = within_limits l
 
--- what such bytes say behind so many lines
+-- the line that these bytes are after `ended` lines, or its fault
 abbrev pub said : Version → Option (ℕ × ℕ) → (ended : ℕ) → List ℕ → Result Line LineFault
 said version counts ended bytes = checked (ended + 1) (line_in version counts ended bytes)
 
--- the version that a number names, which is 1 or 2
+-- the version with this number, which is 1 or 2
 abbrev pub version_of : ℕ → Version
 version_of number = if number == 2 then version.Two else version.One
 
--- the version, once a line has ended
+-- the version, after a line has ended
 abbrev pub version_with : Version → Line → Version
 version_with version (line.Head number slots nodes) = version_of number
 version_with version (line.Slot entity cap) = version
 version_with version (line.Node note) = version
 
--- the counts, once a line has ended
+-- the counts, after a line has ended
 abbrev pub counts_with : Option (ℕ × ℕ) → Line → Option (ℕ × ℕ)
 counts_with counts (line.Head number slots nodes) = Some (slots, nodes)
 counts_with counts (line.Slot entity cap) = counts
 counts_with counts (line.Node note) = counts
 
--- what is known behind a line
+-- the state after a line
 abbrev pub behind : Taken → Result Line LineFault → Taken
 behind t (Ok l) = record { version = version_with t.version l; counts = counts_with t.counts l; ended = t.ended + 1; pending = []; fault = None }
 behind t (Err f) = record { version = t.version; counts = t.counts; ended = t.ended; pending = []; fault = Some f }
@@ -86,19 +86,19 @@ abbrev pub answered : Result Line LineFault → Result (Option Line) LineFault
 answered (Ok l) = Ok (Some l)
 answered (Err f) = Err f
 
--- a line that ended, and what is known then
+-- a line that ended, and the state after it
 abbrev pub closed : Taken → Result Line LineFault → Result (Option Line) LineFault × Taken
 closed t r = (answered r, behind t r)
 
--- a byte that is no line end: with it the line is longer, or as long as none is
+-- a byte that is no line end: the line becomes longer, or longer than any line may be
 abbrev pub kept : Taken → ℕ → Bool → Result (Option Line) LineFault × Taken
 kept t b long = if long then closed t (Err (fault.BadLine (t.ended + 1))) else (Ok None, record t { pending = t.pending ++ b ∷ [] })
 
--- what a byte gives where nothing was wrong
+-- the result of a byte if there was no fault before
 abbrev pub went_on : Taken → ℕ → Result (Option Line) LineFault × Taken
 went_on t b = if b == 10 then closed t (said t.version t.counts t.ended (t.pending ++ b ∷ [])) else kept t b (length t.pending + 1 == longest_line)
 
--- what a byte gives: behind a fault this fault, and nothing is taken
+-- the result of a byte: after a fault the same fault, and nothing is taken
 abbrev pub took_at : Option LineFault → Taken → ℕ → Result (Option Line) LineFault × Taken
 took_at (Some f) t b = (Err f, t)
 took_at None t b = went_on t b
@@ -112,7 +112,7 @@ one_more (Ok (Some l)) ls = l ∷ ls
 one_more (Ok None) ls = ls
 one_more (Err f) ls = ls
 
--- all bytes, one by one: the lines that end in them, and what is known behind them
+-- all bytes, one by one: the lines that end in them, and the state after them
 abbrev pub fed : Taken → List ℕ → List Line × Taken
 fed t [] = ([], t)
 fed t (b ∷ bs) = (one_more (took t b).0 (fed (took t b).1 bs).0, (fed (took t b).1 bs).1)
@@ -122,7 +122,7 @@ abbrev pub is_whole : Option (ℕ × ℕ) → (ended : ℕ) → List ℕ → Boo
 is_whole None ended pending = false
 is_whole (Some (slots, nodes)) ended pending = ended == slots + nodes + 1 && length pending == 0
 
--- what is wrong where nothing follows: the fault, or else the line that is not whole
+-- the fault if nothing follows: the fault so far, or else the line that is incomplete
 abbrev pub ended_at : Option LineFault → Taken → Result (Unit {0}) LineFault
 ended_at (Some f) t = Err f
 ended_at None t = if is_whole t.counts t.ended t.pending then Ok tt else Err (fault.BadLine (t.ended + 1))

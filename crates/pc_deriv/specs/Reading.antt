@@ -1,4 +1,4 @@
--- How the front of a text is read: a value, and what follows it.
+-- How the start of a text is read: a value, and what follows it.
 use Rattle.std.specs.Prelude.{ℕ, ◌+◌, ◌-◌, ◌*◌, ◌^◌, nat_lt, nat_le, nat_eq, ◌&&◌, ◌==◌, List, [], ◌∷◌, length, drop, Option, Some, None, if◌then◌else◌, codes}
 use Rattle.std.specs.List.{starts_with}
 use Rattle.std.specs.Char.{is_ascii_digit, is_ascii_lowercase}
@@ -26,12 +26,12 @@ abbrev pub or_else : {A : Type 0} → Option A → Option A → Option A
 or_else None other = other
 or_else (Some x) other = Some x
 
--- a thing, and what follows it
+-- a value, and what follows it
 abbrev pub beside : {A : Type 0} → A → Option (List ℕ) → Option (A × List ℕ)
 beside x None = None
 beside x (Some rest) = Some (x, rest)
 
--- the first of some things whose name and end stand at the front
+-- the first of these whose name, followed by this end, is at the start
 abbrev pub named_at : {A : Type 0} → (A → List ℕ) → ℕ → List A → List ℕ → Option (A × List ℕ)
 named_at name end [] text = None
 named_at name end (x ∷ xs) text = or_else (beside x (after_word (name x) end text)) (named_at name end xs text)
@@ -48,7 +48,7 @@ cap_at = named_at cap_name 10 CAPS
 unfoldable pub form_at : List ℕ → Option (Form × List ℕ)
 form_at = named_at form_name 32 FORMS
 
--- the digit that a byte is
+-- the digit that a byte denotes
 abbrev pub digit_of : (base byte : ℕ) → Option ℕ
 digit_of base b = if is_ascii_digit b && nat_lt (b - 48) base then Some (b - 48) else (if is_ascii_lowercase b && nat_lt (b - 97 + 10) base then Some (b - 97 + 10) else None)
 
@@ -56,7 +56,7 @@ digit_of base b = if is_ascii_digit b && nat_lt (b - 48) base then Some (b - 48)
 abbrev pub at_most : (most number : ℕ) → Option ℕ
 at_most most n = if nat_le n most then Some n else None
 
--- the number with one digit more
+-- the number extended by one digit
 abbrev pub with_digit : (base most value byte : ℕ) → Option ℕ
 with_digit base most value b = if value == 0 then None else (digit_of base b >>= (λ d. at_most most (value * base + d)))
 
@@ -107,7 +107,7 @@ masks_at end text = do
   s ← mask_at end l.1
   Some ((l.0, s.0), s.1)
 
--- what was written for a mask after a node gives that mask by the same rule
+-- what is written for a mask after a node is turned into that mask by the same rule as in writing
 unfoldable pub note_at : Version → List ℕ → Option (Note × List ℕ)
 note_at version text = do
   t ← after (codes "n ") text

@@ -1,4 +1,4 @@
--- How the reading of lines stops before the last.
+-- How reading lines stops before the last.
 use Rattle.std.specs.Prelude.{◌≡◌, ℕ, ◌+◌, ◌<◌, List, length, ⊤}
 use Rattle.pc_deriv.specs.Text.{slot_line, note_line, SlotFits, NoteFits}
 use Rattle.pc_deriv.specs.Faults.{Begins, NoLine}
@@ -6,7 +6,7 @@ use Rattle.pc_deriv.specs.declared.version.Version.{Version}
 use Rattle.pc_deriv.specs.declared.fault.DerivFault.{DerivFault}
 use Rattle.pc_deriv.specs.declared.fault.DerivFault.TheVariants as fault
 
--- Behind some lines, fewer than wanted, no further one stands.
+-- After some lines, fewer than wanted, there is no further one.
 pub record StopsEarly {A : Type 0} (line : A → List ℕ) (Fits : A → Type 0) (text : List ℕ) (before wanted n : ℕ) : Type 0 where
   pub read : List A
   pub rest : List ℕ

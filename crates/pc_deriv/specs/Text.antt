@@ -18,7 +18,7 @@ blank = 32 ∷ []
 abbrev pub head_line : Version → ℕ × ℕ → List ℕ
 head_line version (slots, nodes) = codes "rcap-derivation " ++ (version_name version ++ (blank ++ (decimal slots ++ (blank ++ (decimal nodes ++ line_end)))))
 
--- the line of a slot: the number of its entity and its capability
+-- the line of a slot: the number of its entity, and its capability
 abbrev pub slot_line : ℕ × Cap → List ℕ
 slot_line (entity, cap) = codes "s " ++ (decimal entity ++ (blank ++ (cap_name cap ++ line_end)))
 
@@ -31,7 +31,7 @@ type_text (Some (entity, form)) = decimal entity ++ (blank ++ form_name form)
 abbrev pub mask_text : Mask → List ℕ
 mask_text mask = digits 16 false mask.0
 
--- what is written for the mask after a node: that mask in version 1, and in version 2 the bits in which it differs from
+-- what is written for the mask after a node: in version 1 that mask, and in version 2 the bits in which it differs from
 -- the mask before
 abbrev pub shown_after : Version → (before after : Mask) → Mask
 shown_after version.One before after = after
@@ -47,7 +47,7 @@ masks_text version note =
 abbrev pub note_line : Version → Note → List ℕ
 note_line version note = codes "n " ++ (rule_name note.rule ++ (blank ++ (type_text note.ty ++ masks_text version note)))
 
--- the lines of some things, one behind the other
+-- the lines of several things, one after the other
 abbrev pub lines : {A : Type 0} → (A → List ℕ) → List A → List ℕ
 lines line [] = []
 lines line (x ∷ xs) = line x ++ lines line xs
@@ -56,7 +56,7 @@ lines line (x ∷ xs) = line x ++ lines line xs
 abbrev pub deriv_text : Version → Ann → List ℕ
 deriv_text version ann = head_line version (length ann.slots, length ann.notes) ++ (lines slot_line ann.slots ++ lines (note_line version) ann.notes)
 
--- What has a text: counts and entities' numbers are below 2^32, masks below 2^64.
+-- What can be written: counts and entities' numbers are below 2^32, masks below 2^64.
 abbrev pub CountsFit : ℕ × ℕ → Type 0
 CountsFit (slots, nodes) = (slots < 2 ^ 32) × (nodes < 2 ^ 32)
 

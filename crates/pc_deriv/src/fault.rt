@@ -1,15 +1,14 @@
-//! Why bytes are no derivation's text.
+//! Why bytes are not a derivation's text.
 ghost use Rattle.std.specs.Prelude.{◌≡◌};
 
 use std::alloc::AllocError;
 
-/// Why bytes are read as no annotation.
+/// Why bytes cannot be read as an annotation.
 #[derive(Clone, Copy, Debug, PartialEq, Eq)]
 pub enum DerivFault {
-    /// The number, counted from 1, of the first line that is not of its form. A line that is missing is one, and so is
-    /// the first line too many.
+    /// The number, counted from 1, of the first malformed line. That may be a missing line, or the first line too many.
     BadLine(u32),
-    /// The first line is of its form, and a count in it passes its limit.
+    /// The first line is well-formed, and a count in it exceeds its limit.
     TooMany,
     /// Memory ran out.
     Memory,

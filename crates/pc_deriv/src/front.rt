@@ -1,4 +1,4 @@
-//! The line that stands at the front of a text.
+//! The line at the start of a text.
 ghost use Rattle.std.specs.Prelude.{◌≡◌};
 ghost use Rattle.pc_deriv.specs.Front as front;
 ghost use Rattle.pc_deriv.specs.LineState.{Room};
@@ -39,7 +39,7 @@ fn front_node(version: Version, text: &[u8]) -> Option<(Line, usize)>
     Some((Line::Node(note), text.len().saturating_sub(rest.len())))
 }
 
-/// The line with which the text begins behind so many lines, and the number of its bytes.
+/// The line with which the text begins after `ended` lines, and the number of its bytes.
 pub fn front_line(
     version: Version,
     counts: Option<(u32, u32)>,

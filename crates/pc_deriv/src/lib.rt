@@ -1,12 +1,12 @@
 //! The derivation text: an annotation as lines of bytes, written and read back, in two versions.
 //!
-//! Proved: `write` gives the text of an annotation in version 1 and `write2` that in version 2, which `read` takes back.
-//! `read` is Ok with exactly the annotation whose text the bytes are in either version, or else names the first line
-//! that is not of its form, or that a count passes its limit; no bytes are two annotations' text or have two faults.
-//! `Lines` takes a text in pieces, of any length, and without memory: its lines are those of the annotation read, with
-//! the node's own masks in both versions, and its first fault is that of `read`.
+//! Proved: `write` returns the text of an annotation in version 1 and `write2` that in version 2, and `read` reads them
+//! back. `read` is Ok iff the bytes are the text of an annotation in some version, and then returns that annotation;
+//! otherwise it names the first malformed line, or reports that a count exceeds its limit; no bytes are the text of two
+//! annotations or have two faults. `Lines` takes a text in pieces of any length, and does not allocate: its lines are
+//! those of the annotation read, with each node's own masks in both versions, and its first fault is that of `read`.
 //!
-//! Not proved: time. Tests have the example's text, its cuts and variants, and look at no clock.
+//! Not proved: running times. Tests use the example's text, its cuts and variants, and measure no time.
 #![tactic(auto)]
 
 mod fault;

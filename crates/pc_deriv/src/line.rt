@@ -1,11 +1,11 @@
-//! A line of a derivation text, and why bytes are none.
+//! A line of a derivation text, and why bytes are not one.
 use pc_ann::Note;
 use pc_caps::Cap;
 
-/// What a line of a derivation text says.
+/// The content of a line of a derivation text.
 #[derive(Clone, Copy, Debug, PartialEq, Eq)]
 pub enum Line {
-    /// The first line: the version, and how many slots and how many nodes follow.
+    /// The first line: the version, and the numbers of slots and of nodes that follow.
     Head {
         /// The number of the version, 1 or 2.
         version: u32,
@@ -16,16 +16,15 @@ pub enum Line {
     },
     /// The entity and the capability of a slot.
     Slot(u32, Cap),
-    /// The note of a node, with its own masks after it in both versions.
+    /// The note of a node, with the node's own masks after it in both versions.
     Node(Note),
 }
 
-/// Why bytes are no derivation text.
+/// Why bytes are not a derivation text.
 #[derive(Clone, Copy, Debug, PartialEq, Eq)]
 pub enum LineFault {
-    /// The number, counted from 1, of the first line that is not of its form. A line that is missing is one, and so is
-    /// the first line too many.
+    /// The number, counted from 1, of the first malformed line. That may be a missing line, or the first line too many.
     BadLine(u32),
-    /// The first line is of its form, and a count in it passes its limit.
+    /// The first line is well-formed, and a count in it exceeds its limit.
     TooMany,
 }

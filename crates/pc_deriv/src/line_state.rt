@@ -1,4 +1,4 @@
-//! The bytes of a line that has not ended yet, and what the lines before it said.
+//! The bytes of a line that has not ended yet, and the content of the lines before it.
 ghost use Rattle.std.specs.Prelude.{◌≡◌, ℕ, ◌+◌, ◌≤◌, None, List, length, take};
 ghost use Rattle.pc_deriv.specs.Lines as lines;
 ghost use Rattle.pc_deriv.specs.LineState.{taken_of, Room, Sound};
@@ -8,10 +8,10 @@ use crate::line::{Line, LineFault};
 use crate::version::{Version, version_of};
 use pc_caps::{NODE_LIMIT, PROGRAM_SLOT_LIMIT};
 
-/// The most bytes of a line, its end among them. No line of an annotation's text is longer.
+/// The greatest number of bytes of a line, including its end. No line of an annotation's text is longer.
 const LONGEST_LINE: usize = 128;
 
-/// The version and the counts of the first line, the bytes behind the last line end, how many lines have ended, and the
+/// The version and the counts of the first line, the bytes after the last line end, how many lines have ended, and the
 /// fault.
 #[derive(Drop)]
 pub struct LineState {
@@ -23,7 +23,7 @@ pub struct LineState {
     pub fault: Option<LineFault>,
 }
 
-// The line that such bytes are behind so many lines.
+// The line that these bytes are, after the lines that have ended.
 #[tactic(auto, using(crate::proofs::WholeLines::front_is_in))]
 fn line_in(version: Version, counts: Option<(u32, u32)>, ended: u32, bytes: &[u8]) -> Option<Line>
     requires { Room counts ended }
@@ -33,7 +33,7 @@ fn line_in(version: Version, counts: Option<(u32, u32)>, ended: u32, bytes: &[u8
     Some(line)
 }
 
-// Counts that pass a limit are refused.
+// Counts that exceed a limit are refused.
 fn within_limits(line: Line) -> Result<Line, LineFault>
     ensures { result ≡ lines.within_limits line }
 {
@@ -54,7 +54,7 @@ fn within_limits(line: Line) -> Result<Line, LineFault>
     }
 }
 
-// Line n, or what is wrong with it.
+// Line n, or its fault.
 fn checked(number: u32, read: Option<Line>) -> Result<Line, LineFault>
     ensures { result ≡ lines.checked number read }
 {
@@ -64,7 +64,7 @@ fn checked(number: u32, read: Option<Line>) -> Result<Line, LineFault>
     }
 }
 
-// The version, once a line has ended.
+// The version, after a line has ended.
 fn version_with(version: Version, line: Line) -> Version
     ensures { result ≡ lines.version_with version line }
 {
@@ -79,7 +79,7 @@ fn version_with(version: Version, line: Line) -> Version
     }
 }
 
-// The counts, once a line has ended.
+// The counts, after a line has ended.
 fn counts_with(counts: Option<(u32, u32)>, line: Line) -> Option<(u32, u32)>
     ensures { result ≡ lines.counts_with counts line }
 {
@@ -110,7 +110,7 @@ impl LineState {
         }
     }
 
-    /// Ends a line, of whose bytes this was read; none where they are no line of their form.
+    /// Ends a line, whose bytes were read as `read`, or as none if they are malformed.
     pub fn end_with(&mut self, read: Option<Line>) -> Result<Line, LineFault>
         requires right { self.old.fault ≡ None }
         requires room { Room self.old.counts self.old.ended }
@@ -148,7 +148,7 @@ impl LineState {
         self.end_with(read)
     }
 
-    /// Takes one byte, and answers the line that it ends.
+    /// Takes one byte, and returns the line that it ends, if any.
     pub fn take(&mut self, byte: u8) -> Result<Option<Line>, LineFault>
         requires sound { Sound self.old }
         requires right { self.old.fault ≡ None }
@@ -171,7 +171,7 @@ impl LineState {
         Ok(None)
     }
 
-    /// What is wrong where nothing follows.
+    /// The fault if nothing follows.
     pub fn end(&self) -> Result<(), LineFault>
         requires { Sound self.now }
         ensures { result ≡ lines.ended_so (taken_of self.now) }

@@ -43,7 +43,7 @@ const RULES: [Rule; 31] = [
     Rule::Body,
 ];
 
-// Those that stand most often come first, since they are tried in turn.
+// The most frequent ones come first, since they are tried in order.
 const CAPS: [Cap; 6] = [Cap::Ref, Cap::Val, Cap::Tag, Cap::Iso, Cap::Box, Cap::Trn];
 
 const FORMS: [Form; 8] = [
@@ -136,7 +136,7 @@ pub fn form_name(form: Form) -> &'static str
     }
 }
 
-// What has a name in the text.
+// Values with a name in the text.
 trait Named: Copy {
     // The bytes of the name.
     ghost spelling: { Self → List ℕ };
@@ -198,7 +198,7 @@ fn after_word<'a>(text: &'a [u8], word: &str, end: u8) -> Option<&'a [u8]>
     after(rest, &[end])
 }
 
-// The first of these whose name and the byte that ends it stand at the front, and what follows.
+// The first of these whose name, followed by the byte that ends it, is at the start, and what follows.
 #[tactic(auto, using(crate::proofs::NameSteps::named_here, crate::proofs::NameSteps::named_on))]
 fn first_named<'a, T: Named>(things: &[T], end: u8, text: &'a [u8]) -> Option<(T, &'a [u8])>
     ensures { option_map (λ r. (r.0, r.1.now)) result ≡ reading.named_at T.spelling end things.now text.now }
@@ -211,7 +211,7 @@ fn first_named<'a, T: Named>(things: &[T], end: u8, text: &'a [u8]) -> Option<(T
     None
 }
 
-/// The version with whose name and a blank the text begins, and what follows.
+/// The version whose name and a blank are at the start of the text, and what follows.
 #[tactic(auto, unfolding(crate::specs::Reading::version_at))]
 pub fn version_at(text: &[u8]) -> Option<(Version, &[u8])>
     ensures { option_map (λ r. (r.0, r.1.now)) result ≡ reading.version_at text.now }
@@ -219,8 +219,8 @@ pub fn version_at(text: &[u8]) -> Option<(Version, &[u8])>
     first_named(&VERSIONS, b' ', text)
 }
 
-/// The rule with whose name and a blank the text begins, and what follows. Only names with the text's first byte are
-/// looked at.
+/// The rule whose name and a blank are at the start of the text, and what follows. Only names that begin with the first
+/// byte of the text are tried.
 pub fn rule_at(text: &[u8]) -> Option<(Rule, &[u8])>
     ensures { option_map (λ r. (r.0, r.1.now)) result ≡ reading.rule_at text.now }
 {
@@ -251,7 +251,7 @@ pub fn rule_at(text: &[u8]) -> Option<(Rule, &[u8])>
     }
 }
 
-/// The capability with whose name and a line end the text begins, and what follows.
+/// The capability whose name and a line end are at the start of the text, and what follows.
 #[tactic(auto, unfolding(crate::specs::Reading::cap_at))]
 pub fn cap_at(text: &[u8]) -> Option<(Cap, &[u8])>
     ensures { option_map (λ r. (r.0, r.1.now)) result ≡ reading.cap_at text.now }
@@ -259,7 +259,7 @@ pub fn cap_at(text: &[u8]) -> Option<(Cap, &[u8])>
     first_named(&CAPS, b'\n', text)
 }
 
-/// The form with whose name and a blank the text begins, and what follows.
+/// The form whose name and a blank are at the start of the text, and what follows.
 #[tactic(auto, unfolding(crate::specs::Reading::form_at))]
 pub fn form_at(text: &[u8]) -> Option<(Form, &[u8])>
     ensures { option_map (λ r. (r.0, r.1.now)) result ≡ reading.form_at text.now }

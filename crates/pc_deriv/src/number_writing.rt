@@ -1,13 +1,13 @@
-//! Numbers, as they are written.
+//! Writing numbers.
 ghost use Rattle.std.specs.Fmt.{digit_glyph, digits};
 ghost use Rattle.std.specs.Prelude.{◌≡◌, ◌+◌, ◌∷◌, ◌++◌, ◌<◌, false, OnOk, decimal};
 
 use std::alloc::AllocError;
 
-/// How many digits of a number below 2^32 follow the first one, at most.
+/// The greatest number of digits after the first one of a number below 2^32.
 const DECIMALS_AFTER_FIRST: usize = 9;
 
-/// How many hexadecimal digits of a number below 2^64 there are, at most.
+/// The greatest number of hexadecimal digits of a number below 2^64.
 const HEX_DIGITS: usize = 16;
 
 /// The decimal digit of a number.
@@ -38,7 +38,7 @@ fn push_row(out: &mut Vec<u8>, first: u8, rest: &[u8]) -> Result<(), AllocError>
     out.extend_from_slice(rest)
 }
 
-/// Puts a number at the end, in decimal.
+/// Appends a number, in decimal.
 #[tactic(auto, using(crate::proofs::LastDigits::decimal_one))]
 pub fn push_decimal(out: &mut Vec<u8>, number: u32) -> Result<(), AllocError>
     ensures { OnOk result (out.new.items ≡ out.old.items ++ decimal number) }
@@ -50,7 +50,7 @@ pub fn push_decimal(out: &mut Vec<u8>, number: u32) -> Result<(), AllocError>
     push_decimals(out, number)
 }
 
-/// Puts the digits of a number at the end, in decimal.
+/// Appends the digits of a number, in decimal.
 #[tactic(auto, using(crate::proofs::LastDigits::no_digit, crate::proofs::LastDigits::decimal_room, crate::proofs::LastDigits::decimal_put))]
 fn push_decimals(out: &mut Vec<u8>, number: u32) -> Result<(), AllocError>
     ensures { OnOk result (out.new.items ≡ out.old.items ++ decimal number) }
@@ -66,7 +66,7 @@ fn push_decimals(out: &mut Vec<u8>, number: u32) -> Result<(), AllocError>
     push_row(out, decimal_glyph(front), &last[at..])
 }
 
-/// Puts a number at the end, in hexadecimal.
+/// Appends a number, in hexadecimal.
 #[tactic(auto, using(crate::proofs::LastDigits::hex_one))]
 pub fn push_hex(out: &mut Vec<u8>, number: u64) -> Result<(), AllocError>
     ensures { OnOk result (out.new.items ≡ out.old.items ++ digits 16 false number) }
@@ -78,7 +78,7 @@ pub fn push_hex(out: &mut Vec<u8>, number: u64) -> Result<(), AllocError>
     push_hexes(out, number)
 }
 
-/// Puts the digits of a number at the end, in hexadecimal.
+/// Appends the digits of a number, in hexadecimal.
 #[tactic(auto, using(crate::proofs::LastDigits::no_digit, crate::proofs::LastDigits::hex_room, crate::proofs::LastDigits::hex_put))]
 fn push_hexes(out: &mut Vec<u8>, number: u64) -> Result<(), AllocError>
     ensures { OnOk result (out.new.items ≡ out.old.items ++ digits 16 false number) }

@@ -4,10 +4,10 @@ ghost use Rattle.pc_deriv.specs.Reading as reading;
 
 use pc_masks::Mask;
 
-/// Masks from here on have no further digit.
+/// A mask from here on can't be extended by a digit.
 const FULL_MASK: u64 = 1 << 60;
 
-/// The decimal digit that a byte is.
+/// The decimal digit that a byte denotes.
 fn decimal_digit(byte: u8) -> Option<u64>
     ensures value { result ≡ reading.digit_of 10 byte }
     ensures within { IfSome result (λ d. d < 10) }
@@ -19,7 +19,7 @@ fn decimal_digit(byte: u8) -> Option<u64>
     }
 }
 
-/// The hexadecimal digit that a byte is, letters in lower case.
+/// The hexadecimal digit that a byte denotes, with letters in lower case.
 fn hex_digit(byte: u8) -> Option<u64>
     ensures value { result ≡ reading.digit_of 16 byte }
     ensures within { IfSome result (λ d. d < 16) }
@@ -33,7 +33,7 @@ fn hex_digit(byte: u8) -> Option<u64>
     }
 }
 
-/// The number with one decimal digit more. Nothing follows the digit 0 at the front.
+/// The number extended by one decimal digit. A leading digit 0 can't be extended.
 fn with_decimal(value: u64, byte: u8) -> Option<u64>
     requires { value < 2 ^ 32 }
     ensures value { result ≡ reading.with_digit 10 (2 ^ 32 - 1) value byte }
@@ -50,7 +50,7 @@ fn with_decimal(value: u64, byte: u8) -> Option<u64>
     }
 }
 
-/// The mask with one digit more. Nothing follows the digit 0 at the front.
+/// The mask extended by one digit. A leading digit 0 can't be extended.
 fn with_hex(value: u64, byte: u8) -> Option<u64>
     ensures { result ≡ reading.with_digit 16 (2 ^ 64 - 1) value byte }
 {
@@ -60,7 +60,7 @@ fn with_hex(value: u64, byte: u8) -> Option<u64>
     Some(value * 16 + hex_digit(byte)?)
 }
 
-/// The decimal number below 2^32 with which the text begins, and what follows it and the byte that ends it.
+/// The decimal number below 2^32 at the start of the text, and what follows it and the byte that ends it.
 #[tactic(auto, unfolding(crate::specs::Reading::decimal_at))]
 pub fn decimal_at(text: &[u8], end: u8) -> Option<(u32, &[u8])>
     ensures { option_map (λ r. (r.0, r.1.now)) result ≡ reading.decimal_at end text.now }
@@ -81,7 +81,7 @@ pub fn decimal_at(text: &[u8], end: u8) -> Option<(u32, &[u8])>
     None
 }
 
-/// The mask in hexadecimal with which the text begins, and what follows it and the byte that ends it.
+/// The hexadecimal mask at the start of the text, and what follows it and the byte that ends it.
 #[tactic(auto, unfolding(crate::specs::Reading::mask_at))]
 pub fn mask_at(text: &[u8], end: u8) -> Option<(Mask, &[u8])>
     ensures { option_map (λ r. (r.0, r.1.now)) result ≡ reading.mask_at end text.now }

@@ -9,11 +9,11 @@ use crate::line::{Line, LineFault};
 use crate::line_state::LineState;
 use std::marker::Model;
 
-/// The lines of a derivation text that comes in pieces. A line that stands whole in a piece is read where it stands; of
-/// one that is cut, its bytes are kept. It takes no memory.
+/// The lines of a derivation text that comes in pieces. A line that is complete in a piece is read in place; of one
+/// that is cut, the bytes are kept. Does not allocate.
 ///
-/// Contracts see what is known behind the bytes taken. That this does not depend on how they were cut, that the lines are
-/// those of the annotation that `read` gives, and that the first fault is that of `read`, is `pieces_are_read`.
+/// Contracts see the state after the bytes taken. `pieces_are_read` states that it does not depend on how they were
+/// cut, that the lines are those of the annotation that `read` returns, and that the first fault is that of `read`.
 #[derive(Drop)]
 pub struct Lines {
     state: LineState,
@@ -41,12 +41,12 @@ impl Lines {
         }
     }
 
-    /// Takes the bytes of a piece from `at` on, up to and with the next line end, or to the piece's end. The answer is
-    /// where it stopped, and the line that ended there. No line stands in it exactly where no line end follows.
+    /// Takes the bytes of a piece from `at` on, up to and including the next line end, or to the end of the piece.
+    /// Returns where it stopped, and the line that ended there. There is no such line iff no line end follows.
     ///
     /// # Errors
-    /// The fault of the line that ends here, or that is longer than any line of a derivation text. After a fault nothing
-    /// is taken, and that fault is answered again.
+    /// The fault of the line that ends here, or that is longer than any line of a derivation text. After a fault
+    /// nothing is taken, and that fault is returned again.
     pub fn next(&mut self, piece: &[u8], at: usize) -> Result<(usize, Option<Line>), LineFault>
         requires { at ≤ length piece.now }
         ensures { IsNext self.old piece.now at result self.new }
@@ -54,7 +54,7 @@ impl Lines {
         take_line(&mut self.state, piece, at)
     }
 
-    /// Ok exactly where all bytes taken are a derivation text.
+    /// Ok iff all bytes taken together are a derivation text.
     ///
     /// # Errors
     /// The fault of `next`, or else the line that is missing or has not ended.
@@ -65,7 +65,7 @@ impl Lines {
     }
 }
 
-// Takes bytes until a line or a fault ends them, where nothing was wrong before.
+// Takes bytes up to the end of a line or a fault, if there was no fault before.
 fn take_bytes(
     state: &mut LineState,
     piece: &[u8],
@@ -89,8 +89,8 @@ fn take_bytes(
     Ok((stop, None))
 }
 
-// Takes the line that stands whole at this place, or else bytes until a line or a fault ends them, where nothing was wrong
-// before.
+// Takes the line that is complete at this place, or else bytes up to the end of a line or a fault, if there was no
+// fault before.
 fn take_front(
     state: &mut LineState,
     piece: &[u8],
@@ -114,7 +114,7 @@ fn take_front(
     }
 }
 
-// Takes bytes until a line or a fault ends them.
+// Takes bytes up to the end of a line or a fault.
 #[tactic(auto, using(crate::proofs::Feeding::next_again))]
 fn take_line(
     state: &mut LineState,

@@ -15,7 +15,7 @@ use pc_ann::{Ann, Note};
 use pc_caps::{Cap, List, NODE_LIMIT, PROGRAM_SLOT_LIMIT};
 use std::alloc::Global;
 
-/// Reads so many lines of slots.
+/// Reads this number of lines of slots.
 #[tactic(auto, using(crate::proofs::Reached::no_slot, crate::proofs::Reached::slot_more, crate::proofs::Reached::slot_stops))]
 fn read_slots<'a>(
     alloc: Global,
@@ -39,7 +39,7 @@ fn read_slots<'a>(
     Ok((slots, rest))
 }
 
-/// Reads so many lines of nodes behind those of so many slots.
+/// Reads this number of lines of nodes, after those of the slots.
 #[tactic(auto, using(crate::proofs::Reached::no_note, crate::proofs::Reached::note_more, crate::proofs::Reached::note_stops))]
 fn read_notes<'a>(
     alloc: Global,
@@ -87,17 +87,16 @@ fn read_lines(alloc: Global, bytes: &[u8]) -> Result<Ann, DerivFault>
 
 /// The annotation whose derivation text the bytes are, in version 1 or 2, of at most 640,000 slots and 200,000 nodes.
 ///
-/// `BadLine` has the number of the first line that is not of its form, where the forms are those of the version that the
-/// first line names. `TooMany` says that the first line is of its form in either version and a count in it passes its
-/// limit.
+/// `BadLine` has the number of the first malformed line; the forms are those of the version that the first line names.
+/// `TooMany` means that the first line is well-formed in some version and a count in it exceeds its limit.
 pub fn read(alloc: Global, bytes: &[u8]) -> Result<Ann, DerivFault>
-    // The bytes are the annotation's text in a version.
+    // The bytes are the annotation's text in some version.
     ensures ok { IfOk result (IsText bytes.now) }
     // The fault is that of the bytes, or memory ran out.
     ensures err { IfErr result (Refuses bytes.now) }
-    // Where the bytes are the text of an annotation within the limits, it is the answer, unless memory ran out.
+    // If the bytes are the text of an annotation within the limits, it is returned, unless memory ran out.
     ensures texts { (ann : Ann) → IsText bytes.now ann → Answers result (Ok ann) }
-    // Where the bytes have a fault, it is the answer, unless memory ran out.
+    // If the bytes have a fault, it is returned, unless memory ran out.
     ensures faults { (fault : DerivFault) → IsFault bytes.now fault → Answers result (Err fault) }
 {
     read_lines(alloc, bytes)

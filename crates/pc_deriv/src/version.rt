@@ -11,7 +11,7 @@ use pc_masks::Mask;
 pub enum Version {
     /// The masks after a node are written as they are.
     One,
-    /// In place of each mask after a node stand the bits in which it differs from the mask before.
+    /// Instead of each mask after a node, the bits in which it differs from the mask before are written.
     Two,
 }
 
@@ -27,7 +27,7 @@ impl Version {
     }
 }
 
-/// The version that a number names, which is 1 or 2.
+/// The version with this number, which is 1 or 2.
 pub fn version_of(number: u32) -> Version
     ensures { result ≡ lines.version_of number }
 {
@@ -38,7 +38,7 @@ pub fn version_of(number: u32) -> Version
     }
 }
 
-/// What is written for the mask after a node. From what is written it gives the mask again.
+/// What is written for the mask after a node. Applied to what is written, it gives the mask.
 pub fn shown_after(version: Version, before: Mask, after: Mask) -> Mask
     ensures { result ≡ text.shown_after version before after }
 {

@@ -15,7 +15,7 @@ use pc_caps::{Cap, Form, List};
 use pc_masks::Mask;
 use std::alloc::{AllocError, Global};
 
-/// Puts the first line at the end.
+/// Appends the first line.
 fn push_head(
     alloc: Global,
     out: &mut Vec<u8>,
@@ -30,7 +30,7 @@ fn push_head(
     out.extend_from_slice(line.as_bytes())
 }
 
-/// Puts the line of a slot at the end.
+/// Appends the line of a slot.
 fn push_slot(out: &mut Vec<u8>, slot: (u32, Cap)) -> Result<(), AllocError>
     ensures puts { OnOk result (out.new.items ≡ out.old.items ++ text.slot_line slot) }
     ensures fits { text.SlotFits slot }
@@ -44,7 +44,7 @@ fn push_slot(out: &mut Vec<u8>, slot: (u32, Cap)) -> Result<(), AllocError>
     Ok(())
 }
 
-/// Puts the type of a node at the end.
+/// Appends the type of a node.
 fn push_type(out: &mut Vec<u8>, ty: Option<(u32, Form)>) -> Result<(), AllocError>
     ensures puts { OnOk result (out.new.items ≡ out.old.items ++ text.type_text ty) }
     ensures fits { text.TypeFits ty }
@@ -62,7 +62,7 @@ fn push_type(out: &mut Vec<u8>, ty: Option<(u32, Form)>) -> Result<(), AllocErro
     }
 }
 
-/// Puts a mask at the end, after a blank.
+/// Appends a mask, after a blank.
 fn push_mask(out: &mut Vec<u8>, mask: Mask) -> Result<(), AllocError>
     ensures { OnOk result (out.new.items ≡ out.old.items ++ (text.blank ++ text.mask_text mask)) }
 {
@@ -70,7 +70,7 @@ fn push_mask(out: &mut Vec<u8>, mask: Mask) -> Result<(), AllocError>
     push_hex(out, mask.0)
 }
 
-/// Puts a live and a set mask at the end, each after a blank.
+/// Appends a live and a set mask, each after a blank.
 fn push_pair(out: &mut Vec<u8>, live: Mask, set: Mask) -> Result<(), AllocError>
     ensures { OnOk result (out.new.items ≡ out.old.items ++ (text.blank ++ (text.mask_text live ++ (text.blank ++ text.mask_text set)))) }
 {
@@ -78,7 +78,7 @@ fn push_pair(out: &mut Vec<u8>, live: Mask, set: Mask) -> Result<(), AllocError>
     push_mask(out, set)
 }
 
-/// Puts the masks of a node at the end.
+/// Appends the masks of a node.
 fn push_masks(out: &mut Vec<u8>, version: Version, note: &Note) -> Result<(), AllocError>
     ensures { OnOk result (out.new.items ≡ out.old.items ++ text.masks_text version note.now) }
 {
@@ -100,7 +100,7 @@ fn has_masks_of(note: &Note, other: &Note) -> bool
         && note.set_after.0 == other.set_after.0
 }
 
-/// Makes the text of a node's masks out of that of the node before it. Most nodes change no mask.
+/// Updates the text of the masks of the node before to that of a node's own. Most nodes change no mask.
 #[tactic(auto, using(crate::proofs::MaskTexts::same_masks))]
 fn renew_masks(
     masks: &mut Vec<u8>,
@@ -130,7 +130,7 @@ fn show_masks_fit(note: Note)
     let _set_after = note.set_after.0;
 }
 
-/// Puts the line of a node at the end, whose masks have this text.
+/// Appends the line of a node whose masks have this text.
 fn push_note(
     out: &mut Vec<u8>,
     version: Version,
@@ -149,7 +149,7 @@ fn push_note(
     out.extend_from_slice(masks)
 }
 
-/// Puts the lines of slots at the end.
+/// Appends the lines of slots.
 fn push_slots(out: &mut Vec<u8>, slots: &[(u32, Cap)]) -> Result<(), AllocError>
     ensures puts { OnOk result (out.new.items ≡ out.old.items ++ text.lines text.slot_line slots.now) }
     ensures fit { OnOk result (AllByRecursion text.SlotFits slots.now) }
@@ -160,7 +160,7 @@ fn push_slots(out: &mut Vec<u8>, slots: &[(u32, Cap)]) -> Result<(), AllocError>
     Ok(())
 }
 
-/// Puts the lines of nodes at the end.
+/// Appends the lines of nodes.
 fn push_notes(
     alloc: Global,
     out: &mut Vec<u8>,
@@ -180,7 +180,7 @@ fn push_notes(
     Ok(())
 }
 
-/// All lines of an annotation's text in a version.
+/// All lines of an annotation's text in this version.
 fn write_lines(alloc: Global, version: Version, ann: &Ann) -> Result<List<u8>, AllocError>
     ensures text { IfOk result (λ bytes. bytes ≡ text.deriv_text version ann.now) }
     ensures fits { IfOk result (λ bytes. AllByRecursion text.SlotFits ann.now.slots × AllByRecursion text.NoteFits ann.now.notes) }

@@ -1,7 +1,7 @@
-//! Numbers that are drawn of a seed, for programs that are made and for schedules that are chosen.
+//! Pseudorandom numbers drawn from a seed, for generated programs and for chosen schedules.
 //!
-//! Proved: `Draws::new` begins the state of a seed, and each `draw` goes to its next state and answers the number that this
-//! state gives.
+//! Proved: `Draws::new` starts with the state of a seed, and each `draw` moves on to the next state and returns the
+//! number that this state yields.
 #![tactic(auto)]
 
 mod draws;

@@ -1,4 +1,4 @@
--- One item more of a list that is gone through by number.
+-- One more item of a list that is traversed by number.
 use Rattle.std.proofs.Common.{◌≡◌, ℕ, zero, suc, ◌+◌, List, [], ◌∷◌, ◌++◌, length, drop, sym, ap, ◌∙◌, append_assoc, arith}
 use Rattle.std.specs.Prelude.{slice_get, Some, None, ◌≤◌}
 use Rattle.std.proofs.Math.ListN.{drop_of_length-le}

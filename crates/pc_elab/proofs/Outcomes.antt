@@ -1,4 +1,4 @@
--- What becomes of a member.
+-- The outcome of a member.
 use Rattle.std.proofs.Common.{◌≡◌, ℕ, List, [], ◌∷◌, ◌++◌, Option, Some, None, Err, refl, sym, ap, ◌∙◌}
 use Rattle.std.specs.Prelude.{slice_get}
 use Rattle.std.proofs.lemmas.Option.{same_Some, none-some}
@@ -45,7 +45,7 @@ body_full m name (Some r) before h = by (put m r before) h
     by None g = refl
     by (Some p) g = absurd (none-some _ (sym g))
 
--- ---- as the code tells it
+-- ---- in terms of the code
 
 pub fault_passes : (c : Context) (e : t.Entity) (x : Member) (locals : List Local) (f : BodyFault) → IsFirst f (member_faults c e x) → Passes (Err (as_name_fault f)) (before_nodes c e x locals)
 fault_passes c e x locals (body.Unknown s) h = (in_body (unknown s), refl, fault_first c e x locals (unknown s) h.0 h.1)

@@ -56,7 +56,7 @@ few_entities file names c = let f = (collects file names c).few in omega (arith,
 pub few_known : (file : t.File) (names : NamesData) → Collected file names → length (known_of file) < 2 ^ 32
 few_known file names c = let f = (collects file names c).few in let n = known_count file.entities file.entities 1 in omega (arith, f, n)
 
--- ---- where a text spells the file
+-- ---- if a text spells the file
 
 pub in_order : (file : t.File) → BodiesAscend → Spelled file → o.InOrder file
 in_order file law h e he = let r = law file h.0 h.1 h.2 he.0 e he.1 in (r.0, λ m hm. r.1 hm.0 m hm.1)
@@ -76,14 +76,14 @@ all_methods k [] ts i m h g = absurd (none-some m g)
 all_methods k (x ∷ ms) ts zero m h g = (h.0, subst (λ y. s.SpellsMethod k y h.0) (same_Some x m g) h.3)
 all_methods k (x ∷ ms) ts (suc i) m h g = all_methods k ms h.1 i m h.4 g
 
--- In a file that tokens spell, fields, methods and bodies stand where they may.
+-- In a file that tokens spell, fields, methods and bodies are only where they are allowed.
 pub in_place : (file : t.File) → Spelled file → o.InPlace file
 in_place file h e he =
     let r = all_entities file.entities h.1.1 he.0 e h.1.5 he.1 in
     let q = r.1 in
     (q.16, λ m hm. let u = (all_methods e.kind e.methods q.6 hm.0 m q.14 hm.1).1 in (u.15, u.18))
 
--- ---- as the code has them
+-- ---- in terms of the code
 
 -- A part of what was made.
 pub ok_part : {A B E : Type 0} → (part : A → B) (r : Result A E) (made : A) (b : B) → part made ≡ b → IfOk r (λ a. a ≡ made) → IfOk r (λ a. part a ≡ b)

@@ -1,4 +1,4 @@
--- The core of a file, as the code tells it.
+-- The core of a file, in terms of the code.
 use Rattle.std.specs.Prelude.{◌≡◌, ◌≤◌, List, length, Result, Ok, Err}
 use Rattle.pc_caps.specs.Limits.{node_limit, program_slot_limit}
 use Rattle.pc_tree.specs.Tree as t
@@ -17,7 +17,7 @@ use Rattle.pc_elab.specs.declared.elaborating.Made.{Made}
 abbrev pub Spelled : t.File → Type 0
 Spelled f = (ts : List Token) × SpellsFile f ts × Ascends (starts ts)
 
--- The core of a file that tokens spell fits together, and has at most so many slots and nodes.
+-- The core of a file that tokens spell is formed, and its slots and nodes are within the limits.
 abbrev pub CoresAreFormed : Type 0
 CoresAreFormed = (file : t.File) (core : CoreData) → Spelled file → Stands file core → Formed core × (length core.slots ≤ program_slot_limit) × (length core.nodes ≤ node_limit)
 
@@ -29,7 +29,7 @@ IsFirstFault file f = IsElabFault file f
 abbrev pub made_view : Made → CoreData
 made_view m = record { entities = m.entities; methods = m.parts.methods; slots = m.parts.slots; nodes = m.parts.nodes; names = m.names }
 
--- What is wanted was made, or its fault is told.
+-- What is wanted was made, or its fault is reported.
 abbrev pub Makes : Result Made NameFault → Result CoreData NameFault → Type 0
 Makes (Ok m) want = want ≡ Ok (made_view m)
 Makes (Err fault.Memory) want = Unit {0}

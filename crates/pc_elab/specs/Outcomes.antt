@@ -1,4 +1,4 @@
--- What becomes of the members of a file, as the code tells it.
+-- The elaboration of the members of a file, in terms of the code.
 use Rattle.std.specs.Prelude.{◌≡◌, ℕ, suc, List, [], ◌∷◌, ◌++◌, map, length, Option, Some, None, Result, Ok, Err, slice_get, ◌-◌}
 use Rattle.pc_caps.specs.declared.span.Span.{Span}
 use Rattle.pc_caps.specs.Limits.{slot_limit}
@@ -22,20 +22,20 @@ use Rattle.pc_file_spec.specs.Members.{Owned, owned}
 use Rattle.pc_file_spec.specs.Signatures.{placed_of, slots_from, declared}
 use Rattle.pc_file_spec.specs.Parts.{Parts, name_fault, if_ok, and_member}
 
--- What the fault of a body is among those of a file's names.
+-- The fault of a file that corresponds to a fault of a body.
 abbrev pub as_name_fault : BodyFault → NameFault
 as_name_fault (body.Unknown s) = fault.Unknown s
 as_name_fault (body.Double s) = fault.Double s
 as_name_fault (body.LongText s) = fault.TooMany which.Text s
 as_name_fault body.Memory = fault.Memory
 
--- A value and nodes are what is wanted, or a fault is the one that is wanted. Memory may run out at any time.
+-- A value and nodes are the wanted ones, or a fault is the wanted one. Memory may run out at any time.
 abbrev pub Becomes : Result (Option ℕ) NameFault → List Node → Outcome → Type 0
 Becomes (Ok b) nodes want = want ≡ Ok (b, nodes)
 Becomes (Err fault.Memory) nodes want = Unit {0}
 Becomes (Err f) nodes want = (g : MethodFault) × (f ≡ name_fault g) × (want ≡ Err g)
 
--- The same of the parts of a program.
+-- The same for the parts of a program.
 abbrev pub Grows : {A : Type 0} → Result A NameFault → Parts → Result Parts NameFault → Type 0
 Grows (Ok x) p want = want ≡ Ok p
 Grows (Err fault.Memory) p want = Unit {0}
@@ -59,24 +59,24 @@ abbrev pub span_of : Option Name → Option Span
 span_of None = None
 span_of (Some n) = Some n.span
 
--- The place of the 65th slot's name.
+-- The span of the 65th slot's name.
 abbrev pub extra_slot : Member → List Local → Option Span
 extra_slot x locals = span_of (slice_get (member_params x ++ local_names locals) (slot_limit - 1))
 
--- What becomes of a member that has these locals, where this becomes of its nodes.
+-- The elaboration of a member with these locals, given that of its nodes.
 abbrev pub before_nodes : Context → t.Entity → Member → List Local → Outcome → Outcome
 before_nodes c e x locals rest = unless_fault (member_faults c e x) (unless_full (member_params x ++ local_names locals) rest)
 
 abbrev pub outcome_with : Context → ℕ → t.Entity → Member → List Local → List Node → Outcome
 outcome_with c m e x locals before = before_nodes c e x locals (put_body m (member_span e.name.span x) (member_rose c e x) before)
 
--- Nothing comes before the nodes, or this fault, whatever becomes of them.
+-- Nothing takes precedence over the nodes; or this fault does, whatever their outcome.
 abbrev pub Passes : Result (Unit {0}) NameFault → (Outcome → Outcome) → Type 0
 Passes (Ok x) step = (rest : Outcome) → step rest ≡ rest
 Passes (Err fault.Memory) step = Unit {0}
 Passes (Err f) step = (g : MethodFault) × (f ≡ name_fault g) × ((rest : Outcome) → step rest ≡ Err g)
 
--- Behind these parts, whose nodes are those of the member already, come its method and its slots.
+-- These parts, whose nodes include those of the member already, followed by its method and its slots.
 abbrev pub joined_with : Context → Parts → Owned → ℕ → Option ℕ → Parts
 joined_with c p o first_node b = record {
   methods = p.methods ++ declared c o (length p.slots) (length (slots_from c (length p.methods) o)) first_node b ∷ [];
@@ -89,7 +89,7 @@ joined_with c p o first_node b = record {
 abbrev pub with_slots : Context → List Placed → Context
 with_slots c slots = record { fields = c.fields; methods = c.methods; entities = c.entities; texts = c.texts; slots = slots }
 
--- A member in this context, but for the slots of its own locals.
+-- A member in this context, except for the slots of its own locals.
 abbrev pub own_member : Context → Parts → Owned → Result Parts NameFault
 own_member c p o = and_member (with_slots c (placed_of o.owner o.member)) p o
 

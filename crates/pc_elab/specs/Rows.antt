@@ -1,4 +1,4 @@
--- Lists that go along the entities of a file and along the table of their members.
+-- Lists parallel to the entities of a file and to the table of their members.
 use Rattle.std.specs.Prelude.{ℕ, suc, ◌+◌, List, [], ◌∷◌, map, length, slice_get}
 use Rattle.pc_tree.specs.Tree as t
 use Rattle.pc_core.specs.declared.declarations.EntityDef.{EntityDef}
@@ -10,7 +10,7 @@ use Rattle.pc_members.specs.Members.{Member}
 use Rattle.pc_file_spec.specs.Known.{default_cap, constructors_from}
 use Rattle.pc_file_spec.specs.Cores.{field_of}
 
--- What bodies see of an entity with these members, of which the first has this number among the methods.
+-- What bodies know of an entity with these members, of which the first has this number among the methods.
 abbrev pub known_with : ℕ → t.Entity → List Member → Known
 known_with at e ms = record { name = e.name.text; kind = e.kind; cap = default_cap e.kind e.cap; constructors = constructors_from at ms }
 

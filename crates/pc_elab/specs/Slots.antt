@@ -1,4 +1,4 @@
--- The slots of a member, of its parameters and its locals.
+-- The slots of a member, for its parameters and its locals.
 use Rattle.std.specs.Prelude.{ℕ, ◌+◌, List, ◌∷◌, ◌++◌, map, length, Some}
 use Rattle.pc_core.specs.declared.declarations.ParamInfo.{ParamInfo}
 use Rattle.pc_core.specs.declared.nodes.Slot.{Slot}
@@ -14,7 +14,7 @@ abbrev pub first_local : Member → ℕ
 first_local (written m) = 1 + length m.params
 first_local added = 1
 
--- `this` in method m, a member of the entity of this number.
+-- `this` in method m, a member of the entity with this number.
 abbrev pub this_of : (method entity : ℕ) → Member → Slot
 this_of m number x = record { method = m; kind = slot.This; depth = 0; written = Some (number, receiver_of x) }
 

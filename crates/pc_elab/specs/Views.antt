@@ -1,4 +1,4 @@
--- The parts of `pc_file_spec` that those of the code are.
+-- The parts of `pc_file_spec` that the parts of the code represent.
 use Rattle.pc_elab.specs.declared.parts.Parts.{Parts}
 use Rattle.pc_file_spec.specs.Parts as parts
 

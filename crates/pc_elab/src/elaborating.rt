@@ -25,7 +25,7 @@ use pc_text_order::names_are_in_order;
 use pc_tree::File;
 use std::alloc::{AllocError, Global};
 
-/// What a core is made of.
+/// The parts of a core.
 #[derive(Drop)]
 pub(crate) struct Made {
     pub(crate) entities: List<EntityDef>,
@@ -33,7 +33,7 @@ pub(crate) struct Made {
     pub(crate) names: List<List<u8>>,
 }
 
-// What the bodies of a file see of it: its entities and texts. The table has the members of its entities.
+// What the bodies of a file know of it: its entities and texts. The table has the members of its entities.
 fn make_context(
     alloc: Global,
     file: &File,
@@ -69,8 +69,8 @@ fn members_of<'a>(
     list_members(alloc, names.entities(), names.all_above(), file)
 }
 
-// What the core of a file is made of, or the first fault of its members. The table has the members of its entities, and the
-// context is what the bodies of the file see of it.
+// The parts of a file's core, or the first fault of its members. The table has the members of its entities, and the
+// context is what the bodies of the file know of it.
 #[tactic(auto, using(crate::proofs::Wholes::few_own, crate::proofs::Wholes::as_many))]
 fn make_parts(
     alloc: Global,
@@ -98,7 +98,7 @@ fn make_parts(
     })
 }
 
-// The same where no context is there yet.
+// The same without a context to begin with.
 fn make_with(
     alloc: Global,
     file: &File,
@@ -116,7 +116,7 @@ fn make_with(
     made
 }
 
-/// What the core of a file is made of, or the first fault of its members.
+/// The parts of a file's core, or the first fault of its members.
 pub(crate) fn make(alloc: Global, file: &File, names: &Names) -> Result<Made, NameFault>
     requires { Collected (file_view file.now) names.now }
     ensures core { spec.Makes result (core_of names.now.above (file_view file.now)) }
@@ -126,7 +126,7 @@ pub(crate) fn make(alloc: Global, file: &File, names: &Names) -> Result<Made, Na
     make_with(alloc, file, names, table.as_slice())
 }
 
-// The core of what was made, with its tables.
+// The core with these parts, with its tables.
 fn finish(alloc: Global, made: Made) -> Result<Core, AllocError>
     requires { Formed (spec.made_view made) }
     ensures { IfOk result (λ c. c ≡ spec.made_view made) }
@@ -145,10 +145,10 @@ fn finish(alloc: Global, made: Made) -> Result<Core, AllocError>
     tabulate(alloc, &mut core).and(Ok(core))
 }
 
-/// The core of a file whose names were collected. It is `Err` exactly where a member of the file has a fault, and then it
-/// names the first fault of the first such member: the first fault of its body in the order of the text, else its 65th
-/// slot, at the name of the parameter or local that would have it, else, at the member's own name, that the nodes of all
-/// members so far are more than 200,000. Memory may run out at any time.
+/// The core of a file whose names were collected. `Err` iff a member of the file has a fault, and then the first fault
+/// of the first such member: the first fault of its body in the order of the text, else its 65th slot, at the name of
+/// the parameter or local that would have it, else, at the member's own name, that all members so far have more than
+/// 200,000 nodes. Memory may run out at any time.
 pub fn elaborate(alloc: Global, file: &File, names: &Names) -> Result<Core, NameFault>
     requires spelled { spec.Spelled (file_view file.now) }
     requires collected { Collected (file_view file.now) names.now }

@@ -31,7 +31,7 @@ fn field_of(context: &Context, field: &FieldDef) -> FieldInfo
     }
 }
 
-// These fields go behind the others.
+// Appends these fields.
 fn add_fields(
     list: &mut List<FieldInfo>,
     context: &Context,
@@ -45,7 +45,7 @@ fn add_fields(
     Ok(())
 }
 
-// The numbers of those names that are entities go behind the others.
+// Appends the numbers of those of these names that are entities.
 fn add_numbers(numbers: &mut List<u32>, names: &Names, provides: &[Name]) -> Result<(), AllocError>
     ensures { OnOk result (numbers.new ≡ numbers.old ++ numbers_of names.now.entities provides.now) }
 {
@@ -58,7 +58,7 @@ fn add_numbers(numbers: &mut List<u32>, names: &Names, provides: &[Name]) -> Res
     Ok(())
 }
 
-// The entities above that of this number.
+// The entities above the one with this number.
 fn list_above(alloc: Global, names: &Names, number: u32) -> Result<List<u32>, AllocError>
     ensures { IfOk result (λ l. l ≡ or_nil (slice_get names.now.above number)) }
 {
@@ -68,7 +68,7 @@ fn list_above(alloc: Global, names: &Names, number: u32) -> Result<List<u32>, Al
     }
 }
 
-// What the entity names after `is`, and its fields, go into two lists without any.
+// Adds what the entity names after `is`, and its fields, to two empty lists.
 fn add_lists(
     numbers: &mut List<u32>,
     fields: &mut List<FieldInfo>,
@@ -85,7 +85,7 @@ fn add_lists(
     add_fields(fields, context, entity.fields.as_slice())
 }
 
-// The entity of this number, with so many methods from this one on.
+// The entity with this number, with this number of methods from this one on.
 fn make_entity(
     alloc: Global,
     context: &Context,
@@ -114,7 +114,7 @@ fn make_entity(
     }))
 }
 
-// The entities of the language and those of the file, with the table of their members, go into a list without any.
+// Adds the built-in entities and those of the file, given the table of their members, to an empty list.
 fn add_entities(
     alloc: Global,
     list: &mut List<EntityDef>,
@@ -141,7 +141,7 @@ fn add_entities(
     Ok(())
 }
 
-/// The entities of a program: those of the language, and then those of the file, with the table of their members.
+/// The entities of a program: the built-in ones, and then those of the file, given the table of their members.
 pub(crate) fn list_entities(
     alloc: Global,
     context: &Context,

@@ -1,4 +1,4 @@
-//! What the bodies of a file see of its entities.
+//! What the bodies of a file know of its entities.
 ghost use Rattle.std.specs.Prelude.{◌≡◌, ◌++◌, ◌∷◌, [], ◌+◌, ◌<◌, ◌^◌, map, length, IfOk, OnOk};
 ghost use Rattle.pc_tree.specs.View.{entity_view};
 ghost use Rattle.pc_file_spec.specs.Known as spec;
@@ -12,10 +12,10 @@ use pc_resolve::{Constructor, Constructors, Known};
 use pc_tree::{Entity, EntityKind};
 use std::alloc::{AllocError, Global};
 
-/// How many methods a program may have at most. No memory holds so many.
+/// How many methods a program may have at most. No memory could hold more.
 const MOST_METHODS: u32 = 4_294_967_295;
 
-/// The capability that is written, or else another.
+/// The capability that is written, or else the other.
 pub(crate) fn cap_or(written: Option<Cap>, other: Cap) -> Cap
     ensures { result ≡ either_cap written other }
 {
@@ -25,8 +25,7 @@ pub(crate) fn cap_or(written: Option<Cap>, other: Cap) -> Cap
     }
 }
 
-/// The capability of an entity's type where none is written: that of its declaration, for classes, traits
-/// and interfaces.
+/// The capability of an entity's type if none is written: that of its declaration, for classes, traits and interfaces.
 pub(crate) fn default_cap(kind: EntityKind, written: Option<Cap>) -> Cap
     ensures { result ≡ spec.default_cap kind written }
 {
@@ -37,7 +36,7 @@ pub(crate) fn default_cap(kind: EntityKind, written: Option<Cap>) -> Cap
     }
 }
 
-/// The number behind those of so many methods, of which the first has this number.
+/// The number after those of these members, of which the first has this number.
 pub(crate) fn number_after(first: u32, members: &[Member]) -> Result<u32, AllocError>
     ensures { IfOk result (λ n. n ≡ first + length (members_view members.now)) }
 {
@@ -68,7 +67,7 @@ fn list_constructors(
     Ok(constructors)
 }
 
-// What bodies see of an entity with these members, of which the first has this number among the methods.
+// What bodies know of an entity with these members, of which the first has this number among the methods.
 fn make_known(
     alloc: Global,
     first: u32,
@@ -84,7 +83,7 @@ fn make_known(
     Ok(Known::new(name, entity.kind, cap, constructors))
 }
 
-// An entity of the language, which has no constructor, goes behind the others.
+// Appends a built-in entity, which has no constructor.
 fn add_built_in(
     alloc: Global,
     known: &mut List<Known>,
@@ -98,7 +97,7 @@ fn add_built_in(
     known.push(Known::new(name, kind, cap, Constructors::new(alloc)))
 }
 
-// The entities of the language go into a list without any.
+// Adds the built-in entities to an empty list.
 fn add_all_built_in(alloc: Global, known: &mut List<Known>) -> Result<(), AllocError>
     requires { known.old ≡ [] }
     ensures { OnOk result (known.new ≡ spec.built_in_known) }
@@ -111,7 +110,7 @@ fn add_all_built_in(alloc: Global, known: &mut List<Known>) -> Result<(), AllocE
     add_built_in(alloc, known, b"OutStream", EntityKind::Actor, Cap::Tag)
 }
 
-// The entities of the language and those of the file, with the table of their members, go into a list without any.
+// Adds the built-in entities and those of the file, given the table of their members, to an empty list.
 fn add_known(
     alloc: Global,
     known: &mut List<Known>,
@@ -133,7 +132,7 @@ fn add_known(
     Ok(())
 }
 
-/// Behind the entities of the language those of the file, with the table of their members.
+/// The built-in entities, followed by those of the file, given the table of their members.
 pub(crate) fn list_known(
     alloc: Global,
     entities: &[Entity],

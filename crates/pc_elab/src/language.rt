@@ -1,4 +1,4 @@
-//! What each program has: the entities of the language.
+//! What every program has: the built-in entities.
 ghost use Rattle.std.specs.Prelude.{◌≡◌, ◌++◌, ◌∷◌, [], IfOk, OnOk};
 ghost use Rattle.pc_core.specs.Entities.{built_in, built_in_value, out_field, print_method};
 ghost use Rattle.pc_file_spec.specs.Cores as spec;
@@ -8,10 +8,10 @@ use pc_core::{EntityDef, FieldInfo, Method, MethodKind, ParamInfo};
 use pc_tree::{EntityKind, NONE_ENTITY, OUT_STREAM_ENTITY, STRING_ENTITY};
 use std::alloc::{AllocError, Global};
 
-// What the language has stands nowhere in the text.
+// Built-in parts have no place in the text.
 const NOWHERE: Span = Span { start: 0, end: 0 };
 
-// An entity of the language goes behind the others.
+// Appends a built-in entity.
 fn add_built_in(
     alloc: Global,
     entities: &mut List<EntityDef>,
@@ -37,7 +37,7 @@ fn add_built_in(
     })
 }
 
-// One of the language's values goes behind the others.
+// Appends an entity of literal values.
 fn add_value(alloc: Global, entities: &mut List<EntityDef>, name: &str) -> Result<(), AllocError>
     ensures { OnOk result (entities.new ≡ entities.old ++ built_in_value name.now ∷ []) }
 {
@@ -67,7 +67,7 @@ fn list_env_fields(alloc: Global) -> Result<List<FieldInfo>, AllocError>
     Ok(fields)
 }
 
-/// The entities of the language, where `out` and `print` are the first two texts, go into a list without any.
+/// Adds the built-in entities, with `out` and `print` as the first two texts, to an empty list.
 pub(crate) fn add_built_ins(alloc: Global, entities: &mut List<EntityDef>) -> Result<(), AllocError>
     requires { entities.old ≡ [] }
     ensures { OnOk result (entities.new ≡ spec.built_ins) }

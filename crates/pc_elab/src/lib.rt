@@ -1,7 +1,7 @@
 //! From the tree of a file and its names to its core.
 //!
-//! Proved: `elaborate` gives the core that stands for a file, or its first fault, for every file that tokens spell and
-//! whose names were collected; that core is formed and small (`cores_are_formed`).
+//! Proved: `elaborate` returns the core of a file, or its first fault, for every file that tokens spell and whose names
+//! were collected; that core is formed and small (`cores_are_formed`).
 #![tactic(auto)]
 
 mod elaborating;

@@ -39,7 +39,7 @@ fn list_member_names(alloc: Global, members: &[Member]) -> Result<List<List<u8>>
     Ok(names)
 }
 
-// A member of the entity of this number goes behind the others, or its first fault is told.
+// Appends a member of the entity with this number, or reports its first fault.
 fn add_one(
     alloc: Global,
     context: &mut Context,
@@ -57,7 +57,7 @@ fn add_one(
     add_member(alloc, context, parts, number, entity, member, locals)
 }
 
-// The members of the entity of this number go behind the others, up to the first that has a fault, which is told.
+// Appends the members of the entity with this number, up to the first with a fault, which is reported.
 fn add_members(
     alloc: Global,
     context: &mut Context,
@@ -75,7 +75,7 @@ fn add_members(
     Ok(())
 }
 
-// The same of an entity, whose fields and members the context gets.
+// The same for an entity, whose fields and members are put into the context.
 fn add_entity(
     alloc: Global,
     context: &mut Context,
@@ -94,8 +94,8 @@ fn add_entity(
     add_members(alloc, context, parts, number, entity, members)
 }
 
-/// The members of these entities of a file go behind the parts of the language, or the first fault is told: that of the first
-/// member that has one. The table has the members of each entity.
+/// Appends the members of these entities of a file to the built-in parts, or reports the first fault: that of the first
+/// member with one. The table has the members of each entity.
 pub(crate) fn add_entities(
     alloc: Global,
     context: &mut Context,

@@ -24,10 +24,10 @@ use pc_resolve::Context;
 use pc_tree::{Entity, MethodWord};
 use std::alloc::{AllocError, Global};
 
-/// How many methods, slots or nodes a program may have at most. No memory holds so many.
+/// How many methods, slots or nodes a program may have at most. No memory could hold more.
 const MOST: usize = 4_294_967_295;
 
-/// The slot that is one too many has this index behind the slot of `this`.
+/// The first slot past the limit has this index, counted after the slot of `this`.
 const EXTRA_SLOT: usize = SLOT_LIMIT as usize - 1;
 
 /// The methods, slots and nodes so far.
@@ -38,7 +38,7 @@ pub(crate) struct Parts {
     pub(crate) nodes: List<Node>,
 }
 
-// A count as a number of 32 bits.
+// A count as a 32-bit number.
 fn number(count: usize) -> Result<u32, AllocError>
     ensures { IfOk result (λ n. n ≡ count) }
 {
@@ -48,7 +48,7 @@ fn number(count: usize) -> Result<u32, AllocError>
     Ok(count as u32)
 }
 
-// What the fault of a body is among those of a file's names.
+// The fault of a file that corresponds to a fault of a body.
 fn name_fault(fault: BodyFault) -> NameFault
     ensures { result ≡ spec.as_name_fault fault }
 {
@@ -60,7 +60,7 @@ fn name_fault(fault: BodyFault) -> NameFault
     }
 }
 
-// Whether the body of a member is without a fault. Where there is no body, a constructor has that of its initial values.
+// Whether the body of a member has no fault. Without a body, a constructor has that of its initial values.
 #[tactic(auto, using(crate::proofs::Behind::nothing_behind))]
 fn check_body(
     alloc: Global,
@@ -81,7 +81,7 @@ fn check_body(
     }
 }
 
-// The place of the name of the 65th slot, where a member with these locals has so many.
+// The span of the name of the 65th slot, if a member with these locals has that many.
 fn extra_slot(member: Member, locals: &[Local]) -> Option<Span>
     ensures { result ≡ spec.extra_slot (member_view member.entry) locals.now }
 {
@@ -94,7 +94,7 @@ fn extra_slot(member: Member, locals: &[Local]) -> Option<Span>
     }
 }
 
-// The place of the name of the local of this index.
+// The span of the name of the local with this index.
 fn local_at(locals: &[Local], index: usize) -> Option<Span>
     ensures { result ≡ spec.span_of (slice_get (local_names locals.now) index) }
 {
@@ -104,7 +104,7 @@ fn local_at(locals: &[Local], index: usize) -> Option<Span>
     }
 }
 
-// The nodes of a member that is this method go behind the others. A trait's method has none.
+// Emits the nodes of a member that is this method, after the others. A trait's method has none.
 fn put_body(
     alloc: Global,
     context: &Context,
@@ -126,8 +126,8 @@ fn put_body(
     }
 }
 
-// Whether a member with these locals is without a fault but for the count of nodes. A fault of its body comes before its 65th
-// slot.
+// Whether a member with these locals has no fault other than too many nodes. A fault of its body takes precedence over
+// its 65th slot.
 #[tactic(auto, using(crate::proofs::Outcomes::no_fault))]
 fn check_member(
     alloc: Global,
@@ -147,8 +147,7 @@ fn check_member(
     }
 }
 
-// What becomes of a member with these locals that is this method: the nodes of its body behind the others, or its first
-// fault.
+// Emits the body of a member with these locals as this method, after the other nodes, or returns its first fault.
 fn member_outcome(
     alloc: Global,
     context: &Context,
@@ -168,14 +167,14 @@ fn member_outcome(
     }
 }
 
-// Where the nodes of a method stand.
+// The place of a method's nodes.
 #[derive(Clone, Copy)]
 struct Nodes {
     first: u32,
     body: Option<u32>,
 }
 
-// Where its slots and its nodes stand.
+// The places of its slots and its nodes.
 #[derive(Clone, Copy)]
 struct Places {
     first_slot: u32,
@@ -183,7 +182,7 @@ struct Places {
     nodes: Nodes,
 }
 
-// A member of the entity of this number as a method, with these parameters and places.
+// A member of the entity with this number as a method, with these parameters and places.
 fn declare(
     context: &Context,
     number_of_entity: u32,
@@ -210,7 +209,7 @@ fn declare(
     }
 }
 
-// The method and the slots of a member of the entity of this number go behind the others. Its nodes are there.
+// Appends the method and the slots of a member of the entity with this number. Its nodes are there already.
 fn join(
     alloc: Global,
     context: &Context,
@@ -248,7 +247,7 @@ fn join(
     Ok(())
 }
 
-/// A member of the entity of this number, with these locals, goes behind the others, or its first fault is told.
+/// Appends a member of the entity with this number, with these locals, or reports its first fault.
 pub(crate) fn add_member(
     alloc: Global,
     context: &Context,
@@ -279,7 +278,7 @@ pub(crate) fn add_member(
     Ok(())
 }
 
-/// The parts before those of a file: the method of the language, which has neither slots nor nodes.
+/// The parts before those of a file: the built-in method, which has no slots and no nodes.
 pub(crate) fn built_in_parts(alloc: Global) -> Result<Parts, AllocError>
     ensures { IfOk result (λ p. parts_view p ≡ language_parts) }
 {

@@ -13,7 +13,7 @@ use pc_resolve::Context;
 use pc_tree::{EntityKind, MethodDef, MethodWord, NONE_ENTITY, ParamDef, TypeRef};
 use std::alloc::{AllocError, Global};
 
-/// A type among the entities of a file. Where the names of the file have no fault, each type is there.
+/// A type among the entities of a file. If the names of the file have no fault, every type is there.
 pub(crate) fn type_in(context: &Context, ty: &TypeRef) -> (u32, Cap)
     ensures { result ≡ spec.type_in context.now.entities ty.now }
 {
@@ -93,7 +93,7 @@ pub(crate) fn kind_of(entity: EntityKind, member: Member) -> MethodKind
     }
 }
 
-/// The capability of `this` in a member: `box` in a function that says nothing else, and `ref` in behaviours and
+/// The capability of `this` in a member: `box` in a function without a written capability, and `ref` in behaviours and
 /// constructors.
 pub(crate) fn receiver_of(member: Member) -> Cap
     ensures { result ≡ spec.receiver_of (member_view member.entry) }
@@ -107,14 +107,14 @@ pub(crate) fn receiver_of(member: Member) -> Cap
     }
 }
 
-// With `^` the value has no place yet.
+// With `^` no place holds the value yet.
 fn result_form(hat: bool, cap: Cap) -> Form
     ensures { result ≡ spec.result_form hat cap }
 {
     if hat { unalias(cap) } else { plain(cap) }
 }
 
-// The result of a function, which is None where nothing is written.
+// The result of a function, which is None if nothing is written.
 fn written_result(context: &Context, ty: &Option<TypeRef>) -> (u32, Form)
     ensures { result ≡ spec.written_result context.now.entities ty.now }
 {
@@ -127,8 +127,8 @@ fn written_result(context: &Context, ty: &Option<TypeRef>) -> (u32, Form)
     }
 }
 
-// A new object of the entity of this number: an actor is a `tag`, and one of a class has the capability that its constructor
-// gives it.
+// A new object of the entity with this number: an actor is `tag`, and an object of a class has the capability that its
+// constructor gives it.
 fn object_of(entity: EntityKind, number: u32, cap: Cap) -> (u32, Form)
     ensures { result ≡ spec.object_of entity number cap }
 {
@@ -141,7 +141,7 @@ fn object_of(entity: EntityKind, number: u32, cap: Cap) -> (u32, Form)
     }
 }
 
-// The result of a method that is written.
+// The result of a written method.
 fn method_result(
     context: &Context,
     entity: EntityKind,
@@ -157,7 +157,7 @@ fn method_result(
     }
 }
 
-/// The result of a member of the entity of this kind and number. An object that an added `create` gives is isolated.
+/// The result of a member of the entity with this kind and number. The object made by an added `create` is isolated.
 pub(crate) fn result_of(
     context: &Context,
     entity: EntityKind,

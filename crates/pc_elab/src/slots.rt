@@ -17,10 +17,10 @@ use pc_resolve::{Context, LocalSlots};
 use pc_tree::{Entity, MethodWord, TypeRef};
 use std::alloc::{AllocError, Global};
 
-/// How many slots a program may have at most. No memory holds so many.
+/// How many slots a program may have at most. No memory could hold more.
 const MOST_SLOTS: usize = 4_294_967_295;
 
-/// The locals of a member of this entity. Where there is no body, a constructor has those of its initial values.
+/// The locals of a member of this entity. Without a body, a constructor has those of its initial values.
 #[tactic(auto, using(crate::proofs::Behind::nothing_behind))]
 pub(crate) fn locals_of(
     alloc: Global,
@@ -39,7 +39,7 @@ pub(crate) fn locals_of(
     }
 }
 
-// The index of the slot of a member's first local, behind `this` and the parameters.
+// The index of the slot of a member's first local, after `this` and the parameters.
 fn first_local(member: Member) -> Result<u32, AllocError>
     ensures { IfOk result (λ n. n ≡ counts.first_local (member_view member.entry)) }
 {
@@ -55,7 +55,7 @@ fn first_local(member: Member) -> Result<u32, AllocError>
     }
 }
 
-/// The places of a member's locals, which are these, and their slots.
+/// The places and slots of a member's locals, which are these.
 pub(crate) fn placed_of(
     alloc: Global,
     member: Member,
@@ -66,7 +66,7 @@ pub(crate) fn placed_of(
     slots(alloc, first_local(member)?, locals)
 }
 
-// The slot of `this` in a member of the entity of this number.
+// The slot of `this` in a member of the entity with this number.
 fn this_slot(method: u32, number: u32, member: Member) -> Slot
     ensures { result ≡ counts.this_of method number (member_view member.entry) }
 {
@@ -116,7 +116,7 @@ fn local_slot(context: &Context, method: u32, local: &Local) -> Slot
     }
 }
 
-// The slots of these parameters go behind the others.
+// Appends the slots of these parameters.
 fn add_params(slots: &mut List<Slot>, method: u32, params: &[ParamInfo]) -> Result<(), AllocError>
     ensures { OnOk result (slots.new ≡ slots.old ++ map (methods.param_slot method) params.now) }
 {
@@ -126,7 +126,7 @@ fn add_params(slots: &mut List<Slot>, method: u32, params: &[ParamInfo]) -> Resu
     Ok(())
 }
 
-// The slots of these locals go behind the others.
+// Appends the slots of these locals.
 fn add_locals(
     context: &Context,
     slots: &mut List<Slot>,
@@ -141,8 +141,8 @@ fn add_locals(
     Ok(())
 }
 
-/// The slots of a member that is this method, with these parameters and locals, go behind the others: `this`, then the
-/// parameters, then the locals. The entity has this number.
+/// Appends the slots of a member that is this method, with these parameters and locals: `this`, then the parameters,
+/// then the locals. The entity has this number.
 pub(crate) fn add_slots(
     context: &Context,
     slots: &mut List<Slot>,

@@ -10,7 +10,7 @@ use pc_names::add_member_texts;
 use pc_tree::File;
 use std::alloc::{AllocError, Global};
 
-// The texts of a file go into a table without any.
+// Adds the texts of a file to an empty table.
 fn add_all(table: &mut NameTable, file: &File) -> Result<(), AllocError>
     requires { table.old ≡ [] }
     ensures { OnOk result (table.new ≡ texts_of (file_view file.now)) }
@@ -23,8 +23,8 @@ fn add_all(table: &mut NameTable, file: &File) -> Result<(), AllocError>
     add_texts(table, file.entities.as_slice())
 }
 
-/// The texts of a file, each once: those of the language, then the names of the fields and methods, and then the names
-/// behind a `.`. The key is that of the table of all entities.
+/// The texts of a file, each once: the built-in ones, then the names of the fields and methods, and then the names
+/// after a `.`. The key is that of the table of all entities.
 pub(crate) fn table_texts(
     alloc: Global,
     entities: &NameTable,

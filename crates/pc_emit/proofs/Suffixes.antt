@@ -1,4 +1,4 @@
--- A chain of suffixes, cut before its last one, and how it begins.
+-- A chain of suffixes, cut before its last one, and how it starts.
 use Rattle.std.proofs.Common.{◌≡◌, ℕ, zero, suc, ◌+◌, ◌-◌, ◌<◌, ◌≤◌, Bool, true, false, Option, take, drop, length, List, [], ◌∷◌, ◌++◌, Some, None, refl, ap, ◌∙◌, sym, subst, arith, map, if◌then◌else◌}
 use Rattle.std.specs.Prelude.{slice_get, IsTrue, ◌↔◌}
 use Rattle.std.specs.Prelude.{slice_index_or, option_map}
@@ -35,7 +35,7 @@ take_at (y ∷ xs) (suc i) x h = ap (λ l. y ∷ l) (take_at xs i x h)
 pub take_last : {X : Type 0} → (xs : List X) (n : ℕ) (x : X) → 0 < n → slice_get xs (n - 1) ≡ Some x → take n xs ≡ take (n - 1) xs ++ x ∷ []
 take_last xs n x l h = let e : n ≡ suc (n - 1) = omega (arith, l) in ap (λ k. take k xs) e ∙ take_at xs (n - 1) x h
 
--- What is done at the end of a chain is done with what stands before it.
+-- What is done at the end of a chain is done with what comes before it.
 module _ (c : Context) (sc : Scope) (d : ℕ) (s : Span) (u : Use) where
   mutual
     pub chain_field : (ss : List t.Suffix) (n : Name) (st : Start) (origin : Rose) → chain_of c sc d s u st origin (t.suffixes_of (ss ++ t.dot n ∷ [])) ≡ use_field c u (join s n.span) n d (chain_of c sc d s read st origin (t.suffixes_of ss))
@@ -108,7 +108,7 @@ before_args c ss left gs gp l h = λ sc d s origin es sp.
     let e = take_last ss left (t.args gs gp) l h in
     ap (λ l. rest_of c sc d s origin (l ++ t.args es sp ∷ [])) e ∙ ap (λ l. rest_of c sc d s origin l) (two_more (take (left - 1) ss) (t.args gs gp) (t.args es sp)) ∙ chain_apply c sc d s (take (left - 1) ss) gs gp es sp origin ∙ ap (λ l. call c (join s sp) apply_name d (exprs_of c sc d es) (rest_of c sc d s origin l)) (sym e)
 
--- ---- how a chain begins
+-- ---- how a chain starts
 
 pub begins_with_nothing : (c : Context) (ss : List t.Suffix) → Begins c (with_type no_value) ss begins.Value
 begins_with_nothing c [] = λ sc d s u origin. refl
@@ -143,7 +143,7 @@ begins_with_primitive c e (t.dot m ∷ []) h = λ sc d s u origin. refl
 begins_with_primitive c e (t.dot m ∷ t.dot k ∷ ss) h = λ sc d s u origin. refl
 begins_with_primitive c e (t.dot m ∷ t.args es sp ∷ ss) h = λ sc d s u origin. refl
 
--- A chain goes on behind a new object.
+-- A chain continues after a new object.
 object_begins : (c : Context) (a : Bool) (o : Option ℕ) (es : t.Exprs) (sp : Span) (ss : List t.Suffix) (sc : Scope) (d : ℕ) (s : Span) (u : Use) (origin : Rose)
     → chain_of c sc d s u with_value (new_object a (join s sp) d (exprs_of c sc d es) o) (t.suffixes_of ss) ≡ chain_of c sc d s u with_value (begun c sc d s (object a o 0) (t.args es sp ∷ ss) origin) (t.suffixes_of (drop (taken (object a o 0)) (t.args es sp ∷ ss)))
 object_begins c true (Some m) es sp ss sc d s u origin = refl
@@ -194,7 +194,7 @@ begins_behind_name c a cs n ss h = by (is_args (slice_get ss 1)) refl
     by true g = begins_with_named c a cs n ss h g
     by false g = begins_with_object c a cs n ss h g
 
--- A test of what stands at a place.
+-- A test of what is at a place.
 pub tested_some : (f : Option t.Suffix → Bool) (xs : List Suffix) (i : ℕ) (x : Suffix) → slice_get xs i ≡ Some x → f (Some (suffix_view x)) ≡ f (slice_get (map suffix_view xs) i)
 tested_some f xs i x h = ap f (sym (slice_get-map suffix_view xs i ∙ ap (option_map suffix_view) h))
 
@@ -206,7 +206,7 @@ past_none [] i h = refl
 past_none (x ∷ xs) zero h = absurd (omega (arith, h))
 past_none (x ∷ xs) (suc i) h = past_none xs i (omega (arith, h))
 
--- Where the first suffix passes, there is one.
+-- If the first suffix passes the test, there is one.
 pub one_taken : (f : Option t.Suffix → Bool) (xs : List Suffix) → f None ≡ false → f (slice_get (map suffix_view xs) 0) ≡ true → 1 ≤ length xs
 one_taken f [] n h = absurd (false≢true (sym n ∙ h))
 one_taken f (x ∷ xs) n h = omega arith
@@ -252,7 +252,7 @@ empty_args [] s false h = absurd (false≢true (h.1 refl))
 empty_args (x ∷ xs) s false h = refl
 empty_args (x ∷ xs) s true h = let e : length (x ∷ xs) ≡ 0 = h.0 refl in absurd (omega (arith, e))
 
--- A chain whose nodes wait for what begins it.
+-- A chain whose nodes are pending on its beginning.
 pub chain_opens : (c : Context) (sc sc2 : Scope) (d : ℕ) (e h : Expr) (b : Box Expr Global) (ss xs : List Suffix) (s : Span) (beg : Beginning) (first count : ℕ) (rest : List Suffix)
     → e ≡ exprs.Chain b ss s → h ≡ b.value → xs ≡ ss → sc2 ≡ sc → Begins c (start_of c sc2 (expr_view h)) (map suffix_view xs) beg → first ≡ taken beg → rest ≡ drop first xs → count ≡ length rest
     → only is_chain c sc d (expr_view e) ≡ rest_of c sc d s (begun c sc d s beg (map suffix_view xs) (expr_of c sc d (expr_view h))) (map suffix_view (take count (drop (taken beg) xs)))
@@ -261,7 +261,7 @@ chain_opens c sc sc2 d e h b ss xs s beg first count rest is eh ex es begins f e
     let all : map suffix_view (take count (drop (taken beg) xs)) ≡ drop (taken beg) (map suffix_view xs) = ap (λ r. map suffix_view (take count r)) (sym behind) ∙ ap (λ n. map suffix_view (take n rest)) ec ∙ ap (map suffix_view) (take_whole rest ∙ behind) ∙ map_drop suffix_view (taken beg) xs in
     rw (is, view_chain b ss s, ← eh, ← ex, all) (ap (λ z. chain_of c sc d s read (start_of c z (expr_view h)) (expr_of c sc d (expr_view h)) (t.suffixes_of (map suffix_view xs))) (sym es) ∙ begins sc d s read (expr_of c sc d (expr_view h)))
 
--- So it is where a value is written to its end.
+-- The same if a value is assigned to its end.
 pub write_opens : (c : Context) (sc sc2 : Scope) (d : ℕ) (e h : Expr) (b : Box Expr Global) (ss xs : List Suffix) (s place : Span) (v : Rose) (beg : Beginning) (first count : ℕ) (into : Option ℕ) (rest : List Suffix)
     → e ≡ exprs.Chain b ss s → h ≡ b.value → xs ≡ ss → sc2 ≡ sc → Begins c (start_of c sc2 (expr_view h)) (map suffix_view xs) beg → first ≡ taken beg → rest ≡ drop first xs → IsSplit c (map suffix_view rest) into count
     → assign_of c sc d place v (expr_of c sc d (expr_view e)) (expr_view e) ≡ written_end d place into v (rest_of c sc d s (begun c sc d s beg (map suffix_view xs) (expr_of c sc d (expr_view h))) (map suffix_view (take count (drop (taken beg) xs))))

@@ -49,12 +49,12 @@ pub just : {A : Type 0} (o : Numbered A) → o ≡ and_then o (λ a. λ ns. Some
 just None = refl
 just (Some r) = refl
 
--- The node that was added last waits least.
+-- The node that was added last is completed first.
 pub closing_last : {P : Type 0} (step : P → ℕ → List Node → Numbered ℕ) (ps : List P) (p : P) (n : ℕ) (ns : List Node) → closing step (ps ++ p ∷ []) n ns ≡ and_then (step p n ns) (closing step ps)
 closing_last step [] p n ns = just (step p n ns)
 closing_last step (q ∷ ps) p n ns = ap (λ o. and_then o (step q)) (closing_last step ps p n ns) ∙ assoc (step p n ns) (closing step ps) (step q)
 
--- So closing it leaves the others to be closed.
+-- So completing it leaves the others to be completed.
 pub closed_last : {P : Type 0} (step : P → ℕ → List Node → Numbered ℕ) (xs ps : List P) (p : P) (n n2 : ℕ) (ns ns2 : List Node) → xs ≡ ps ++ p ∷ [] → step p n ns ≡ Some (n2, ns2) → closing step ps n2 ns2 ≡ closing step xs n ns
 closed_last step xs ps p n n2 ns ns2 h g = sym (ap (λ l. closing step l n ns) h ∙ closing_last step ps p n ns ∙ ap (λ o. and_then o (closing step ps)) g)
 
@@ -66,7 +66,7 @@ takes_last before after (Some p) e f = ends_with before p (sym e) ∙ ap (λ l. 
 pub shorter : {P : Type 0} (xs ps : List P) (p : P) → xs ≡ ps ++ p ∷ [] → length ps < length xs
 shorter xs ps p h = omega (arith, ap length h, length-append ps (p ∷ []))
 
--- The node that waits for an inner part is added to those that wait.
+-- The node that is pending on an inner part is added to the pending ones.
 pub waits : {P : Type 0} (step : P → ℕ → List Node → Numbered ℕ) (ps : List P) (p : P) (o : Numbered ℕ) → and_then (and_then o (step p)) (closing step ps) ≡ and_then o (closing step (ps ++ p ∷ []))
 waits step ps p None = refl
 waits step ps p (Some r) = sym (closing_last step ps p r.0 r.1)
@@ -109,7 +109,7 @@ call_last (Some r) g f = inner (g r.1)
 pub called_is : (m d : ℕ) (k : NodeKind) (s : Span) (rs : Roses) (receiver : Rose) (ns : List Node) → put m (rose k s d (and_last rs receiver)) ns ≡ and_then (puts m rs ns) (λ tops. λ ns. and_then (put m receiver ns) (λ r. push m k s d (tops ++ r ∷ [])))
 called_is m d k s rs receiver ns = ap (λ o. and_then o (push m k s d)) (and_last_put m rs receiver ns) ∙ call_last (puts m rs ns) (put m receiver) (push m k s d)
 
--- Condition and body come first, then what is done else.
+-- Condition and body come first, then the `else`.
 three_is : (m : ℕ) (x y z : Rose) (a b : ℕ) (ns n1 n2 : List Node) (f : List ℕ → List Node → Numbered ℕ) → put m x ns ≡ Some (a, n1) → put m y n1 ≡ Some (b, n2) → and_then (puts m (three x y z) ns) f ≡ and_then (put m z n2) (λ e. f (a ∷ b ∷ e ∷ []))
 three_is m x y z a b ns n1 n2 f ex ey = rw (ex, ey) (inner (put m z n2))
   where
@@ -127,7 +127,7 @@ arm_is m d true reach x y z a b ns n1 n2 ex ey = three_is m x y z a b ns n1 n2 (
 arm_is m d false reach x y z a b ns n1 n2 ex ey =
     one_part (and_then (puts m (three x y z) ns) (push m node.If reach d)) (push m node.Seq reach d) ∙ ap (λ o. and_then o (λ a. push m node.Seq reach d (a ∷ []))) (three_is m x y z a b ns n1 n2 (push m node.If reach d) ex ey) ∙ assoc (put m z n2) (λ e. push m node.If reach d (a ∷ b ∷ e ∷ [])) (λ a. push m node.Seq reach d (a ∷ []))
 
--- An arm stops with its condition, or with its body.
+-- An arm fails with its condition, or with its body.
 pub cond_none : (m d : ℕ) (first : Bool) (reach : Span) (x y z : Rose) (ns : List Node) → put m x ns ≡ None → put m (if_of first reach d (three x y z)) ns ≡ None
 cond_none m d true reach x y z ns h = rw h refl
 cond_none m d false reach x y z ns h = rw h refl
@@ -155,7 +155,7 @@ pub sequence_is : (m d : ℕ) (s : Span) (rs : Roses) (ns : List Node) → put m
 unfolding seq_closes
 sequence_is m d s rs ns = ap (λ o. and_then o (push m node.Seq s d)) (or_none_is m d s rs ns) ∙ assoc (puts m rs ns) (none_closes m d s) (push m node.Seq s d)
 
--- What stands left is numbered first.
+-- The left side is numbered first.
 pub operands_none : (c : Context) (sc : Scope) (d : ℕ) (o : Op) (s : Span) (m : ℕ) (es : t.Exprs) (r : Rose) (ns : List Node) → put m r ns ≡ None → put m (operands_of c sc d o s r es) ns ≡ None
 operands_none c sc d o s m t.no_exprs r ns h = h
 operands_none c sc d o s m (t.expr e es) r ns h = operands_none c sc d o s m es (rose (operation o) (join s (t.span_of e)) d (two r (expr_of c sc d e))) ns (rw h refl)
@@ -168,7 +168,7 @@ push_none c sc d o s m e es r n a ns n1 n2 h g i = operands_none c sc d o s m es
 
 -- ---- stops
 
--- The code's stop is that of a part.
+-- The code stops where a part does.
 pub stops : {A B : Type 0} (e : EmitStop) (ns n2 : List Node) (part : Numbered A) (whole : Numbered B) → Gives (Err e) ns part → (part ≡ None → whole ≡ None) → Gives (Err e) n2 whole
 stops stop.Full ns n2 part whole h f = f h
 stops stop.Memory ns n2 part whole h f = tt
@@ -181,7 +181,7 @@ pub stops_still : {P : Type 0} (e : EmitStop) (ns n2 : List Node) (step : P → 
 stops_still stop.Full ns n2 step i1 i2 part whole h f = f h
 stops_still stop.Memory ns n2 step i1 i2 part whole h f = tt
 
--- The whole stops with an inner part, and else is closed around it.
+-- The whole fails with an inner part, and otherwise is completed around it.
 pub inner_stops : {A B : Type 0} (e : EmitStop) (ns n2 : List Node) (inner : Numbered A) (f : A → List Node → Numbered B) (whole : Numbered B) → whole ≡ and_then inner f → Gives (Err e) ns inner → Gives (Err e) n2 whole
 inner_stops stop.Full ns n2 inner f whole h g = h ∙ ap (λ o. and_then o f) g
 inner_stops stop.Memory ns n2 inner f whole h g = tt
@@ -189,7 +189,7 @@ inner_stops stop.Memory ns n2 inner f whole h g = tt
 pub inner_gives : {A B : Type 0} (r : Result B EmitStop) (n1 n2 : List Node) (a : A) (inner : Numbered A) (f : A → List Node → Numbered B) (whole : Numbered B) → whole ≡ and_then inner f → inner ≡ Some (a, n1) → Gives r n2 (f a n1) → Gives r n2 whole
 inner_gives r n1 n2 a inner f whole h g i = rw (h, g) i
 
--- The whole stops with a part of an arm, around which others wait.
+-- The whole fails with a part of an arm around which others are pending.
 pub arm_stops : {P : Type 0} (e : EmitStop) (ns n2 : List Node) (step : P → ℕ → List Node → Numbered ℕ) (ps : List P) (inner : List Node → Numbered ℕ) (part arm whole : Numbered ℕ) → whole ≡ and_then arm (closing step ps) → Gives {A = ℕ} (Err e) ns part → (part ≡ None → arm ≡ None) → Opens (Err e) n2 step inner whole
 arm_stops stop.Full ns n2 step ps inner part arm whole w h f = w ∙ ap (λ o. and_then o (closing step ps)) (f h)
 arm_stops stop.Memory ns n2 step ps inner part arm whole w h f = tt
@@ -198,7 +198,7 @@ pub opens_stop : {P : Type 0} (e : EmitStop) (ns n2 : List Node) (step : P → �
 opens_stop stop.Full ns n2 step inner whole h = h
 opens_stop stop.Memory ns n2 step inner whole h = tt
 
--- ---- lists and what they stand for
+-- ---- lists and what they represent
 
 pub exprs_at : (xs : List Expr) (i : ℕ) (x : Expr) → slice_get xs i ≡ Some x → exprs_view (drop i xs) ≡ t.expr (expr_view x) (exprs_view (drop (suc i) xs))
 exprs_at [] i x h = absurd (none-some x h)
@@ -208,7 +208,7 @@ exprs_at (y ∷ xs) (suc i) x h = exprs_at xs i x h
 pub exprs_from : (xs : List Expr) (i j : ℕ) (x : Expr) → slice_get xs i ≡ Some x → j ≡ i + 1 → exprs_view (drop i xs) ≡ t.expr (expr_view x) (exprs_view (drop j xs))
 exprs_from xs i j x h e = let n : suc i ≡ j = omega (arith, e) in exprs_at xs i x h ∙ ap (λ k. t.expr (expr_view x) (exprs_view (drop k xs))) n
 
--- What was visible stays so behind an item.
+-- What was visible stays visible after an item.
 pub scope_kept : (c : Context) (sc old : Scope) (i : t.Item) → take (length old) sc ≡ old → take (length old) (scope_after c sc i) ≡ old
 scope_kept c sc old (t.plain e) h = h
 scope_kept c sc old (t.local fixed n ty v s) h = let within : length old ≤ length sc = omega (arith, length-take (length old) sc, ap length h) in take-append-le (length old) sc _ within ∙ h
@@ -248,9 +248,9 @@ arm_parts a = search (rules, the_lemmas)
 pub seq_parts : (x : Seq) → seq_view x ≡ t.seq (items_view x.items) x.span
 seq_parts x = search (rules, the_lemmas)
 
--- ---- what begins a chain
+-- ---- how a chain begins
 
--- A chain stops with what opens its suffixes, or with what begins it.
+-- A chain fails with what opens its suffixes, or with its beginning.
 pub links_stop : (e : EmitStop) (ns n2 : List Node) (step : Link → ℕ → List Node → Numbered ℕ) (begins atom : List Node → Numbered ℕ) (whole : Numbered ℕ) → Opens (Err e) ns step begins whole → OpensChain (Err e) n2 step atom whole
 links_stop stop.Full ns n2 step begins atom whole h = h
 links_stop stop.Memory ns n2 step begins atom whole h = tt
@@ -273,7 +273,7 @@ pub chain_stops : (e : EmitStop) (ns n2 : List Node) (step : Link → ℕ → Li
 chain_stops stop.Full ns n2 step atom whole h = h
 chain_stops stop.Memory ns n2 step atom whole h = tt
 
--- ---- what is written
+-- ---- writes
 
 pub two_last : (a : ℕ) (q : Numbered ℕ) (f : List ℕ → List Node → Numbered ℕ) → and_then (and_then (and_then q (λ t. λ ns. Some (t ∷ [], ns))) (λ b. λ ns. Some (a ∷ b, ns))) f ≡ and_then q (λ t. f (a ∷ t ∷ []))
 two_last a None f = refl
@@ -310,7 +310,7 @@ name_none c m d s n field v ns o h = rw h refl
 name_none c m d s n method v ns o h = absurd (true≢false o)
 name_none c m d s n nothing v ns o h = absurd (true≢false o)
 
--- So without nodes for the value there are none for the whole.
+-- So if there are no nodes for the value, there are none for the whole.
 pub assign_none : (c : Context) (sc : Scope) (m d : ℕ) (s : Span) (v l : Rose) (e : t.Expr) (ns : List Node) → is_missing c sc e ≡ false → put m v ns ≡ None → put m (assign_of c sc d s v l e) ns ≡ None
 assign_none c sc m d s v l (t.name n) ns o h = name_none c m d s n (resolve c sc n.text) v ns o h
 assign_none c sc m d s v l (t.chain f ss whole) ns o h = chain_none c sc m d whole s v ns h (start_of c sc f) (expr_of c sc d f) ss

@@ -22,7 +22,7 @@ behind_one : (tops : List ℕ) (a : ℕ) (o : Numbered (List ℕ)) → behind_to
 behind_one tops a None = refl
 behind_one tops a (Some r) = ap (λ l. Some (l, r.1)) (sym (append_assoc tops (a ∷ []) r.0))
 
--- One part more.
+-- One more part.
 pub behind_more : (m : ℕ) (r : Rose) (rest : Roses) (tops new : List ℕ) (top : ℕ) (ns n2 : List Node) → put m r ns ≡ Some (top, n2) → new ≡ tops ++ top ∷ [] → behind_tops tops (puts m (more r rest) ns) ≡ behind_tops new (puts m rest n2)
 behind_more m r rest tops new top ns n2 h e = rw (h, e) (behind_one tops top (puts m rest n2))
 

@@ -1,4 +1,4 @@
--- Nodes that wait for the number of a part.
+-- Pending nodes, which still need the number of a part.
 use Rattle.std.specs.Prelude.{ℕ, ◌-◌, ◌+◌, ◌≡◌, Bool, true, false, List, [], ◌∷◌, ◌++◌, Option, Some, None, Result, Ok, Err, take, drop, slice_get, if◌then◌else◌}
 use Rattle.pc_caps.specs.declared.span.Span.{Span}
 use Rattle.pc_core.specs.declared.nodes.Node.{Node}
@@ -20,7 +20,7 @@ use Rattle.pc_emit.specs.declared.chains.First.TheVariants as first
 use Rattle.pc_emit.specs.declared.chains.Beginning.{Beginning}
 use Rattle.pc_emit.specs.declared.chains.Beginning.TheVariants as begins
 
--- The nodes that wait, the outermost first, each closed by the number of what stands inside it.
+-- The pending nodes, the outermost first, each completed by the number of the part inside it.
 abbrev pub closing : {P : Type 0} → (P → ℕ → List Node → Numbered ℕ) → List P → ℕ → List Node → Numbered ℕ
 closing step [] n ns = Some (n, ns)
 closing step (p ∷ ps) n ns = and_then (closing step ps n ns) (step p)
@@ -30,7 +30,7 @@ abbrev pub TakesLast : {P : Type 0} → (before after : List P) → Option P →
 TakesLast before after None = (before ≡ []) × (after ≡ [])
 TakesLast before after (Some p) = before ≡ after ++ p ∷ []
 
--- An arm waits for its `else`; each but the first stands in a sequence of its own.
+-- A pending arm is completed by its `else`; each arm but the first is in a sequence of its own.
 abbrev pub arm_after : Bool → (method depth : ℕ) → Span → ℕ → List Node → Numbered ℕ
 arm_after true m d s chosen ns = Some (chosen, ns)
 arm_after false m d s chosen ns = push m node.Seq s d (chosen ∷ []) ns
@@ -38,11 +38,11 @@ arm_after false m d s chosen ns = push m node.Seq s d (chosen ∷ []) ns
 unfoldable pub arm_closes : (method depth : ℕ) → OpenArm → ℕ → List Node → Numbered ℕ
 arm_closes m d w n ns = and_then (push m node.If w.span d (w.cond ∷ w.body ∷ n ∷ []) ns) (arm_after w.first m d w.span)
 
--- A suffix waits for what stands before it, which is its last child.
+-- A pending suffix is completed by what comes before it, which becomes its last child.
 unfoldable pub link_closes : (method depth : ℕ) → Link → ℕ → List Node → Numbered ℕ
 link_closes m d l n ns = push m l.kind l.span d (l.args ++ n ∷ []) ns
 
--- A call on `this` has its arguments, and then `this`.
+-- A call on `this` evaluates its arguments, and then `this`.
 unfoldable pub this_closes : (method depth : ℕ) → Span → ℕ → Span → List ℕ → List Node → Numbered ℕ
 this_closes m d s n place args ns = and_then (push m node.This place d [] ns) (λ this. push m (node.Call n) s d (args ++ this ∷ []))
 
@@ -54,7 +54,7 @@ none_closes m d s (x ∷ xs) ns = Some (x ∷ xs, ns)
 unfoldable pub seq_closes : (method depth : ℕ) → Span → List ℕ → List Node → Numbered ℕ
 seq_closes m d s tops ns = and_then (none_closes m d s tops ns) (push m node.Seq s d)
 
--- What the code gives where nodes wait for an inner part, whose own nodes come next.
+-- The result of the code if nodes are pending on an inner part, whose own nodes come next.
 abbrev pub Opens : {P : Type 0} → Result (List P) EmitStop → List Node → (P → ℕ → List Node → Numbered ℕ) → (List Node → Numbered ℕ) → Numbered ℕ → Type 0
 Opens (Ok ps) ns step inner want = want ≡ and_then (inner ns) (closing step ps)
 Opens (Err stop.Full) ns step inner want = want ≡ None
@@ -65,24 +65,24 @@ OpensOne (Ok p) ns step inner want = want ≡ and_then (inner ns) (step p)
 OpensOne (Err stop.Full) ns step inner want = want ≡ None
 OpensOne (Err stop.Memory) ns step inner want = Unit {0}
 
--- The node of a suffix behind what stands before it: a field, or a call of the name with this text.
+-- The node of a suffix after what comes before it: a field, or a call of the name with this text.
 abbrev pub link_of : Context → Scope → ℕ → Span → ℕ → t.Suffix → Rose → Rose
 link_of c sc d s n (t.dot x) r = rose (node.Field n) (join s x.span) d (one r)
 link_of c sc d s n (t.args es sp) r = rose (node.Call n) (join s sp) d (and_last (exprs_of c sc d es) r)
 
--- A chain whose beginning is there.
+-- A chain whose start has been emitted.
 abbrev pub rest_of : Context → Scope → ℕ → Span → Rose → List t.Suffix → Rose
 rest_of c sc d s origin ss = chain_of c sc d s read with_value origin (t.suffixes_of ss)
 
--- The last of the first `left` suffixes serves the text n, and the first `before` ones stand before it.
+-- The last of the first `left` suffixes uses the text n, and the first `before` ones come before it.
 abbrev pub IsCut : Context → List t.Suffix → (left name before : ℕ) → Type 0
 IsCut c ss left n before = (sc : Scope) (d : ℕ) (s : Span) (origin : Rose) (x : t.Suffix) → slice_get ss (left - 1) ≡ Some x → rest_of c sc d s origin (take left ss) ≡ link_of c sc d s n x (rest_of c sc d s origin (take before ss))
 
--- Arguments behind the first `left` suffixes serve the text n, and the first `before` ones stand before it.
+-- Arguments after the first `left` suffixes use the text n, and the first `before` ones come before them.
 abbrev pub IsBefore : Context → List t.Suffix → (left name before : ℕ) → Type 0
 IsBefore c ss left n before = (sc : Scope) (d : ℕ) (s : Span) (origin : Rose) (es : t.Exprs) (sp : Span) → rest_of c sc d s origin (take left ss ++ t.args es sp ∷ []) ≡ link_of c sc d s n (t.args es sp) (rest_of c sc d s origin (take before ss))
 
--- ---- how a chain begins
+-- ---- how a chain starts
 
 abbrev pub is_args : Option t.Suffix → Bool
 is_args (Some (t.args es s)) = true
@@ -92,7 +92,7 @@ abbrev pub is_empty_args : Option t.Suffix → Bool
 is_empty_args (Some (t.args t.no_exprs s)) = true
 is_empty_args x = false
 
--- How many suffixes belong to the beginning.
+-- How many suffixes belong to the start.
 abbrev pub taken : Beginning → ℕ
 taken begins.Value = 0
 taken (begins.With f at) = at + 1
@@ -112,7 +112,7 @@ abbrev pub begun : Context → Scope → ℕ → Span → Beginning → List t.S
 begun c sc d s begins.Value ss origin = origin
 begun c sc d s (begins.With f at) ss origin = first_at c sc d s f origin (slice_get ss at)
 
--- A chain that starts so begins so, whatever is done with it.
+-- A chain with this start has this beginning, whatever it is used for.
 abbrev pub Begins : Context → Start → List t.Suffix → Beginning → Type 0
 Begins c st ss b = (sc : Scope) (d : ℕ) (s : Span) (u : Use) (origin : Rose) → chain_of c sc d s u st origin (t.suffixes_of ss) ≡ chain_of c sc d s u with_value (begun c sc d s b ss origin) (t.suffixes_of (drop (taken b) ss))
 
@@ -121,12 +121,12 @@ abbrev pub object : Bool → Option ℕ → ℕ → Beginning
 object actor (Some m) at = begins.With (first.Made (if actor then node.Spawn m else node.New m)) at
 object actor None at = begins.With first.Missing at
 
--- What begins a chain: it has this number, or else it is the atom, whose nodes come next.
+-- The beginning of a chain: it has this number, or else it is the atom, whose nodes come next.
 abbrev pub begun_by : Option ℕ → (List Node → Numbered ℕ) → List Node → Numbered ℕ
 begun_by (Some n) atom ns = Some (n, ns)
 begun_by None atom ns = atom ns
 
--- What the code gives of a chain: its suffixes wait for what begins it.
+-- The result of the code for a chain: its suffixes are pending on its beginning.
 abbrev pub OpensChain : Result OpenChain EmitStop → List Node → (Link → ℕ → List Node → Numbered ℕ) → (List Node → Numbered ℕ) → Numbered ℕ → Type 0
 OpensChain (Ok o) ns step atom want = want ≡ and_then (begun_by o.origin atom ns) (closing step o.links)
 OpensChain (Err stop.Full) ns step atom want = want ≡ None
@@ -146,13 +146,13 @@ is_block (t.while_ cond body s) = true
 is_block (t.recover cap body s) = true
 is_block e = false
 
--- What stands for an expression of some kinds; for others, what stands for a missing name.
+-- The elaboration of an expression of some kinds; for others, that of a missing name.
 abbrev pub only : (t.Expr → Bool) → Context → Scope → ℕ → t.Expr → Rose
 only kind c sc d e = if kind e then expr_of c sc d e else gap (t.span_of e) d
 
--- ---- what is written to
+-- ---- what is assigned to
 
--- A bare name that nothing has, or that is a method.
+-- A bare name that is not defined, or that is a method.
 abbrev pub names_none : Meaning → Bool
 names_none (local x) = false
 names_none field = false
@@ -163,18 +163,18 @@ abbrev pub is_missing : Context → Scope → t.Expr → Bool
 is_missing c sc (t.name n) = names_none (resolve c sc n.text)
 is_missing c sc e = false
 
--- What stands for a write to an expression that is no chain: only a bare name takes the value. `left` is what it would be
--- alone.
+-- The elaboration of a write to an expression other than a chain: only a bare name takes the value. `left` is what it
+-- would be on its own.
 abbrev pub alone_of : Context → Scope → ℕ → Span → Rose → Rose → t.Expr → Rose
 alone_of c sc d s value left (t.name n) = write_name c s n d value (resolve c sc n.text)
 alone_of c sc d s value left e = value_then s d value left
 
--- The node of what is written to a bare name that something has, behind the value.
+-- The node of a write to a bare name that is defined, after the value.
 unfoldable pub name_closes : Context → (method depth : ℕ) → Span → Name → Meaning → ℕ → List Node → Numbered ℕ
 name_closes c m d s n (local x) v ns = push m (node.Assign x) s d (v ∷ []) ns
 name_closes c m d s n w v ns = and_then (push m node.This n.span d [] ns) (λ this. push m (node.SetField (text_of c n.text)) s d (v ∷ this ∷ []))
 
--- What is written to the field with this text at the end of a chain, or where it ends otherwise.
+-- A write to the field with this text at the end of a chain, or to a chain with another end.
 abbrev pub written_kind : Option ℕ → NodeKind
 written_kind (Some n) = node.SetField n
 written_kind None = node.Seq
@@ -182,23 +182,23 @@ written_kind None = node.Seq
 abbrev pub written_end : ℕ → Span → Option ℕ → Rose → Rose → Rose
 written_end d s n v r = rose (written_kind n) s d (two v r)
 
--- Such a chain ends with this field, behind so many suffixes.
+-- Such a chain ends with this field, after this number of suffixes.
 abbrev pub IsSplit : Context → List t.Suffix → Option ℕ → ℕ → Type 0
 IsSplit c ss n count = (sc : Scope) (d : ℕ) (s whole : Span) (v origin : Rose) → chain_of c sc d whole (write s v) with_value origin (t.suffixes_of ss) ≡ written_end d s n v (rest_of c sc d whole origin (take count ss))
 
 -- ---- bodies
 
--- Numbers with others before them.
+-- Numbers after others.
 abbrev pub behind_tops : List ℕ → Numbered (List ℕ) → Numbered (List ℕ)
 behind_tops tops o = and_then o (λ more. λ ns. Some (tops ++ more, ns))
 
--- What the code gives of a list of parts, where others come behind them.
+-- The result of the code for a list of parts that is followed by others.
 abbrev pub LeadsOn : Result (List ℕ) EmitStop → List Node → (List Node → Numbered (List ℕ)) → Numbered (List ℕ) → Type 0
 LeadsOn (Ok tops) ns rest want = want ≡ behind_tops tops (rest ns)
 LeadsOn (Err stop.Full) ns rest want = want ≡ None
 LeadsOn (Err stop.Memory) ns rest want = Unit {0}
 
--- The value None behind the items, where one is added.
+-- The value None after the items, if one is added.
 unfoldable pub ends_with : Bool → (method depth : ℕ) → Span → List ℕ → List Node → Numbered (List ℕ)
 ends_with true m d s tops ns = and_then (push m (node.Prim none_entity) s d [] ns) (λ n. λ ns. Some (tops ++ n ∷ [], ns))
 ends_with false m d s tops ns = Some (tops, ns)

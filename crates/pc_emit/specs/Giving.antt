@@ -1,18 +1,18 @@
--- What a walk gives.
+-- The result of a walk.
 use Rattle.std.specs.Prelude.{◌≡◌, ℕ, List, Option, Some, None, Result, Ok, Err}
 use Rattle.pc_core.specs.declared.nodes.Node.{Node}
 use Rattle.pc_body_spec.specs.Roses.{Rose, Numbered, and_then, put}
 use Rattle.pc_emit.specs.declared.stop.EmitStop.{EmitStop}
 use Rattle.pc_emit.specs.declared.stop.EmitStop.TheVariants as stop
 
--- The wanted result with the wanted nodes; or that they are too many, exactly where none is wanted; or that memory ran out,
--- which says nothing.
+-- The wanted result with the wanted nodes; or that there are too many nodes, iff nothing is wanted; or that memory ran
+-- out, which says nothing.
 abbrev pub Gives : {A : Type 0} → Result A EmitStop → List Node → Numbered A → Type 0
 Gives (Ok a) nodes want = want ≡ Some (a, nodes)
 Gives (Err stop.Full) nodes want = want ≡ None
 Gives (Err stop.Memory) nodes want = Unit {0}
 
--- A body behind some nodes, where one is written.
+-- A body after some nodes, if one is written.
 abbrev pub put_written : ℕ → Option Rose → List Node → Numbered (Option ℕ)
 put_written m None nodes = Some (None, nodes)
 put_written m (Some r) nodes = and_then (put m r nodes) (λ n. λ all. Some (Some n, all))

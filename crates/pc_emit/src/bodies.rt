@@ -20,9 +20,9 @@ use pc_resolve::{Context, params_scope};
 use pc_tree::{Expr, FieldDef, MethodDef, MethodWord, NONE_ENTITY, Name, Seq, TypeRef};
 use std::alloc::{AllocError, Global};
 
-/// Puts the nodes of the body of a method behind the others, and answers its number, which is that of the last of them; or
-/// `None` where no body is written, which leaves the nodes as they were. The method has this number, and its entity these
-/// fields. It is `Full` exactly where there would be more than 200,000 nodes. After an `Err` the nodes may be any.
+/// Emits the nodes of the body of a method after the others, and returns the number of the body, which is the last of
+/// them; or `None` if no body is written, and then the nodes are as before. The method has this number, and its entity
+/// these fields. `Full` iff there would be more than 200,000 nodes. After an `Err` nothing is known about the nodes.
 pub fn emit(
     alloc: Global,
     context: &Context,
@@ -42,8 +42,8 @@ pub fn emit(
     }
 }
 
-/// Puts the nodes of the body of a `create` that is added to an entity, whose name stands at this place, and answers its
-/// number, as `emit` does.
+/// Emits the nodes of the body of a `create` that is added to an entity, whose name has this span, and returns the
+/// number of the body, like `emit`.
 pub fn emit_added(
     alloc: Global,
     context: &Context,
@@ -66,7 +66,7 @@ pub fn emit_added(
     close_body(&setting, nodes, name, name, items)
 }
 
-// The body of a method, as it is written.
+// The written body of a method.
 fn written(
     alloc: Global,
     context: &Context,
@@ -91,7 +91,7 @@ fn written(
     close_body(&setting, nodes, method.name.span, seq.span, all)
 }
 
-// The items of the body of a method, and None behind them where a function has no written result.
+// The items of the body of a method, followed by None if a function has no written result.
 fn own_items(
     alloc: Global,
     context: &Context,
@@ -114,7 +114,7 @@ fn own_items(
     none_last(&setting, nodes, method.name.span, adds, own)
 }
 
-// Only constructors begin with the initial values.
+// Only constructors start with the initial values.
 fn initial_fields(word: MethodWord, fields: &[FieldDef]) -> &[FieldDef]
     ensures { map field_view result.now ≡ spec.initial_fields word (map field_view fields.now) }
 {
@@ -124,7 +124,7 @@ fn initial_fields(word: MethodWord, fields: &[FieldDef]) -> &[FieldDef]
     }
 }
 
-// Whether a method gives None where its items end: a function without a written result.
+// Whether a method returns None at the end of its items: a function without a written result.
 fn gives_none(word: MethodWord, ty: &Option<TypeRef>) -> bool
     ensures { result ≡ spec.gives_none word ty.now }
 {
@@ -134,7 +134,7 @@ fn gives_none(word: MethodWord, ty: &Option<TypeRef>) -> bool
     }
 }
 
-// Puts the value None behind the items, where one is added.
+// Appends the value None to the items, if one is added.
 #[tactic(auto, unfolding(crate::specs::Closing::ends_with))]
 fn none_last(
     setting: &Setting,
@@ -172,7 +172,7 @@ fn initials(
     Ok(tops)
 }
 
-// The same with the initial value of one field more, if it has one.
+// The same with the initial value of one more field, if it has one.
 fn add_initial(
     alloc: Global,
     context: &Context,
@@ -216,7 +216,7 @@ fn initial(
     write_field(&setting, nodes, name.span, name, value)
 }
 
-// These, and more behind them.
+// These, followed by more.
 fn append(first: List<u32>, more: &[u32]) -> Result<List<u32>, AllocError>
     ensures { IfOk result (λ all. all ≡ first ++ more.now) }
 {
@@ -227,7 +227,7 @@ fn append(first: List<u32>, more: &[u32]) -> Result<List<u32>, AllocError>
     Ok(all)
 }
 
-// Puts the sequence of a body whose items have nodes, and the body.
+// Emits the sequence of a body whose items have been emitted, and the body.
 #[tactic(auto, unfolding(crate::specs::Closing::body_closes))]
 fn close_body(
     setting: &Setting,

@@ -1,4 +1,4 @@
-//! How a chain of suffixes begins, and what its suffixes serve.
+//! How a chain of suffixes starts, and what its suffixes are used for.
 ghost use Rattle.std.specs.Prelude.{◌≡◌, ◌<◌, ◌≤◌, ◌^◌, length, map, drop, slice_get, Some, if◌then◌else◌};
 ghost use Rattle.pc_emit.specs.declared.chains.Beginning.TheVariants as beginnings;
 ghost use Rattle.pc_tree.specs.View.{expr_view, suffix_view};
@@ -13,18 +13,18 @@ use pc_core::NodeKind;
 use pc_resolve::{Constructors, Context, Meaning, TypeMeaning, Visible};
 use pc_tree::{Expr, Name, Suffix};
 
-/// What the first arguments of a chain make with the atom and the suffixes before them.
+/// What the first arguments of a chain make, together with the atom and the suffixes before them.
 #[derive(Drop)]
 pub(crate) enum First {
     /// A node of this kind, whose children are the arguments: a new object, or the value of a primitive.
     Made(NodeKind),
-    /// A call of the method with this text on `this`, which stands at this place.
+    /// A call of the method with this text on `this`, which has this span.
     OnThis(u32, Span),
-    /// What stands for a missing constructor.
+    /// The node of a missing constructor.
     Missing,
 }
 
-/// How a chain begins.
+/// How a chain starts.
 #[derive(Drop)]
 pub(crate) enum Beginning {
     /// With the value of the atom.
@@ -33,7 +33,7 @@ pub(crate) enum Beginning {
     With(First, usize),
 }
 
-/// How many suffixes belong to the beginning.
+/// How many suffixes belong to the start.
 pub(crate) fn count_taken(beginning: &Beginning) -> usize
     requires { taken beginning.now < 2 ^ 64 }
     ensures { result ≡ taken beginning.now }
@@ -44,7 +44,7 @@ pub(crate) fn count_taken(beginning: &Beginning) -> usize
     }
 }
 
-/// How a chain of this atom and these suffixes begins.
+/// How a chain with this atom and these suffixes starts.
 pub(crate) fn begin(
     context: &Context,
     scope: &[Visible],
@@ -89,7 +89,7 @@ fn begin_with_name(
     }
 }
 
-// With the bare name of a method, which is called where arguments follow it.
+// With the bare name of a method, which is called if arguments follow it.
 fn begin_with_method(context: &Context, name: &Name, suffixes: &[Suffix]) -> Beginning
     ensures begins { Begins context.now (with_method name.now) (map suffix_view suffixes.now) result }
     ensures within { taken result ≤ length suffixes.now }
@@ -117,7 +117,7 @@ fn begin_with_type(context: &Context, name: &Name, suffixes: &[Suffix]) -> Begin
     }
 }
 
-// With a primitive's value, which may have `()` behind its name.
+// With a primitive's value, whose name may be followed by `()`.
 fn begin_with_primitive(context: &Context, entity: u32, suffixes: &[Suffix]) -> Beginning
     ensures begins { Begins context.now (with_type (primitive entity)) (map suffix_view suffixes.now) result }
     ensures within { taken result ≤ length suffixes.now }
@@ -129,7 +129,8 @@ fn begin_with_primitive(context: &Context, entity: u32, suffixes: &[Suffix]) -> 
     }
 }
 
-// With the name of a class or an actor, which calls a constructor where arguments follow it, or a name and arguments.
+// With the name of a class or an actor, which calls a constructor if it is followed by arguments, or by a name and
+// arguments.
 fn begin_with_object(
     context: &Context,
     actor: bool,
@@ -148,7 +149,7 @@ fn begin_with_object(
     }
 }
 
-// With the name of a class or an actor, and the name of a constructor behind it, where arguments follow.
+// With the name of a class or an actor, followed by the name of a constructor, if arguments follow.
 fn begin_behind_name(
     actor: bool,
     constructors: &Constructors,
@@ -164,7 +165,7 @@ fn begin_behind_name(
     }
 }
 
-// Whether the suffix at this place is arguments.
+// Whether the suffix at this place is a list of arguments.
 fn has_args(suffixes: &[Suffix], at: usize) -> bool
     ensures { result ≡ spec.is_args (slice_get (map suffix_view suffixes.now) at) }
 {
@@ -202,7 +203,7 @@ fn is_empty_args(suffix: &Suffix) -> bool
     }
 }
 
-// With a new object by the constructor of this name.
+// With a new object by the constructor with this name.
 fn begin_object(actor: bool, constructors: &Constructors, name: &[u8], at: usize) -> Beginning
     ensures { result ≡ spec.object actor (constructor_in constructors.now name.now) at }
 {
@@ -220,8 +221,8 @@ pub(crate) fn behind(suffixes: &[Suffix], first: usize) -> &[Suffix]
     &suffixes[first..]
 }
 
-/// The number of the text that the last of the first `left` suffixes serves, and how many suffixes stand before it: a
-/// name with arguments directly behind it is one call.
+/// The number of the text that the last of the first `left` suffixes uses, and how many suffixes come before it: a name
+/// directly followed by arguments is one call.
 pub(crate) fn cut(context: &Context, suffixes: &[Suffix], left: usize) -> (u32, usize)
     requires some { 0 < left }
     requires within { left ≤ length suffixes.now }
@@ -234,7 +235,7 @@ pub(crate) fn cut(context: &Context, suffixes: &[Suffix], left: usize) -> (u32, 
     }
 }
 
-// The number of the text that arguments behind the first `left` suffixes serve, and how many suffixes stand before it.
+// The number of the text that arguments after the first `left` suffixes use, and how many suffixes come before them.
 fn cut_args(context: &Context, suffixes: &[Suffix], left: usize) -> (u32, usize)
     requires within { left ≤ length suffixes.now }
     ensures less { result.1 ≤ left }
@@ -249,8 +250,8 @@ fn cut_args(context: &Context, suffixes: &[Suffix], left: usize) -> (u32, usize)
     }
 }
 
-/// The number of the text of the field that a chain ends with, and how many suffixes stand before it; or all of them where
-/// it ends otherwise.
+/// The number of the text of the field with which a chain ends, and how many suffixes come before it; or the number of
+/// all suffixes if it ends in another way.
 pub(crate) fn split_field(context: &Context, suffixes: &[Suffix]) -> (Option<u32>, usize)
     ensures within { result.1 ≤ length suffixes.now }
     ensures split { IsSplit context.now (map suffix_view suffixes.now) result.0 result.1 }
@@ -265,7 +266,7 @@ pub(crate) fn split_field(context: &Context, suffixes: &[Suffix]) -> (Option<u32
     }
 }
 
-/// Whether what is written to is a bare name of no local, parameter or field.
+/// Whether the target of an assignment is a bare name that is no local, parameter or field.
 pub(crate) fn is_missing(context: &Context, scope: &[Visible], left: &Expr) -> bool
     ensures { result ≡ spec.is_missing context.now scope.now (expr_view left.now) }
 {

@@ -1,6 +1,6 @@
-//! The nodes that stand for the body of a method, in the order of evaluation.
+//! The nodes of the body of a method, in the order of evaluation.
 //!
-//! Proved: `emit` puts exactly the nodes that stand for a body behind the others, or says that they are too many.
+//! Proved: `emit` appends exactly the nodes to which a body elaborates, or reports that there are too many.
 #![tactic(auto)]
 
 mod bodies;

@@ -1,4 +1,4 @@
-//! The nodes of names and texts that stand alone.
+//! The nodes of names and texts on their own.
 ghost use Rattle.std.specs.Prelude.{◌≡◌, ◌∷◌, [], if◌then◌else◌};
 ghost use Rattle.pc_core.specs.declared.nodes.NodeKind.TheVariants as kinds;
 ghost use Rattle.pc_body_spec.specs.Roses as roses;
@@ -16,7 +16,7 @@ use pc_core::{Node, NodeKind};
 use pc_resolve::{Constructors, Meaning, TypeMeaning, Visible, slot_of};
 use pc_tree::Name;
 
-/// A bare name that is read.
+/// Reading a bare name.
 pub(crate) fn read_name(
     setting: &Setting,
     scope: &[Visible],
@@ -32,7 +32,7 @@ pub(crate) fn read_name(
     }
 }
 
-// A field of `this` that is read.
+// Reading a field of `this`.
 fn read_field(setting: &Setting, nodes: &mut List<Node>, name: &Name) -> Result<u32, EmitStop>
     ensures { Gives result nodes.new (put setting.now.number (spec.read_field setting.now.context.now name.now.span name.now setting.now.depth (spec.added_this name.now setting.now.depth)) nodes.old) }
 {
@@ -41,7 +41,7 @@ fn read_field(setting: &Setting, nodes: &mut List<Node>, name: &Name) -> Result<
     single(setting, nodes, kind, name.span, this)
 }
 
-/// A bare name that something has, and to which this value is written.
+/// Writing this value to a bare name that is defined.
 #[tactic(auto, unfolding(crate::specs::Closing::name_closes))]
 pub(crate) fn write_name(
     setting: &Setting,
@@ -61,7 +61,7 @@ pub(crate) fn write_name(
     }
 }
 
-/// A field of `this` that is written, at this place and with this value.
+/// Writing this value to a field of `this`, with this span.
 pub(crate) fn write_field(
     setting: &Setting,
     nodes: &mut List<Node>,
@@ -88,7 +88,7 @@ pub(crate) fn read_text(
     leaf(setting, nodes, NodeKind::Text(bytes.share()?), span)
 }
 
-/// A type name that no suffix follows.
+/// A type name without suffixes.
 pub(crate) fn read_type(
     setting: &Setting,
     nodes: &mut List<Node>,
@@ -125,7 +125,7 @@ fn create(
     }
 }
 
-/// The kind of a new object by this constructor: of an actor, or of a class.
+/// The kind of the node for a new object by this constructor: of an actor, or of a class.
 pub(crate) fn object_kind(actor: bool, method: u32) -> NodeKind
     ensures { result ≡ if actor then kinds.Spawn method else kinds.New method }
 {

@@ -1,4 +1,4 @@
-//! Single nodes, and the places at which they stand.
+//! Single nodes, and their spans.
 ghost use Rattle.std.specs.Prelude.{◌≡◌, ◌∷◌, [], IfOk};
 ghost use Rattle.pc_body_spec.specs.Roses as roses;
 ghost use Rattle.pc_body_spec.specs.Expressions as spec;
@@ -11,7 +11,7 @@ use pc_core::{Node, NodeKind};
 use pc_tree::Op;
 use std::alloc::{AllocError, Global};
 
-/// Puts a node of this method behind the others. Its number is its place.
+/// Appends a node of this method. Its number is its place.
 #[tactic(auto, unfolding(pc_body_spec::specs::Roses::push))]
 pub(crate) fn push(
     setting: &Setting,
@@ -37,7 +37,7 @@ pub(crate) fn push(
     Ok(place as u32)
 }
 
-/// Puts a node without children.
+/// Appends a node without children.
 pub(crate) fn leaf(
     setting: &Setting,
     nodes: &mut List<Node>,
@@ -49,7 +49,7 @@ pub(crate) fn leaf(
     push(setting, nodes, kind, span, List::new(setting.alloc))
 }
 
-/// Puts a node with one child.
+/// Appends a node with one child.
 pub(crate) fn single(
     setting: &Setting,
     nodes: &mut List<Node>,
@@ -63,7 +63,7 @@ pub(crate) fn single(
     push(setting, nodes, kind, span, children)
 }
 
-/// Puts a node with two children.
+/// Appends a node with two children.
 pub(crate) fn double(
     setting: &Setting,
     nodes: &mut List<Node>,
@@ -79,7 +79,7 @@ pub(crate) fn double(
     push(setting, nodes, kind, span, children)
 }
 
-/// Puts what stands for a missing name.
+/// Appends the node of a missing name.
 pub(crate) fn gap(setting: &Setting, nodes: &mut List<Node>, span: Span) -> Result<u32, EmitStop>
     ensures { Gives result nodes.new (roses.put setting.now.number (spec.gap span setting.now.depth) nodes.old) }
 {

@@ -5,19 +5,19 @@ ghost use Rattle.pc_body_spec.specs.Scopes as spec;
 use pc_resolve::Context;
 use std::alloc::Global;
 
-/// What stays the same while the nodes of a part of a body are put.
+/// What stays the same while the nodes of a part of a body are emitted.
 #[derive(Drop)]
 pub(crate) struct Setting<'a> {
     pub(crate) alloc: Global,
     pub(crate) context: &'a Context,
     /// The number of the method.
     pub(crate) number: u32,
-    /// How many `recover` stand around.
+    /// The number of `recover` around this part.
     pub(crate) depth: u32,
 }
 
 impl<'a> Setting<'a> {
-    /// The setting of what stands in a `recover`.
+    /// The setting inside a `recover`.
     pub(crate) fn deeper(&self) -> Setting<'a>
         ensures context { result.context.now ≡ self.now.context.now }
         ensures number { result.number ≡ self.now.number }

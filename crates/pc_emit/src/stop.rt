@@ -4,7 +4,7 @@ ghost use Rattle.std.specs.Prelude.{◌≡◌};
 
 use std::alloc::{AllocError, AllocFailed};
 
-/// Why a body's nodes were not all put.
+/// Why the nodes of a body were not all emitted.
 #[derive(Clone, Copy, Debug, PartialEq, Eq)]
 pub enum EmitStop {
     /// The program would have more than 200,000 nodes.

@@ -1,4 +1,4 @@
-//! Nodes that wait for the number of a part.
+//! Pending nodes, which still need the number of a part.
 ghost use Rattle.std.specs.Prelude.{◌≡◌, ◌∷◌, []};
 ghost use Rattle.pc_body_spec.specs.Roses as roses;
 ghost use Rattle.pc_emit.specs.Giving.{Gives};
@@ -11,17 +11,17 @@ use pc_caps::{List, Span};
 use pc_core::{Node, NodeKind};
 use pc_tree::NONE_ENTITY;
 
-/// The arm of an `if` whose condition and body have nodes. It waits for what is done else.
+/// The arm of an `if` whose condition and body have been emitted. Its `else` is still missing.
 #[derive(Drop)]
 pub(crate) struct OpenArm {
     pub(crate) cond: u32,
     pub(crate) body: u32,
-    /// Whether it is the first arm: each other one stands in a sequence of its own.
+    /// Whether it is the first arm: every other arm is in a sequence of its own.
     pub(crate) first: bool,
     pub(crate) span: Span,
 }
 
-/// A suffix whose arguments have nodes. It waits for what stands before it.
+/// A suffix whose arguments have been emitted. What comes before it is still missing.
 #[derive(Drop)]
 pub(crate) struct Link {
     pub(crate) kind: NodeKind,
@@ -29,11 +29,11 @@ pub(crate) struct Link {
     pub(crate) args: List<u32>,
 }
 
-/// A chain whose suffixes have their arguments. They wait for what begins the chain.
+/// A chain whose suffixes have their arguments. The beginning of the chain is still missing.
 #[derive(Drop)]
 pub(crate) struct OpenChain {
     pub(crate) links: List<Link>,
-    /// The number of what begins the chain, where arguments belong to that. Else it begins with its atom.
+    /// The number of the chain's beginning, if that has arguments. Otherwise the chain begins with its atom.
     pub(crate) origin: Option<u32>,
 }
 
@@ -45,7 +45,7 @@ fn take_last<P>(waiting: &mut List<P>) -> Option<P>
     waiting.pop()
 }
 
-/// Puts the nodes of the arms around the last `else`, from the last arm on.
+/// Emits the nodes of the arms around the last `else`, starting with the last arm.
 #[tactic(auto, using(crate::proofs::Walks::closing_last))]
 pub(crate) fn close_arms(
     setting: &Setting,
@@ -63,7 +63,7 @@ pub(crate) fn close_arms(
     Ok(top)
 }
 
-// Puts the node of an arm around what is done else.
+// Emits the node of an arm around its `else`.
 #[tactic(auto, unfolding(crate::specs::Closing::arm_closes))]
 fn close_arm(
     setting: &Setting,
@@ -83,7 +83,7 @@ fn close_arm(
     single(setting, nodes, NodeKind::Seq, arm.span, chosen)
 }
 
-/// Puts the nodes of the suffixes behind what begins the chain, from the first suffix on.
+/// Emits the nodes of the suffixes after the beginning of the chain, starting with the first suffix.
 #[tactic(auto, using(crate::proofs::Walks::closing_last), unfolding(crate::specs::Closing::link_closes))]
 pub(crate) fn close_links(
     setting: &Setting,
@@ -103,7 +103,7 @@ pub(crate) fn close_links(
     Ok(top)
 }
 
-/// Puts the node of what is written at the end of a chain, behind the nodes of the chain.
+/// Emits the node of a write at the end of a chain, after the nodes of the chain.
 pub(crate) fn close_write(
     setting: &Setting,
     nodes: &mut List<Node>,
@@ -120,7 +120,7 @@ pub(crate) fn close_write(
     double(setting, nodes, kind, span, value, top)
 }
 
-// The kind of what is written to this field, or to what is no field.
+// The kind of a write to this field, or to something that is no field.
 fn written(field: Option<u32>) -> NodeKind
     ensures { result ≡ written_kind field }
 {
@@ -130,7 +130,7 @@ fn written(field: Option<u32>) -> NodeKind
     }
 }
 
-/// Puts a call on `this`, which stands at this place, behind the nodes of the arguments.
+/// Emits a call on `this`, which has this span, after the nodes of the arguments.
 #[tactic(auto, unfolding(crate::specs::Closing::this_closes))]
 pub(crate) fn call_this(
     setting: &Setting,
@@ -148,7 +148,7 @@ pub(crate) fn call_this(
     push(setting, nodes, NodeKind::Call(text), span, children)
 }
 
-// The items of a sequence, or the value None where it has none.
+// The items of a sequence, or the value None if it has none.
 #[tactic(auto, unfolding(crate::specs::Closing::none_closes))]
 fn or_none(
     setting: &Setting,
@@ -165,7 +165,7 @@ fn or_none(
     Ok(one(setting.alloc, none)?)
 }
 
-/// Puts the node of a sequence whose items have nodes.
+/// Emits the node of a sequence whose items have been emitted.
 #[tactic(auto, unfolding(crate::specs::Closing::seq_closes))]
 pub(crate) fn close_sequence(
     setting: &Setting,

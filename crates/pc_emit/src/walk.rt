@@ -130,7 +130,7 @@ fn chain(
     close_links(setting, nodes, opened.links, origin)
 }
 
-/// What is written to, behind its value. A bare name has to be that of something.
+/// The target of a write, after its value. A bare name must be defined.
 #[cycle(walk)]
 fn store(
     setting: &Setting,
@@ -162,7 +162,7 @@ fn store(
     close_write(setting, nodes, span, field, opened.links, origin, value)
 }
 
-/// What is written to, behind its value, where it is no chain: only a bare name takes the value.
+/// The target of a write, after its value, if it is not a chain: only a bare name takes the value.
 #[cycle(walk)]
 fn store_alone(
     setting: &Setting,
@@ -197,8 +197,7 @@ fn store_alone(
     }
 }
 
-/// The arguments of so many suffixes behind the beginning of a chain, the last one's first, and then those of the
-/// beginning.
+/// The arguments of the `count` suffixes after the start of a chain, the last one's first, and then those of the start.
 #[cycle(walk)]
 fn open_chain(
     setting: &Setting,
@@ -230,7 +229,7 @@ fn open_chain(
     }
 }
 
-/// What begins a chain: it has this number, or it is the chain's atom.
+/// The beginning of a chain: it has this number, or it is the chain's atom.
 #[cycle(walk)]
 fn chain_origin(
     setting: &Setting,
@@ -277,7 +276,7 @@ fn first_args(
     }
 }
 
-/// The operands and operators of a chain, which nests to the left.
+/// The operands and operators of a chain, nested to the left.
 #[cycle(walk)]
 fn infix(
     setting: &Setting,
@@ -304,7 +303,7 @@ fn infix(
     Ok(left)
 }
 
-/// The conditions and bodies of an `if`, whose nodes wait for what is done else.
+/// The conditions and bodies of an `if`; their nodes are pending on the `else`.
 #[cycle(walk)]
 fn open_arms(
     setting: &Setting,
@@ -333,14 +332,14 @@ fn open_arms(
     Ok(waiting)
 }
 
-// The place of an arm of this `if`.
+// The span of an arm of this `if`.
 fn arm_place(first: bool, whole: Span, arm: Span) -> Span
     ensures { result ≡ spec.arm_place first whole arm }
 {
     if first { whole } else { join(arm, whole) }
 }
 
-/// What is done else, where it is written, or the value None.
+/// The `else` branch, if it is written, or the value None.
 #[cycle(walk)]
 fn otherwise(
     setting: &Setting,
@@ -362,8 +361,7 @@ fn otherwise(
     }
 }
 
-/// The arguments of so many suffixes from the first of them on, the last one's first, and the nodes that wait for what
-/// stands before them.
+/// The arguments of the first `count` suffixes, the last one's first, and the nodes pending on what comes before them.
 #[cycle(walk)]
 fn links(
     setting: &Setting,
@@ -391,7 +389,7 @@ fn links(
     Ok(links)
 }
 
-/// The arguments of a suffix that serves this text, and the node that waits for what stands before it.
+/// The arguments of a suffix that uses this text, and the node pending on what comes before it.
 #[cycle(walk)]
 #[tactic(auto, unfolding(crate::specs::Closing::link_closes))]
 fn link(
@@ -441,7 +439,7 @@ fn exprs(
     Ok(tops)
 }
 
-/// A sequence, at its own place.
+/// A sequence, with its own span.
 #[cycle(walk)]
 fn whole(
     setting: &Setting,
@@ -455,7 +453,7 @@ fn whole(
     sequence(setting, scope, nodes, seq.span, seq)
 }
 
-/// A sequence at this place. What it defines is visible to its end.
+/// A sequence with this span. What it defines is visible up to its end.
 #[cycle(walk)]
 fn sequence(
     setting: &Setting,
@@ -473,7 +471,7 @@ fn sequence(
     close_sequence(setting, nodes, span, tops)
 }
 
-/// The items of a sequence, which see the locals of those before them.
+/// The items of a sequence, each with the locals of the earlier ones visible.
 #[cycle(walk)]
 pub(crate) fn items(
     setting: &Setting,
@@ -492,7 +490,7 @@ pub(crate) fn items(
     Ok(tops)
 }
 
-/// An item of a sequence. What it defines is visible behind it.
+/// An item of a sequence. What it defines is visible after it.
 #[cycle(walk)]
 fn item(
     setting: &Setting,

@@ -1,4 +1,4 @@
--- What is said of an actor's next step is how it ends.
+-- A step ends as was said in advance of its actor.
 use Rattle.std.specs.Prelude.{◌≡◌, ◌<◌, ℕ, List, [], ◌∷◌, length, Option, Some, None, slice_get, refl}
 use Rattle.std.proofs.Common.{ap, subst, sym}
 use Rattle.pc_core.specs.CoreData.{CoreData}

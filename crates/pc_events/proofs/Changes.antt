@@ -1,4 +1,5 @@
--- What a step changes, as data: the actor's own frames and mailbox, one object, another's mailbox, one actor more, a text.
+-- What a step changes, as data: the actor's own frames and mailbox, one object, another actor's mailbox, one more
+-- actor, a text.
 use Rattle.std.specs.Prelude.{ℕ, zero, suc, Bool, true, false, List, [], ◌∷◌, ◌++◌, length, Option, Some, None, slice_get}
 use Rattle.std.specs.FinMap.{insert}
 use Rattle.pc_heap.specs.Objects.{ObjectMap, with_value}
@@ -51,7 +52,7 @@ left_mail false ms = ms
 abbrev pub going : Bool → List Frame → Actor → Actor
 going takes fs a = record { mailbox = left_mail takes a.mailbox; frames = fs }
 
--- A message comes behind those that wait.
+-- A message is appended to those that wait.
 abbrev pub pushing : Message → Actor → Actor
 pushing m a = record { mailbox = a.mailbox ++ m ∷ []; frames = a.frames }
 
@@ -90,7 +91,7 @@ applied c i x = record {
   printed = printed_with x.prints c.printed;
 }
 
--- ---- what a step would change; none where it does not move
+-- ---- what a step would change; none if it does not move
 
 abbrev pub local : List Frame → Change
 local fs = record { takes = false; frames = fs; heap = Same; sends = None; spawns = None; prints = None }
@@ -98,7 +99,7 @@ local fs = record { takes = false; frames = fs; heap = Same; sends = None; spawn
 abbrev pub on_heap : List Frame → Heaping → Change
 on_heap fs x = record { takes = false; frames = fs; heap = x; sends = None; spawns = None; prints = None }
 
--- Where there are n actors.
+-- With n actors.
 abbrev pub planned : ℕ → List Frame → Move → Option Change
 planned n fs (Stuck l) = None
 planned n fs Overflows = None

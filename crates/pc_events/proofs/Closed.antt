@@ -1,4 +1,4 @@
--- Each configuration that a run leads to is like itself: it speaks of no actor that is not there.
+-- Each configuration that a run leads to is like itself: it mentions no actor that does not exist.
 use Rattle.std.specs.Prelude.{◌≡◌, ◌<◌, ℕ, zero, suc, ◌+◌, List, [], ◌∷◌, ◌++◌, take, length, Option, Some, None, slice_get, refl}
 use Rattle.std.proofs.Common.{inl, inr, ap, sym, subst, ◌∙◌, arith}
 use Rattle.std.proofs.lemmas.Option.{same_Some, none-some}
@@ -198,7 +198,7 @@ module _ (core : CoreData) (c : Configuration) (front next : ℕ → ℕ) (close
   pub closed_step : Closed (applied c i x) next
   closed_step = let w = actor_of core c i x px in closed_by w.0 w.1 (closed.sim.actors i w.0 w.1)
 
--- What is behind a turn that moves, and behind one that is skipped.
+-- What comes after a turn that moves, and after one that is skipped.
 pub moved_next : (core : CoreData) (list : List ℕ) (k : ℕ) (e : slice_get (outcomes core list) k ≡ Some Moved) → (x : Change) → plan core (at_place core list k) (turn core list (start core) k Moved e).actor ≡ Some x
     → at_place core list (suc k) ≡ applied (at_place core list k) (turn core list (start core) k Moved e).actor x
 moved_next core list k e x p =

@@ -104,7 +104,7 @@ events_count core list a (suc k) = by (events_count core list a k) (is_event cor
     by e true = length-append (events_of core list a k) (k ∷ []) ∙ ap (λ (n : ℕ). n + 1) e
     by e false = length-append (events_of core list a k) [] ∙ ap (λ (n : ℕ). n + 0) e
 
--- What stands in this list at a place is the event with so many before it.
+-- What is at a place of this list is the event that has this many before it.
 pub record Found (core : CoreData) (list : List ℕ) (a k n q : ℕ) : Type 0 where
   pub event : Event core list q a
   pub below : q < k

@@ -1,4 +1,4 @@
--- The other's change leaves an actor's plan as it is.
+-- The other's change leaves an actor's plan unchanged.
 use Rattle.std.specs.Prelude.{◌≡◌, ◌≢◌, ◌≤◌, ℕ, ◌+◌, Bool, true, List, [], ◌∷◌, ◌++◌, length, Option, Some, None, slice_get, nat_lt, refl}
 use Rattle.std.proofs.Common.{inl, inr, ap, sym, subst, ◌∙◌, arith, length-append}
 use Rattle.std.proofs.lemmas.Option.{same_Some, none-some}
@@ -53,7 +53,7 @@ touched_there core h stack (Some t) x s = value_there core h t (slice_get stack 
 
 -- ---- what the other's change leaves of an actor
 
--- Its frames, and its messages with perhaps more behind them.
+-- Its frames, and its messages, perhaps with more after them.
 pub record Still (l : List Actor) (i : ℕ) (a : Actor) : Type 0 where
   pub actor : Actor
   pub is : slice_get l i ≡ Some actor

@@ -1,5 +1,5 @@
--- Values, frames and moves that are alike but for the numbers of actors. `names` has, for each actor of the second
--- configuration, the number of the first that stands for it.
+-- Values, frames and moves that are alike except for the numbers of actors. For each actor of the second configuration,
+-- `names` has the number of the actor of the first that corresponds to it.
 use Rattle.std.specs.Prelude.{◌≡◌, ℕ, zero, suc, List, [], ◌∷◌, ◌++◌, map, length, replicate, Option, Some, None, slice_get, slice_set, refl, ⊤}
 use Rattle.std.proofs.Common.{ap}
 use Rattle.pc_lists.proofs.Gets.{get_front}
@@ -58,7 +58,7 @@ module _ (names : List ℕ) where
     pub entity : o.entity ≡ p.entity
     pub fields : SlotsLike o.fields p.fields
 
--- Two moves, where neither lacks anything. A new actor has the number `next` in the first.
+-- Two moves, if neither lacks anything. A new actor has the number `next` in the first.
 abbrev pub MoveLike : List ℕ → ℕ → Move → Move → Type 0
 MoveLike names next (Stuck l) m = ⊤
 MoveLike names next m (Stuck l) = ⊤
@@ -122,7 +122,7 @@ module _ (names more : List ℕ) where
 -- ---- slots
 
 module _ (names : List ℕ) where
-  -- What stands at a place, in both.
+  -- What is at a place, in both.
   abbrev pub FoundLike : Option (Option Value) → Option (Option Value) → Type 0
   FoundLike None None = ⊤
   FoundLike (Some o) (Some p) = SlotLike names o p

@@ -27,7 +27,7 @@ get_unchanged (b ∷ bs) zero g (suc j) n = refl
 get_unchanged (b ∷ bs) (suc i) g zero n = refl
 get_unchanged (b ∷ bs) (suc i) g (suc j) n = get_unchanged bs i g j (λ e. n (ap suc e))
 
--- Two changes pass each other, where they do so at one place.
+-- Two changes commute if they do so at one place.
 pub changes_pass : (l : List Actor) (i j : ℕ) (f g : Actor → Actor) → ((a : Actor) → slice_get l i ≡ Some a → i ≡ j → g (f a) ≡ f (g a)) → changed (changed l i f) j g ≡ changed (changed l j g) i f
 changes_pass [] i j f g h = refl
 changes_pass (b ∷ bs) zero zero f g h = ap (λ (c : Actor). c ∷ bs) (h b refl refl)

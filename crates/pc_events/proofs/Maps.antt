@@ -101,13 +101,13 @@ set_and_made h a b k v p n =
 
 -- ---- what becomes of the objects
 
--- What is set stands, and what is made does not.
+-- What is set exists, and what is made does not.
 abbrev pub Fit : ObjectMap → Heaping → Type 0
 Fit h Same = ⊤
 Fit h (Sets a k v) = (o : Object) × (get h a ≡ Some o)
 Fit h (New a o) = get h a ≡ None
 
--- They are no two writes of one field, and no two objects at one address.
+-- They are not two writes of one field, and not two objects at one address.
 abbrev pub Different : Heaping → Heaping → Type 0
 Different Same y = ⊤
 Different (Sets a k v) Same = ⊤
@@ -167,7 +167,7 @@ field_kept h (New a o) f q j e is never =
       | inr n ↦ ap (λ (p : Option Object). field_in p j) (get_other h a o q n)
     ]
 
--- It is no new object of this maker.
+-- It is not a new object of this maker.
 abbrev pub NotBy : Heaping → ℕ → Type 0
 NotBy Same i = ⊤
 NotBy (Sets a k v) i = ⊤

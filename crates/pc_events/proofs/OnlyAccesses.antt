@@ -1,4 +1,4 @@
--- A step changes no field but the one that its actor was about to write.
+-- A step changes no field except the one that its actor was about to write.
 use Rattle.std.specs.Prelude.{◌≡◌, ◌≢◌, ◌⊎◌, ℕ, zero, suc, true, List, [], ◌∷◌, replicate, Option, Some, None, slice_get, refl, ⊤}
 use Rattle.std.proofs.Common.{inl, inr, ap, sym, subst, ◌∙◌}
 use Rattle.std.proofs.lemmas.Option.{same_Some, none-some}

@@ -23,7 +23,8 @@ use Rattle.pc_events.proofs.SimEvent.{message_takes, task_takes}
 
 -- ---- a turn
 
--- The turn at place k, in the configuration `here`, ends so; `next` is behind it. So many messages were taken before and behind.
+-- The turn at place k, in the configuration `here`, ends like this; `next` comes after it. This many messages had been
+-- taken before it and after it.
 pub record Turn (core : CoreData) (list : List ℕ) (k : ℕ) (o : Outcome) (here after : Configuration) (before behind : ℕ → ℕ) : Type 0 where
   pub actor : ℕ
   pub is : slice_get list k ≡ Some actor
@@ -83,7 +84,7 @@ earlier core (i ∷ is) c (suc k) (suc q) o e b = let less : k < q = omega (arit
     go more (Lacks l, n) f = absurd (none-some o f)
     go more (TooLong, n) f = absurd (none-some o f)
 
--- The run goes on behind the places before a turn.
+-- The run goes on after the places before a turn.
 pub goes_on : (core : CoreData) (list : List ℕ) (c : Configuration) (k : ℕ) (o : Outcome) → slice_get (outcomes_from core c list) k ≡ Some o → (rest : List ℕ) → run_from core c (take k list ++ rest) ≡ run_from core (run_from core c (take k list)) rest
 goes_on core [] c k o e rest = absurd (none-some o e)
 goes_on core (i ∷ is) c zero o e rest = refl
@@ -172,7 +173,7 @@ other_count n s t e = ap (λ (z : Bool). n + (if z && t then 1 else 0)) e ∙ no
     nothing : (n : ℕ) → n + 0 ≡ n
     nothing n = omega arith
 
--- How many were taken behind a turn that moves.
+-- How many were taken after a turn that moves.
 pub own_next : (core : CoreData) (c : Configuration) (i n k : ℕ) (x : Change) → plan core c i ≡ Some x → k ≡ n + takes_one core c i i → k ≡ cond x.takes (suc n) n
 own_next core c i n k x p e =
     e ∙ ap (λ (b : Bool). n + (if b && is_take (ahead_of core c i) then 1 else 0)) (eq-eqb i i refl) ∙ ap (λ (b : Bool). n + (if true && b then 1 else 0)) (takes_is core c i x p) ∙ own_count n x.takes

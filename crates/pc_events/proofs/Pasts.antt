@@ -37,7 +37,7 @@ through : (x y z : ℕ) → x ≤ y → y ≤ z → x ≤ z
 through x y z p q = omega (arith, p, q)
 
 module _ (core : CoreData) (list : List ℕ) (k : ℕ) (P Q : ℕ → Type 0) (f : ℕ → ℕ) (c : Counts core list k P f) where
-  -- The same is known behind place k, and not the event there.
+  -- The same is known after place k, and not the event there.
   pub counts_kept : ((q : ℕ) → q < k → P q → Q q) → ((q : ℕ) → q < k → Q q → P q) → ((a : ℕ) → Event core list k a → Q k → ⊥) → Counts core list (suc k) Q f
   counts_kept to from never = record {
     within = λ a. through _ _ _ (c.within a) (index_more core list a k);
@@ -210,7 +210,8 @@ module _ (core : CoreData) (list : List ℕ) (k i : ℕ) (ev : Event core list k
               ]
         ]
 
-    -- The clock behind an event is the greatest of the actor's and of that of the message that it takes, and one more for itself.
+    -- The clock after an event is the greater of the actor's and that of the message that it takes, and one more for
+    -- itself.
     pub counts_event : Counts core list (suc k) (AtOrBefore core list k) h
     counts_event = record {
       within = within_next;
@@ -226,7 +227,7 @@ module _ (core : CoreData) (list : List ℕ) (k i : ℕ) (ev : Event core list k
           ];
     }
 
--- ---- what the actors and messages know behind place k
+-- ---- what the actors and messages know after place k
 
 module _ (core : CoreData) (list : List ℕ) (k : ℕ) where
   -- Its own event is known to an actor, and all that is before it.
@@ -242,7 +243,7 @@ module _ (core : CoreData) (list : List ℕ) (k : ℕ) where
             | inr s ↦ subst (λ (y : ℕ). AtOrBefore core list y q) s p.3
           ]
 
-  -- So it is to the message that it puts.
+  -- This holds for the message that it puts, too.
   pub own_post : (i r : ℕ) → Live core list k → Event core list k i → receiver_of core (at_place core list k) i ≡ Some r → (h : ℕ → ℕ) → Counts core list (suc k) (AtOrBefore core list k) h → Counts core list (suc k) (PostOf core list (suc k) r (total core list k r)) h
   own_post i r live ev to h c =
       counts_same core list (suc k) (AtOrBefore core list k) (PostOf core list (suc k) r (total core list k r)) h c (λ q l known. (k, self_more k, record { sender = i; puts = ev; to = to; number = refl }, known)) (λ q l p. back q p)

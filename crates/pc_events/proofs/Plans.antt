@@ -25,7 +25,7 @@ use Rattle.pc_events.proofs.Changes.{behind}
 use Rattle.pc_events.proofs.Lists.{set_changed, length_changed}
 use Rattle.pc_events.proofs.Right.{Right, right}
 
--- ---- what is behind a plan
+-- ---- what a plan implies
 
 -- A frame's first task moves.
 pub record Running (core : CoreData) (c : Configuration) (i : ℕ) (x : Change) : Type 0 where

@@ -92,7 +92,7 @@ free_here : (h : ObjectMap) (a : Address) → ((o : Object) → get h a ≡ Some
 free_here h a never None e = refl
 free_here h a never (Some o) e = absurd (never o e)
 
--- Where an object is made, none is.
+-- At the place where an object is made, there is none.
 place_free : (h : ObjectMap) (i n : ℕ) → PlacedIn h n → (s : Option Message) (o : Object) → get h (place_of h i n s) ≡ Some o → ⊥
 place_free h i n p None o e = let b = p.serial (next_address h i) o e in absurd (omega (arith, b))
 place_free h i n p (Some m) o e = let b = p.maker (own_address n) o e in absurd (omega (arith, b))
@@ -181,7 +181,7 @@ after_placed core list = run_placed core list (start core) (start_placed core (m
 
 -- ---- a list that goes on
 
--- Either it goes on where the first part of the list has led, or the run has ended.
+-- Either it goes on from where the first part of the list has led, or the run has ended.
 pub run_goes_on : (core : CoreData) (list : List ℕ) (c : Configuration)
     → ((rest : List ℕ) → run_from core c (list ++ rest) ≡ run_from core (run_from core c list) rest) ⊎ ((rest : List ℕ) → run_from core c (list ++ rest) ≡ run_from core c list)
 run_goes_on core [] c = inl (λ rest. refl)

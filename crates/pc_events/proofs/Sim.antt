@@ -1,4 +1,4 @@
--- A configuration that has gone on by more steps than another, and is like it but for what was marked.
+-- A configuration that has gone on by more steps than another, and is like it except for what was marked.
 use Rattle.std.specs.Prelude.{◌≡◌, ◌⊎◌, ◌<◌, ℕ, suc, ◌+◌, nat_eq, List, [], ◌∷◌, ◌++◌, length, Some, slice_get, ⊤}
 use Rattle.std.proofs.Common.{inl, inr, ap, sym, subst, ◌∙◌, arith}
 use Rattle.std.proofs.lemmas.Option.{same_Some}
@@ -15,7 +15,7 @@ use Rattle.pc_events.proofs.Like.{AddressLike, FramesLike, MessageLike, FoundLik
 -- ---- mailboxes
 
 module _ (names : List ℕ) (post : ℕ → Type 0) where
-  -- The messages, the first of which has this number, are like the others up to one that is marked.
+  -- The messages, of which the first has this number, are like the others up to one that is marked.
   abbrev pub MailLike : ℕ → List Message → List Message → Type 0
   MailLike n [] [] = ⊤
   MailLike n [] (k ∷ ks) = ⊥

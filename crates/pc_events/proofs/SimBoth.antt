@@ -22,7 +22,7 @@ use Rattle.pc_events.proofs.Like.{FramesLike, MessageLike, frames_more, message_
 use Rattle.pc_events.proofs.Sim.{MailLike, mail_both, mail_weaker, Marks, Clean, Late, Status, Sim, names_same}
 use Rattle.pc_events.proofs.SimHeaps.{HeapLike, classes_both, fields_both, made_both}
 
--- ---- an actor behind a change
+-- ---- an actor after a change
 
 abbrev pub own_after : ℕ → Change → ℕ → Actor → Actor
 own_after i x k a = cond (nat_eq k i) (going x.takes x.frames a) a

@@ -81,7 +81,7 @@ touch_like core names h g classes t vs ws l x e a m = touch_top_like core names 
 
 -- ---- like plans
 
--- Like changes, where nothing is said of the objects that stand.
+-- Like changes, if nothing is said about the objects that exist.
 abbrev HeapAlike : List ℕ → Heaping → Heaping → Type 0
 HeapAlike names Same Same = ⊤
 HeapAlike names (Sets a k v) (Sets b l w) = AddressLike names a b × (k ≡ l) × Like names v w

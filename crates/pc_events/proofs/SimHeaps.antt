@@ -1,4 +1,4 @@
--- Objects that are like others stay so where both are changed alike.
+-- Objects that are like others stay so if both are changed alike.
 use Rattle.std.specs.Prelude.{◌≡◌, ◌≢◌, ◌⊎◌, ◌<◌, ℕ, ◌+◌, Bool, nat_eq, List, ◌++◌, length, Option, Some, None, slice_get, refl, ⊤}
 use Rattle.std.proofs.Common.{inl, inr, ap, sym, subst, ◌∙◌}
 use Rattle.std.proofs.lemmas.Option.{none-some}
@@ -49,7 +49,7 @@ set_other_object : (h : ObjectMap) (a : Address) (k : ℕ) (v : Value) (q : Addr
 set_other_object h a k v q n f = ap (λ (p : Option Object). field_in p f) (get_other h a (with_field (object_in (get h a)) k v) q n)
 
 module _ (wrote : Address → ℕ → Type 0) (names more : List ℕ) (h g : ObjectMap) (inject : (j k a : ℕ) → slice_get (names ++ more) j ≡ Some a → slice_get (names ++ more) k ≡ Some a → j ≡ k)
-    -- what stands in the second is of its actors
+    -- what exists in the second is of its actors
     (standing : (b : Address) (o : Object) → get g b ≡ Some o → b.maker < length names)
     (classes : (a b : Address) → AddressLike names a b → (e : ℕ) → class_at g b ≡ Some e → class_at h a ≡ Some e)
     (fields : (a b : Address) → AddressLike names a b → (e : ℕ) → class_at g b ≡ Some e → (f : ℕ) → FoundLike names (field_at h a f) (field_at g b f) ⊎ wrote a f) where

@@ -27,7 +27,7 @@ use Rattle.pc_events.proofs.Changes.{Heaping, Same, Sets, New, Change, planned, 
 use Rattle.pc_events.proofs.Plans.{view}
 use Rattle.pc_events.proofs.Right.{Right, right, touch}
 
--- Where an object is made: that of a new actor, or the next one of the actor.
+-- The address at which an object is made: that of a new actor, or the next one of the actor.
 abbrev pub place_of : ObjectMap → ℕ → ℕ → Option Message → Address
 place_of h i n None = next_address h i
 place_of h i n (Some m) = own_address n
@@ -49,7 +49,7 @@ abbrev pub PrintTold : ℕ → Option (List ℕ) → Type 0
 PrintTold i None = ⊤
 PrintTold i (Some t) = i ≡ 0
 
--- A message waits where one is taken.
+-- A message waits if one is taken.
 abbrev pub TakeTold : Configuration → ℕ → Bool → Type 0
 TakeTold c i false = ⊤
 TakeTold c i true = (a : Actor) → slice_get c.actors i ≡ Some a → (m : Message) × (ms : List Message) × (a.mailbox ≡ m ∷ ms)

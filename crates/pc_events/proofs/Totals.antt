@@ -136,7 +136,7 @@ up_by c d i r t u ahead.Skipped b e = absurd b
 up_by c d i r t u ahead.Lacks b e = absurd b
 up_by c d i r t u ahead.TooLong b e = absurd b
 
--- ---- how many were taken behind an event
+-- ---- how many were taken after an event
 
 pub taken_own : (core : CoreData) (list : List ℕ) (k i : ℕ) → Moving core list k i → ahead_of core (at_place core list k) i ≡ ahead.Take → taken_before core list (suc k) i ≡ suc (taken_before core list k i)
 taken_own core list k i m h = m.counts i ∙ ap (λ (x : Ahead). taken_before core list k i + one_for i i (is_take x)) h ∙ take_own (taken_before core list k i) i i refl
@@ -154,7 +154,7 @@ taken_other core list k i a m n =
 pub taken_none : (core : CoreData) (list : List ℕ) (k i a : ℕ) → Moving core list k i → is_take (ahead_of core (at_place core list k) i) ≡ false → taken_before core list (suc k) a ≡ taken_before core list k a
 taken_none core list k i a m e = m.counts a ∙ ap (λ (b : Bool). taken_before core list k a + one_for i a b) e ∙ no_take (taken_before core list k a) (nat_eq i a)
 
--- ---- the total never falls, and rises by one where a message is put
+-- ---- the total never falls, and rises by one when a message is put
 
 total_moves : (core : CoreData) (list : List ℕ) (k i r : ℕ) → Moving core list k i → Up (at_place core list k) (at_place core list (suc k)) r (taken_before core list k r) (taken_before core list (suc k) r) (ahead_of core (at_place core list k) i)
 total_moves core list k i r m = up_by (at_place core list k) (at_place core list (suc k)) i r (taken_before core list k r) (taken_before core list (suc k) r) (ahead_of core (at_place core list k) i) m.boxes (m.counts r)

@@ -1,4 +1,4 @@
--- What is proved of each step: that what is said of an actor's next step is how it ends, and that only accesses touch fields.
+-- What is proved of each step: it ends as was said in advance, and only accesses change fields.
 use Rattle.std.specs.Prelude.{◌≡◌, ℕ, List}
 use Rattle.pc_core.specs.CoreData.{CoreData}
 use Rattle.pc_semantics.specs.declared.outcome.Lack.{Lack}
@@ -12,7 +12,7 @@ use Rattle.pc_semantics.specs.declared.ahead.Ahead.TheVariants as ahead
 use Rattle.pc_semantics.specs.Ahead.{ahead_of}
 use Rattle.pc_events.specs.Accesses.{OnlyAccessed}
 
--- How a step ends of which this is said.
+-- How a step ends if this was said in advance.
 abbrev pub Agrees : Ahead → Outcome → Type 0
 Agrees ahead.Skipped o = o ≡ Skipped
 Agrees ahead.Lacks o = (l : Lack) × (o ≡ Lacks l)
@@ -26,6 +26,6 @@ Agrees ahead.Task o = o ≡ Moved
 abbrev pub AheadAgrees : Type 0
 AheadAgrees = (core : CoreData) (c : Configuration) (i : ℕ) → Agrees (ahead_of core c i) (step core c i).0
 
--- In every configuration that a run of any core leads to, also where the step does not move.
+-- In every configuration that a run of any core leads to, even if the step does not move.
 abbrev pub OnlyAccessesTouchFields : Type 0
 OnlyAccessesTouchFields = (core : CoreData) (list : List ℕ) (i : ℕ) → OnlyAccessed core (after core list) (step core (after core list) i).1 i

@@ -56,8 +56,8 @@ waiting_of (Some a) = length a.mailbox
 abbrev pub waiting : Configuration → ℕ → ℕ
 waiting c a = waiting_of (slice_get c.actors a)
 
--- The event at p puts a message into a mailbox, and the one at q takes it: of the messages of this mailbox, as many were taken
--- before q as were taken before p or waited there.
+-- The event at p puts a message into a mailbox, and the one at q takes this message: as many messages of the mailbox
+-- were taken before q as were taken before p or waited there at p.
 pub record Carries (core : CoreData) (list : List ℕ) (p q : ℕ) : Type 0 where
   pub sender : ℕ
   pub receiver : ℕ
@@ -73,6 +73,6 @@ pub record Carries (core : CoreData) (list : List ℕ) (p q : ℕ) : Type 0 wher
 pub data Before (core : CoreData) (list : List ℕ) : (earlier later : ℕ) → Type 0 where
   -- two events of one actor
   own : (i p q : ℕ) → p < q → Event core list p i → Event core list q i → Before core list p q
-  -- what puts a message into a mailbox, and the take of this message
+  -- what puts a message into a mailbox, and the take of that message
   carried : (p q : ℕ) → Carries core list p q → Before core list p q
   chain : (p q r : ℕ) → Before core list p q → Before core list q r → Before core list p r

@@ -1,10 +1,10 @@
--- The clock of an event: of each actor, how many of its events came before.
+-- The clock of an event: for each actor, how many of its events came before.
 use Rattle.std.specs.Prelude.{◌≡◌, ◌⊎◌, ℕ, List, length}
 use Rattle.pc_lists.specs.Places.{Ascends, Each, Has}
 use Rattle.pc_core.specs.CoreData.{CoreData}
 use Rattle.pc_events.specs.Before.{at_place, Event, Before}
 
--- So many numbers have a property: those of a list without a repetition.
+-- Exactly n numbers have a property: those of a list without repetitions.
 pub record Many (P : ℕ → Type 0) (n : ℕ) : Type 0 where
   pub which : List ℕ
   pub ascends : Ascends which
@@ -12,15 +12,15 @@ pub record Many (P : ℕ → Type 0) (n : ℕ) : Type 0 where
   pub all : (x : ℕ) → P x → Has which x
   pub count : length which ≡ n
 
--- An event of actor a that is the one at p, or before it.
+-- An event of actor a that is the one at p or comes before it.
 abbrev pub UpTo : CoreData → List ℕ → (place actor event : ℕ) → Type 0
 UpTo core list p a q = Event core list q a × ((q ≡ p) ⊎ Before core list q p)
 
--- How many events of actor a are the one at p, or before it.
+-- How many events of actor a are the one at p or come before it.
 abbrev pub Clock : CoreData → List ℕ → (place actor count : ℕ) → Type 0
 Clock core list p a n = Many (UpTo core list p a) n
 
--- One such number for each actor that is there at p.
+-- One such number for each actor that exists at p.
 pub record Clocks (core : CoreData) (list : List ℕ) (p : ℕ) (numbers : List ℕ) : Type 0 where
   pub actors : length numbers ≡ length (at_place core list p).actors
   pub each : Each (Clock core list p) numbers

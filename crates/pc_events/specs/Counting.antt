@@ -1,4 +1,4 @@
--- The events of an actor and the messages of a mailbox, counted, and what a clock that is kept along a run counts.
+-- The events of an actor and the messages of a mailbox, counted, and what a clock counts that is kept along a run.
 use Rattle.std.specs.Prelude.{◌≡◌, ◌⊎◌, ◌<◌, ◌≤◌, ℕ, zero, suc, ◌+◌, Bool, false, ◌&&◌, nat_eq, List, Option, Some, None, slice_get}
 use Rattle.pc_lists.specs.Counts.{one_if}
 use Rattle.pc_core.specs.CoreData.{CoreData}
@@ -37,11 +37,11 @@ AtOrBefore core list p q = (q ≡ p) ⊎ Before core list q p
 
 -- ---- messages
 
--- How many messages the mailbox of actor r was given before a place: those that were taken and those that wait.
+-- How many messages the mailbox of actor r was given before a place: those that were taken and those that still wait.
 abbrev pub total : CoreData → List ℕ → ℕ → ℕ → ℕ
 total core list k r = taken_before core list k r + waiting (at_place core list k) r
 
--- The event at e puts the message of this number into the mailbox of actor r.
+-- The event at e puts the message with this number into the mailbox of actor r.
 pub record Put (core : CoreData) (list : List ℕ) (e r n : ℕ) : Type 0 where
   pub sender : ℕ
   pub puts : Event core list e sender
@@ -50,16 +50,16 @@ pub record Put (core : CoreData) (list : List ℕ) (e r n : ℕ) : Type 0 where
 
 -- ---- clocks
 
--- Before place k, the events that have a property are those of which no more than f a of actor a are counted.
+-- Before place k, an event of actor a has the property iff it is among the first f a events of that actor.
 pub record Counts (core : CoreData) (list : List ℕ) (k : ℕ) (P : ℕ → Type 0) (f : ℕ → ℕ) : Type 0 where
   pub within : (a : ℕ) → f a ≤ index core list a k
   pub inside : (a q : ℕ) → Event core list q a → q < k → P q → index core list a q < f a
   pub outside : (a q : ℕ) → Event core list q a → q < k → index core list a q < f a → P q
 
--- Event q is one of actor a earlier than k, or before one.
+-- Event q is one of actor a before place k, or comes before one.
 abbrev pub PastOf : CoreData → List ℕ → ℕ → ℕ → ℕ → Type 0
 PastOf core list k a q = (e : ℕ) × (e < k) × Event core list e a × AtOrBefore core list e q
 
--- Event q is the one earlier than k that put message n into the mailbox of actor r, or before it.
+-- Event q is the one before place k that put message n into the mailbox of actor r, or comes before it.
 abbrev pub PostOf : CoreData → List ℕ → ℕ → ℕ → ℕ → ℕ → Type 0
 PostOf core list k r n q = (e : ℕ) × (e < k) × Put core list e r n × AtOrBefore core list e q

@@ -4,22 +4,23 @@ ghost use Rattle.pc_events.specs.Laws as law;
 
 use pc_semantics::only_moves_change;
 
-/// What is said of an actor's next step is how it ends.
+/// A step ends as was said in advance of its actor.
 #[tactic(auto, using(crate::proofs::Agrees::ahead_agrees))]
 pub fn ahead_agrees()
     ensures { AheadAgrees }
 {}
 
-/// Only accesses touch fields. In every run of every program, a step leaves each object of its entity, and each of its fields
-/// as it was, but for the one field that the actor was about to write (`access`); and a new object has no value in a field.
+/// Only accesses change fields. In every run of every program, a step leaves each object with its entity, and each of
+/// its fields unchanged, except for the one field that the actor was about to write (`access`); and a new object has no
+/// value in any field.
 pub fn only_accesses_touch_fields()
     ensures { OnlyAccessesTouchFields }
 {
     only_moves_change();
 }
 
-/// In every run of a safe program two events of different actors that touch one field of one object, one of them writing, are
-/// ordered: one comes before the other.
+/// In every run of a safe program, two events of different actors that touch the same field of the same object, where
+/// one of them writes it, are ordered: one comes before the other.
 #[tactic(auto, using(crate::proofs::Order::conflicts_ordered))]
 pub fn conflicts_are_ordered()
     ensures { law.ConflictsOrdered }

@@ -1,21 +1,23 @@
-//! The events of runs: what a step changes, which events come before which, and that no two events of a safe program conflict
-//! without an order.
+//! The events of runs: what a step changes, which events come before which, and that no two events of a safe program
+//! conflict without being ordered.
 //!
-//! `specs/Before.antt` says what an event is, that of two events of one actor the earlier comes before the later, that what puts
-//! a message into a mailbox comes before the take of this message, and chains of these; messages are told apart by counting.
-//! `specs/Conflict.antt` says which events conflict, and `specs/Clock.antt` what the clock of an event is. They hold for every
-//! core, whether it is safe or not. Each public call does nothing, and its contract is a law: two of them are that what is said of
-//! an actor's next step is how the step ends (`ahead_agrees`), and that a step leaves all fields as they were but the one that its
-//! actor was about to write (`only_accesses_touch_fields`).
+//! `specs/Before.antt` defines what an event is and which events come before which: of two events of one actor, the
+//! earlier one before the later one; what puts a message into a mailbox before the take of this message; and chains of
+//! these. Messages are told apart by counting. `specs/Conflict.antt` defines which events conflict, and
+//! `specs/Clock.antt` what the clock of an event is. These definitions are for every core, safe or not. Each public
+//! call does nothing, and its contract is a law: for example, that a step ends as was said in advance of its actor
+//! (`ahead_agrees`), and that a step leaves all fields unchanged except the one that its actor was about to write
+//! (`only_accesses_touch_fields`).
 //!
-//! What a step changes stands in `proofs/` as data, for laws on several steps: the actor's own frames and mailbox, one object,
-//! another's mailbox, one actor more, a printed text.
-//! - `Changes` has the change that a step plans, `Plans` that the step makes it, and `Told` what is known of it;
+//! `proofs/` describes what a step changes as data, for laws about several steps: the actor's own frames and mailbox,
+//! one object, another actor's mailbox, one more actor, a printed text.
+//! - `Changes` defines the change that a step plans, `Plans` proves that the step makes it, and `Told` what is known of
+//!   it;
 //! - `Plain` and `Right` go through all tasks once: what a task may write, make or send;
-//! - `Stable` and `Kept`: a change leaves the plan of another actor's step as it was;
-//! - `Lists`, `Maps` and `Pass`: two changes pass each other;
-//! - `Reach`: where objects stand in every configuration that a run leads to;
-//! - `OnlyAccesses`: what a step leaves of the objects.
+//! - `Stable` and `Kept`: a change leaves the plan of another actor's step unchanged;
+//! - `Lists`, `Maps` and `Pass`: two changes commute;
+//! - `Reach`: where objects are in every configuration that a run leads to;
+//! - `OnlyAccesses`: what a step leaves unchanged in the objects.
 #![tactic(auto)]
 
 mod laws;

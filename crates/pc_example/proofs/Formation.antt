@@ -274,11 +274,11 @@ nodes_fit = seven _ _ _ _ _ _ _ _
 
 -- ---- names
 
--- Elements with marks that tell their places apart differ.
+-- Elements with marks that give their places differ.
 differ_by : {T : Type 0} → (mark : T → ℕ) (xs : List T) → Each (λ i x. mark x ≡ i) xs → Differ xs
 differ_by mark xs h i j x e f = sym (h i x e) ∙ h j x f
 
--- A name's place among the three, told by its length, and among the eight, told by its first byte.
+-- A name's place among the three, given by its length, and among the eight, given by its first byte.
 abbrev by_length : List ℕ → ℕ
 by_length xs = if nat_eq (length xs) 3 then 0 else (if nat_eq (length xs) 5 then 1 else 2)
 

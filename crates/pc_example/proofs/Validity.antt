@@ -30,7 +30,7 @@ rules_met (suc (suc (suc (suc (suc zero))))) l = (_, _, refl, refl, refl)
 rules_met (suc (suc (suc (suc (suc (suc zero)))))) l = (_, _, refl, refl, refl)
 rules_met (suc (suc (suc (suc (suc (suc (suc n))))))) l = absurd (omega (arith, l))
 
--- Behind the body no field is left, since there is none.
+-- After the body no field is unset, since there is none.
 set_behind : (e body b : ℕ) (s t : Note) → Some body ≡ Some b → slice_get derivation.notes body ≡ Some s → slice_get derivation.notes b ≡ Some t → full four_slots e s.set_after ≡ true → full four_slots e t.set_after ≡ true
 set_behind e body b s t at here there set =
     let same = same_Some body b at in

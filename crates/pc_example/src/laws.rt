@@ -1,4 +1,4 @@
-//! What is true of the program. Each call does nothing, and its contract is the fact.
+//! Facts about the program. Each call does nothing, and its contract is the fact.
 ghost use Rattle.pc_core.specs.Formed.{Formed};
 ghost use Rattle.pc_rules.specs.Example as example;
 ghost use Rattle.pc_valid.specs.Valid.{Valid};

@@ -1,4 +1,4 @@
--- A definition changes no number of slots.
+-- A definition does not change the number of slots.
 use Rattle.std.proofs.Common.{◌≡◌, ℕ, length, Option, Some, None, refl}
 use Rattle.std.proofs.lemmas.List.{length-set}
 use Rattle.pc_ann.specs.declared.annotation.Ann.{Ann}

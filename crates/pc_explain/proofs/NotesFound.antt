@@ -1,4 +1,4 @@
--- The notes of nodes, looked for one after the other.
+-- The notes of nodes, looked up one after another.
 use Rattle.std.specs.Prelude.{◌≡◌, ℕ, ◌+◌, ◌<◌, List, [], ◌∷◌, ◌++◌, length, Option, Some, None, drop, get_or, option_map, slice_get, refl}
 use Rattle.std.proofs.Common.{ap, sym, ◌∙◌, append_assoc}
 use Rattle.std.proofs.lemmas.List.{drop_more}

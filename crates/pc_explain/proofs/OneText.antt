@@ -1,4 +1,4 @@
--- A core has one explanation, and one that has a derivation has none.
+-- A core has at most one explanation, and one that has a derivation has none.
 use Rattle.std.specs.Prelude.{◌≡◌, ℕ, ◌+◌, ◌<◌, List, [], length, Some, slice_get}
 use Rattle.std.proofs.Common.{ap, sym, ◌∙◌, arith}
 use Rattle.std.proofs.lemmas.Option.{same_Some, none-some}
@@ -31,7 +31,7 @@ same_notes : (core : CoreData) (a b : Ann) (n : ℕ) → faults.PrefixesAgree �
 same_notes core a b n agree f wa wb h i la lb =
     same_lists a.notes b.notes (la ∙ sym lb) (λ k l. agree core a b n k f wa wb h i (omega (arith, l, la)))
 
--- ---- a declaration does not fail where a node has no rule
+-- ---- no declaration fails if a node has no rule
 
 no_fault : (core : CoreData) (x : DeclFault) → NoFaultWhereFit → Formed core → first_fault core ≡ Some x → DeclOk core → ⊥
 no_fault core x fits f e d = none-some x (sym ((fits core f).1 d) ∙ e)

@@ -1,4 +1,4 @@
--- Lists that have the same at each place.
+-- Lists with the same elements at each place.
 use Rattle.std.specs.Prelude.{◌≡◌, ℕ, suc, ◌<◌, List, [], ◌∷◌, length, slice_get, refl}
 use Rattle.std.proofs.Common.{ap₂, arith}
 use Rattle.std.proofs.lemmas.Option.{same_Some}

@@ -1,4 +1,4 @@
--- The first field that is not set, looked for one after the other.
+-- The first field that is not set, searched one by one.
 use Rattle.std.specs.Prelude.{◌≡◌, ℕ, zero, suc, ◌+◌, ◌<◌, Bool, true, List, [], ◌∷◌, length, Some, drop, if◌then◌else◌}
 use Rattle.std.proofs.Common.{ap, ◌∙◌, arith}
 use Rattle.pc_core.specs.declared.declarations.FieldInfo.{FieldInfo}

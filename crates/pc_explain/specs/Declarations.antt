@@ -1,4 +1,4 @@
--- The lines on a declaration that fails.
+-- The lines about a declaration that fails.
 use Rattle.std.specs.Prelude.{ℕ, Bool, ◌&&◌, nat_eq, List, [], ◌∷◌, ◌++◌, Option, Some, None, slice_get, codes}
 use Rattle.std.specs.List.{find}
 use Rattle.std.specs.Option.{is_some}
@@ -74,7 +74,7 @@ unfoldable pub other_hint : CoreData → (entity name : ℕ) → Text
 other_hint core e name =
     codes "hint: " ++ (forms.entity core e ++ (codes "." ++ (piece (forms.name_text core name) ++ (codes " is not a function" ++ line_end))))
 
--- To add it, or, if the entity has something else of this name, that it is no function.
+-- The advice to add it, or, if the entity has something else with this name, that it is not a function.
 unfoldable pub missing_hint : SceneData → ℕ → Method → Option ℕ → Text
 missing_hint s e wanted None = codes "hint: add `" ++ (written s wanted ++ (codes " => ..`" ++ line_end))
 missing_hint s e wanted (Some m) = other_hint s.core e wanted.name
@@ -84,7 +84,7 @@ missing_lines s e wanted = provider_line s.core e wanted ++ (declares_line s e w
 
 -- ---- a method that does not fit
 
--- The method does not stand for this one of its name.
+-- The method cannot replace this one, which has its name.
 unfoldable pub wants : CoreData → Method → Method → Bool
 wants core given wanted = nat_eq wanted.name given.name && is_some (first_misfit core wanted given)
 
@@ -92,7 +92,7 @@ abbrev pub or_else : Option Method → Option Method → Option Method
 or_else None other = other
 or_else (Some found) other = Some found
 
--- The first method of these entities that it does not stand for.
+-- The first method of these entities that it cannot replace.
 unfoldable pub wanted_from : CoreData → Method → List ℕ → Option Method
 wanted_from core given [] = None
 wanted_from core given (b ∷ bs) = or_else (find (wants core given) (methods_in core (slice_get core.entities b))) (wanted_from core given bs)

@@ -60,7 +60,7 @@ abbrev pub own_param_span : Option Method → ℕ → Span
 own_param_span None i = no_span
 own_param_span (Some x) i = param_span (slice_get x.params i)
 
--- The name of its parameter, its entity or its method.
+-- The place of the name of its parameter, its entity or its method.
 unfoldable pub decl_span : CoreData → DeclFault → Span
 decl_span core (decl.NotSendable m i) = own_param_span (slice_get core.methods m) i
 decl_span core (decl.MissingMethod e m) = entity_span (slice_get core.entities e)
@@ -69,9 +69,9 @@ decl_span core (decl.Mismatch e m) = method_span (slice_get core.methods m)
 unfoldable pub declaration_text : Text → SceneData → DeclFault → Text
 declaration_text name s f = head name s.bytes (decl_span s.core f) (decl_text f) ++ declaration_lines s f
 
--- ---- a node of which no rule says anything
+-- ---- a node at which no rule holds
 
--- The rule, the sentence of what it asks and does not hold, and what to do about it.
+-- The rule, the sentence of its condition that does not hold, and what to do about it.
 unfoldable pub told : StopData → Reason → Told
 told stop r = record { rule = r.rule; sentence = sentence stop r; hint = hint stop r }
 
@@ -80,7 +80,7 @@ is_own_rule rule.GetOwn = true
 is_own_rule rule.PutOwn = true
 is_own_rule r = false
 
--- The rules for a constructor that has not set all fields yet are looked at.
+-- The rules for a constructor that has not set all fields yet are the ones looked at.
 abbrev pub is_own : List Reason → Bool
 is_own [] = false
 is_own (r ∷ rs) = is_own_rule r.rule
@@ -93,7 +93,7 @@ abbrev pub reasons_by : CoreData → Slots → Option (List Note) → Node → M
 reasons_by core slots None x m = []
 reasons_by core slots (Some ns) x m = reasons core slots ns x m
 
--- Why no rule says anything of node x: each rule that is looked at, with the first thing that it asks and that does not hold.
+-- Why no rule holds at node x: each rule that is looked at, with its first condition that does not hold.
 unfoldable pub reasons_of : CoreData → Ann → Node → Masks → List Reason
 reasons_of core ann x m = all_of (reasons_at core (with_inferred core ann x) x m)
 
@@ -118,7 +118,7 @@ unset_text name s x t = head name s.bytes x.span (codes "field not set") ++ unse
 
 -- ---- the explanation
 
--- The text explains why the source of this name, with these bytes and tokens, whose core this is, is refused.
+-- The text explains why the source with this name, these bytes, these tokens and this core is refused.
 pub data IsExplanation (name bytes : Text) (tokens : List Token) (core : CoreData) : Text → Type 0 where
   declared : (f : DeclFault) → first_fault core ≡ Some f → IsExplanation name bytes tokens core (declaration_text name (scene_of bytes tokens core []) f)
   no_rule : (ann : Ann) (n : ℕ) (m : Masks) (x : Node) → StopsAt core n m ann → slice_get core.nodes n ≡ Some x

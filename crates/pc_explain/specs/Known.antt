@@ -1,4 +1,4 @@
--- The types of slots as far as the notes of the first nodes give them.
+-- The types of slots, as far as the notes of the first nodes determine them.
 use Rattle.std.specs.Prelude.{ℕ, List, [], ◌∷◌, take}
 use Rattle.pc_ann.specs.declared.annotation.Ann.{Ann}
 use Rattle.pc_ann.specs.declared.annotation.Note.{Note}
@@ -10,11 +10,11 @@ use Rattle.pc_valid.specs.Words.{Slots}
 abbrev pub ann_of : Slots → List Note → Ann
 ann_of slots notes = record { slots = slots; notes = notes }
 
--- What these nodes give the slots that they define, one after the other.
+-- The annotation after these nodes, one after another, have given types to the slots that they define.
 abbrev pub known_from : CoreData → Ann → List Node → Ann
 known_from core ann [] = ann
 known_from core ann (x ∷ xs) = known_from core (with_inferred core ann x) xs
 
--- The written types, and those that follow from the definitions among the first n nodes. They depend on the notes alone.
+-- The written types, and those that follow from the definitions among the first n nodes. They depend only on the notes.
 abbrev pub known_slots : CoreData → List Note → (n : ℕ) → Slots
 known_slots core notes n = (known_from core (ann_of (first_types core) notes) (take n core.nodes)).slots

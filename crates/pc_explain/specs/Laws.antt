@@ -1,4 +1,4 @@
--- What is said of explanations.
+-- What is proved of explanations.
 use Rattle.std.specs.Prelude.{◌≡◌, List}
 use Rattle.pc_core.specs.CoreData.{CoreData}
 use Rattle.pc_core.specs.Formed.{Formed}
@@ -13,6 +13,6 @@ ExplanationsAreOne =
     (name bytes : Text) (tokens : List Token) (core : CoreData) (one other : Text) → Formed core → IsExplanation name bytes tokens core one
     → IsExplanation name bytes tokens core other → one ≡ other
 
--- One that has a derivation has none.
+-- A core that has a derivation has no explanation.
 abbrev pub AcceptedHasNone : Type 0
 AcceptedHasNone = (name bytes : Text) (tokens : List Token) (core : CoreData) (text : Text) → Formed core → Derivable core → IsExplanation name bytes tokens core text → ⊥

@@ -1,4 +1,4 @@
--- The lines on the rules for a node of which none says anything.
+-- The lines about the rules for a node at which none holds.
 use Rattle.std.specs.Prelude.{Bool, List, [], ◌∷◌, ◌++◌, codes, flat_map, if◌then◌else◌}
 use Rattle.std.specs.List.{list_any}
 use Rattle.std.specs.Str.{bytes_eq}
@@ -40,18 +40,18 @@ rule_word rule.While = codes "while"
 rule_word rule.Recover = codes "recover"
 rule_word rule.Body = codes "body"
 
--- The rule fails by this sentence.
+-- The rule fails with this sentence.
 abbrev pub says : Text → Told → Bool
 says sentence t = bytes_eq t.sentence sentence
 
--- Of a later rule its name, if it fails by this sentence too.
+-- The name of a later rule, if it fails with this sentence too.
 unfoldable pub more_name : Text → Told → Text
 more_name sentence t = if says sentence t then codes ", " ++ rule_word t.rule else []
 
 abbrev pub number_word : (several : Bool) → Text
 number_word several = if several then codes "rules " else codes "rule "
 
--- The rules that fail by the sentence of the first of these.
+-- The rules that fail with the sentence of the first of these.
 unfoldable pub names_of : Told → List Told → Text
 names_of t later = number_word (list_any (says t.sentence) later) ++ (rule_word t.rule ++ flat_map (more_name t.sentence) later)
 
@@ -59,11 +59,11 @@ unfoldable pub hint_line : Text → Text
 hint_line [] = []
 hint_line (b ∷ bs) = codes "hint: " ++ ((b ∷ bs) ++ line_end)
 
--- The line on the first of these, and its hint.
+-- The line about the first of these, and its hint.
 unfoldable pub rule_line : Told → List Told → Text
 rule_line t later = names_of t later ++ (codes ": " ++ (t.sentence ++ (line_end ++ hint_line t.hint)))
 
--- A rule has a line unless an earlier one has its sentence: rules that fail by one sentence share a line.
+-- A rule has a line unless an earlier one has its sentence: rules that fail with the same sentence share a line.
 abbrev pub line_after : (earlier : List Told) → Told → (later : List Told) → Text
 line_after earlier t later = if list_any (says t.sentence) earlier then [] else rule_line t later
 
@@ -71,6 +71,6 @@ abbrev pub lines_after : (earlier : List Told) → List Told → Text
 lines_after earlier [] = []
 lines_after earlier (t ∷ ts) = line_after earlier t ts ++ lines_after (earlier ++ t ∷ []) ts
 
--- The lines on the rules, in order.
+-- The lines about the rules, in order.
 unfoldable pub rule_lines : List Told → Text
 rule_lines ts = lines_after [] ts

@@ -1,4 +1,4 @@
--- The lines on a constructor that leaves a field unset.
+-- The lines about a constructor that leaves a field unset.
 use Rattle.std.specs.Prelude.{ℕ, ◌+◌, Bool, true, false, ◌&&◌, nat_eq, List, [], ◌∷◌, ◌++◌, Option, Some, None, filter, length, map, slice_get, take, codes, if◌then◌else◌}
 use Rattle.pc_core.specs.CoreData.{CoreData}
 use Rattle.pc_core.specs.Lookup.{own_nodes}
@@ -33,11 +33,11 @@ abbrev pub child_in : CoreData → Option ℕ → Option Node
 child_in core None = None
 child_in core (Some c) = slice_get core.nodes c
 
--- The node writes the field of this name of `this`.
+-- The node writes the field with this name of `this`.
 unfoldable pub writes_own : CoreData → ℕ → Node → Bool
 writes_own core name x = writes_name name x.kind && is_own (child_in core (slice_get x.children 1))
 
--- What stands before a place.
+-- What is written before a place.
 abbrev pub before_place : (first : Bool) → Text
 before_place first = if first then codes " on every path: it is set only at " else codes ", "
 
@@ -52,7 +52,7 @@ places_of bytes first (at ∷ others) = write_place bytes first at ++ places_of 
 abbrev pub start : Node → ℕ
 start x = x.span.start
 
--- Where these nodes begin that write the field of this name of `this`.
+-- Where those of these nodes begin that write the field with this name of `this`.
 abbrev pub writes_of : CoreData → ℕ → List Node → List ℕ
 writes_of core name xs = map start (filter (writes_own core name) xs)
 
@@ -71,7 +71,7 @@ unfoldable pub part_of : SceneData → Method → (set : Bool) → FieldInfo →
 part_of s m true f = []
 part_of s m false f = unset_part s m f
 
--- Those, from this index on, that are not set.
+-- The parts for the fields, from this index on, that are not set.
 abbrev pub unset_parts : SceneData → Method → Mask → ℕ → List FieldInfo → Text
 unset_parts s m set i [] = []
 unset_parts s m set i (f ∷ fs) = part_of s m (has set i) f ++ unset_parts s m set (i + 1) fs
@@ -102,6 +102,6 @@ set_rule = codes "rule constructor: at the end of a constructor every field must
 unfoldable pub field_lines : SceneData → Method → Mask → List FieldInfo → Text
 field_lines s m set fs = unset_parts s m set 0 fs ++ (set_rule ++ set_hint s.core (first_unset set 0 fs))
 
--- On a constructor at whose end these fields are set, and others are not.
+-- The lines about a constructor that ends with these fields set and others not.
 unfoldable pub unset_lines : SceneData → Method → Mask → Text
 unset_lines s m set = constructor_line s m ++ field_lines s m set (fields_of (slice_get s.core.entities m.entity))

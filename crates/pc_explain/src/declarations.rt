@@ -1,4 +1,4 @@
-//! The lines on a declaration that fails.
+//! The lines about a declaration that fails.
 ghost use Rattle.std.specs.Prelude.{◌≡◌, ◌++◌, OnOk, None, Some, slice_get};
 ghost use Rattle.std.specs.List.{find};
 ghost use Rattle.std.specs.Option.{option_copied};
@@ -34,7 +34,7 @@ fn push_taker(out: &mut Vec<u8>, kind: MethodKind, form: Form) -> Result<(), All
     }
 }
 
-// Appends the line on a parameter.
+// Appends the line about a parameter.
 #[tactic(auto, unfolding(crate::specs::Declarations::parameter_line))]
 fn push_parameter_line(
     alloc: Global,
@@ -54,7 +54,7 @@ fn push_parameter_line(
     push_bytes(out, b"\n")
 }
 
-// Appends the rule of sendable parameters.
+// Appends the rule about sendable parameters.
 #[tactic(auto, unfolding(crate::specs::Declarations::sendable_line))]
 fn push_sendable_line(
     out: &mut Vec<u8>,
@@ -84,7 +84,7 @@ fn push_declare_hint(alloc: Global, out: &mut Vec<u8>, name: &[u8]) -> Result<()
     push_bytes(out, b" tag\n")
 }
 
-// Appends the lines on a parameter that is not sendable.
+// Appends the lines about a parameter that is not sendable.
 #[tactic(auto, unfolding(crate::specs::Declarations::not_sendable_lines))]
 fn push_not_sendable(
     alloc: Global,
@@ -109,7 +109,7 @@ fn kind_of(core: &Core, entity: u32) -> &'static [u8]
     }
 }
 
-// Appends the line on an entity that lacks a method of a trait or an interface.
+// Appends the line about an entity that lacks a method of a trait or an interface.
 #[tactic(auto, unfolding(crate::specs::Declarations::provider_line))]
 fn push_provider_line(
     alloc: Global,
@@ -129,7 +129,7 @@ fn push_provider_line(
     push_bytes(out, b"\n")
 }
 
-// Appends what is declared and is not there.
+// Appends what is declared and missing.
 #[tactic(auto, unfolding(crate::specs::Declarations::declares_line))]
 fn push_declares_line(
     alloc: Global,
@@ -181,7 +181,7 @@ fn push_add_hint(
     push_bytes(out, b" => ..`\n")
 }
 
-// Appends that what the entity has of this name is no function.
+// Appends that what the entity has with this name is not a function.
 #[tactic(auto, unfolding(crate::specs::Declarations::other_hint))]
 fn push_other_hint(
     alloc: Global,
@@ -217,7 +217,7 @@ fn push_missing_hint(
     }
 }
 
-// Appends the lines on a method that is missing.
+// Appends the lines about a method that is missing.
 #[tactic(auto, unfolding(crate::specs::Declarations::missing_lines))]
 fn push_missing(
     alloc: Global,
@@ -235,7 +235,7 @@ fn push_missing(
     push_missing_hint(alloc, out, scene, entity, wanted, found)
 }
 
-// Whether the method does not stand for one of its name.
+// Whether the method cannot replace one with its name.
 #[tactic(auto, unfolding(crate::specs::Declarations::wants))]
 fn wants(core: &Core, given: &Method, wanted: &Method) -> bool
     ensures { result ≡ spec.wants core.now given.now wanted.now }
@@ -243,14 +243,14 @@ fn wants(core: &Core, given: &Method, wanted: &Method) -> bool
     wanted.name == given.name && first_misfit(core, wanted, given).is_some()
 }
 
-// The first of these that the method does not stand for.
+// The first of these that the method cannot replace.
 fn wanted_among<'a>(core: &Core, given: &Method, methods: &'a [Method]) -> Option<&'a Method>
     ensures { option_copied result ≡ find (spec.wants core.now given.now) methods.now }
 {
     methods.iter().find(|wanted| wants(core, given, wanted))
 }
 
-// The first method of these entities that the method does not stand for.
+// The first method of these entities that the method cannot replace.
 #[tactic(auto, unfolding(crate::specs::Declarations::wanted_from))]
 fn wanted_from<'a>(core: &'a Core, given: &Method, entities: &[u32]) -> Option<&'a Method>
     ensures { option_copied result ≡ spec.wanted_from core.now given.now entities.now }
@@ -291,7 +291,7 @@ fn push_misfit_line(
     push_bytes(out, b"\n")
 }
 
-// Appends what the method stands for, and why it does not.
+// Appends what the method should replace, and why it cannot.
 #[tactic(auto, unfolding(crate::specs::Declarations::stands_lines))]
 fn push_stands_lines(
     alloc: Global,
@@ -308,7 +308,7 @@ fn push_stands_lines(
     push_misfit_line(alloc, out, scene, wanted, given)
 }
 
-// Appends the line on a method.
+// Appends the line about a method.
 #[tactic(auto, unfolding(crate::specs::Declarations::method_line))]
 fn push_method_line(
     alloc: Global,
@@ -323,7 +323,7 @@ fn push_method_line(
     push_bytes(out, b"\n")
 }
 
-// Appends the lines on a method that does not fit.
+// Appends the lines about a method that does not fit.
 #[tactic(auto, unfolding(crate::specs::Declarations::mismatch_lines))]
 fn push_mismatch(
     alloc: Global,
@@ -342,7 +342,7 @@ fn push_mismatch(
     }
 }
 
-// Appends the lines on a parameter of a method.
+// Appends the lines about a parameter of a method.
 fn push_parameter(
     alloc: Global,
     out: &mut Vec<u8>,
@@ -361,7 +361,7 @@ fn push_parameter(
     }
 }
 
-/// Appends the lines on a declaration that fails.
+/// Appends the lines about a declaration that fails.
 #[tactic(auto, unfolding(crate::specs::Declarations::declaration_lines))]
 pub(crate) fn push_declaration_lines(
     alloc: Global,

@@ -44,7 +44,7 @@ fn scene_of<'a>(
 
 const NO_SPAN: Span = Span { start: 0, end: 0 };
 
-// Where the name of an entity stands.
+// The place of an entity's name.
 fn entity_span(core: &Core, entity: u32) -> Span
     ensures { result ≡ spec.entity_span (slice_get core.now.entities entity) }
 {
@@ -54,7 +54,7 @@ fn entity_span(core: &Core, entity: u32) -> Span
     }
 }
 
-// Where the name of a method stands.
+// The place of a method's name.
 fn method_span(core: &Core, method: u32) -> Span
     ensures { result ≡ spec.method_span (slice_get core.now.methods method) }
 {
@@ -64,7 +64,7 @@ fn method_span(core: &Core, method: u32) -> Span
     }
 }
 
-// Where the name of a method's parameter stands.
+// The place of the name of a method's parameter.
 fn param_span(method: &Method, parameter: u32) -> Span
     ensures { result ≡ spec.param_span (slice_get method.now.params parameter) }
 {
@@ -96,7 +96,7 @@ fn declaration_span(core: &Core, fault: DeclFault) -> Span
     }
 }
 
-// What is said of a declaration that fails.
+// The words for a declaration that fails.
 fn declaration_words(fault: DeclFault) -> &'static str
     ensures { result.now ≡ decl_text fault }
 {
@@ -155,7 +155,7 @@ fn notes_of(
     Ok(Some(found))
 }
 
-// Why no rule says anything of a node, by the notes of its children, if each has one.
+// Why no rule holds at a node, given the notes of its children, if each has one.
 fn reasons_by(
     alloc: Global,
     core: &Core,
@@ -182,7 +182,7 @@ fn reasons_by(
     }
 }
 
-// Why no rule says anything of a node.
+// Why no rule holds at a node.
 #[tactic(auto, using(crate::proofs::Reasons::reasons_are, crate::proofs::Reasons::ok_same))]
 fn reasons_of(
     alloc: Global,
@@ -236,7 +236,7 @@ fn is_own_rule(rule: Rule) -> bool
     }
 }
 
-// Whether the rules for a constructor that has not set all fields yet are looked at.
+// Whether the rules for a constructor that has not set all fields yet are the ones looked at.
 fn is_own(reasons: &[Reason]) -> bool
     ensures { result ≡ spec.is_own reasons.now }
 {
@@ -246,7 +246,7 @@ fn is_own(reasons: &[Reason]) -> bool
     }
 }
 
-// What is said of a reason.
+// The words for a reason.
 #[tactic(auto, unfolding(crate::specs::Explanation::told))]
 fn told(alloc: Global, stop: &Stop, reason: Reason) -> Result<Told, AllocError>
     ensures { IfOk result (λ one. one ≡ spec.told stop.now reason) }
@@ -262,7 +262,7 @@ fn told(alloc: Global, stop: &Stop, reason: Reason) -> Result<Told, AllocError>
     })
 }
 
-// What is said of reasons.
+// The words for all reasons.
 fn all_told(alloc: Global, stop: &Stop, reasons: &[Reason]) -> Result<List<Told>, AllocError>
     ensures { IfOk result (λ all. all ≡ map (spec.told stop.now) reasons.now) }
 {
@@ -273,7 +273,7 @@ fn all_told(alloc: Global, stop: &Stop, reasons: &[Reason]) -> Result<List<Told>
     Ok(all)
 }
 
-// Appends the lines on the rules.
+// Appends the lines about the rules.
 fn push_reasons(
     alloc: Global,
     out: &mut Vec<u8>,
@@ -286,7 +286,7 @@ fn push_reasons(
     push_rule_lines(out, all.as_slice())
 }
 
-// Appends the explanation of a node of which no rule says anything.
+// Appends the explanation of a node at which no rule holds.
 #[tactic(auto, unfolding(crate::specs::Explanation::node_text))]
 fn push_node_text(
     alloc: Global,
@@ -325,7 +325,7 @@ fn explain_declaration(
     Ok(List::from_vec(text))
 }
 
-// The explanation of a node of which no rule says anything, with these masks before it.
+// The explanation of a node at which no rule holds, with these masks before it.
 fn explain_node(
     alloc: Global,
     name: &str,
@@ -345,7 +345,7 @@ fn explain_node(
     Ok(List::from_vec(text))
 }
 
-// The explanation of a constructor that leaves a field unset, by the note of its body.
+// The explanation of a constructor that leaves a field unset, given the note of its body.
 #[tactic(auto, unfolding(crate::specs::Explanation::unset_text))]
 fn explain_unset(
     alloc: Global,
@@ -376,7 +376,7 @@ fn body_note(ann: &Ann, method: &Method) -> Option<Note>
     note_at(ann.notes.as_slice(), method.body?)
 }
 
-// The explanation of the node of this number, of which no rule says anything.
+// The explanation of the node with this number, at which no rule holds.
 fn explain_stop(
     alloc: Global,
     name: &str,
@@ -400,7 +400,7 @@ fn explain_stop(
     }
 }
 
-// The explanation of the constructor of this number, which leaves a field unset.
+// The explanation of the constructor with this number, which leaves a field unset.
 fn explain_left(
     alloc: Global,
     name: &str,
@@ -427,8 +427,8 @@ fn explain_left(
     }
 }
 
-/// The explanation of a source of this name with these bytes and tokens, whose core this is: why the core has no derivation.
-/// The fault is one that `check` answers.
+/// The explanation of why the core of a source has no derivation, given the source's name, bytes, tokens and core. The
+/// fault is one that `check` reports.
 ///
 /// # Errors
 /// `AllocError` if memory ran out, here or in `check`.

@@ -1,4 +1,4 @@
-//! The types of slots as far as the notes of the first nodes give them.
+//! The types of slots, as far as the notes of the first nodes determine them.
 ghost use Rattle.std.specs.Prelude.{◌≡◌, ◌<◌, None, length, take, IfOk, slice_get, slice_set};
 ghost use Rattle.pc_check.specs.Inference as inference;
 ghost use Rattle.pc_explain.specs.Known as spec;
@@ -40,7 +40,7 @@ impl<'a> Known<'a> {
         self.notes.get(node as usize).copied()
     }
 
-    // The slot at this place gets another type.
+    // Changes the type of the slot at this place.
     fn replace(&mut self, place: usize, ty: (u32, Cap))
         requires { place < length self.old.slots }
         ensures { self.new ≡ spec.ann_of (slice_set self.old.slots place ty) self.old.notes }
@@ -90,7 +90,7 @@ fn value_type(known: &Known, children: &[u32]) -> Option<(u32, Form)>
     }
 }
 
-// The type of the value of a definition, if none is written for its slot.
+// The type of a definition's value, if its slot has no written type.
 fn unwritten(known: &Known, children: &[u32], written: Option<(u32, Cap)>) -> Option<(u32, Form)>
     ensures { result ≡ inference.unwritten known.now children.now written }
 {
@@ -113,7 +113,7 @@ fn slot_type(core: &Core, known: &Known, node: &Node, slot: u32) -> Option<(usiz
     ))
 }
 
-// The same of a node that may define a slot.
+// The same for a node that may define a slot.
 fn inferred_slot(core: &Core, known: &Known, node: &Node) -> Option<(usize, (u32, Cap))>
     ensures { result ≡ inference.inferred_slot core.now known.now node.now node.now.kind }
 {
@@ -145,7 +145,7 @@ fn inferred_slot(core: &Core, known: &Known, node: &Node) -> Option<(usize, (u32
     }
 }
 
-// If the node defines a slot without a written type, the slot gets the type that follows.
+// If the node defines a slot without a written type, gives the slot the type that follows.
 fn infer_slot(core: &Core, known: &mut Known, node: &Node)
     requires { length known.old.slots ≡ length core.now.slots }
     ensures { known.new ≡ inference.with_inferred core.now known.old node.now }
@@ -156,7 +156,7 @@ fn infer_slot(core: &Core, known: &mut Known, node: &Node)
     }
 }
 
-// What these nodes give.
+// The types after these nodes.
 #[tactic(auto, using(crate::proofs::Lengths::same_length))]
 fn infer_slots(core: &Core, known: &mut Known, nodes: &[Node])
     requires { length known.old.slots ≡ length core.now.slots }
@@ -167,7 +167,7 @@ fn infer_slots(core: &Core, known: &mut Known, nodes: &[Node])
     }
 }
 
-/// The first nodes, as many as this.
+/// The first `count` nodes.
 pub(crate) fn first_nodes(nodes: &[Node], count: usize) -> &[Node]
     ensures { result.now ≡ take count nodes.now }
 {

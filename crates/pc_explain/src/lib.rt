@@ -1,9 +1,9 @@
 //! Why a core has no derivation, in words.
 //!
-//! Proved: `explain_core` writes an explanation of the fault by which `check` refuses a core, or memory ran out: the refusal's
-//! line and the source's line with carets, what the node is and what its parts are, and for each rule that is looked at the first
-//! thing that it asks and that does not hold, with what to do about it. A core has one explanation (`explanations_are_one`), and
-//! one that has a derivation has none (`accepted_has_none`).
+//! Proved: `explain_core` writes an explanation of the fault for which `check` refuses a core, or memory ran out: the
+//! refusal's line and the source's line with carets, what the node is and what its parts are, and for each rule that is
+//! looked at, its first condition that does not hold, with what to do about it. A core has at most one explanation
+//! (`explanations_are_one`), and one that has a derivation has none (`accepted_has_none`).
 #![tactic(auto)]
 
 mod declarations;

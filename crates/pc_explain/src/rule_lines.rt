@@ -1,4 +1,4 @@
-//! The lines on the rules, each with its hint.
+//! The lines about the rules, each with its hint.
 ghost use Rattle.std.specs.Prelude.{◌≡◌, ◌++◌, flat_map, OnOk};
 ghost use Rattle.std.specs.List.{list_any};
 ghost use Rattle.pc_explain.specs.RuleLines as spec;
@@ -8,8 +8,8 @@ use pc_caps::List;
 use pc_window::push_bytes;
 use std::alloc::AllocError;
 
-/// A rule that is looked at and says nothing: the sentence of what it asks and does not hold, and what to do about it, or
-/// nothing.
+/// A rule that is looked at and does not hold: the sentence of its condition that fails, and what to do about it, if
+/// anything.
 #[derive(Drop)]
 pub struct Told {
     pub rule: Rule,
@@ -56,7 +56,7 @@ fn rule_word(rule: Rule) -> &'static [u8]
     }
 }
 
-// Whether the rule fails by this sentence.
+// Whether the rule fails with this sentence.
 fn says(sentence: &[u8], told: &Told) -> bool
     ensures { result ≡ spec.says sentence.now told.now }
 {
@@ -70,7 +70,7 @@ fn one_says(sentence: &[u8], told: &[Told]) -> bool
     told.iter().any(|one| says(sentence, one))
 }
 
-// Appends the name of a later rule, if it fails by this sentence.
+// Appends the name of a later rule, if it fails with this sentence.
 #[tactic(auto, unfolding(crate::specs::RuleLines::more_name))]
 fn push_more_name(out: &mut Vec<u8>, sentence: &[u8], told: &Told) -> Result<(), AllocError>
     ensures { OnOk result (out.new.items ≡ out.old.items ++ spec.more_name sentence.now told.now) }
@@ -82,7 +82,7 @@ fn push_more_name(out: &mut Vec<u8>, sentence: &[u8], told: &Told) -> Result<(),
     Ok(())
 }
 
-// Appends the names of the later rules that fail by this sentence.
+// Appends the names of the later rules that fail with this sentence.
 fn push_more_names(out: &mut Vec<u8>, sentence: &[u8], later: &[Told]) -> Result<(), AllocError>
     ensures { OnOk result (out.new.items ≡ out.old.items ++ flat_map (spec.more_name sentence.now) later.now) }
 {
@@ -99,7 +99,7 @@ fn number_word(several: bool) -> &'static [u8]
     if several { b"rules " } else { b"rule " }
 }
 
-// Appends the names of the rules that fail by the sentence of the first.
+// Appends the names of the rules that fail with the sentence of the first.
 #[tactic(auto, unfolding(crate::specs::RuleLines::names_of))]
 fn push_names(out: &mut Vec<u8>, told: &Told, later: &[Told]) -> Result<(), AllocError>
     ensures { OnOk result (out.new.items ≡ out.old.items ++ spec.names_of told.now later.now) }
@@ -125,7 +125,7 @@ fn push_hint_line(out: &mut Vec<u8>, hint: &[u8]) -> Result<(), AllocError>
     }
 }
 
-// Appends the line on the first of these rules, and its hint.
+// Appends the line about the first of these rules, and its hint.
 #[tactic(auto, unfolding(crate::specs::RuleLines::rule_line))]
 fn push_rule_line(out: &mut Vec<u8>, told: &Told, later: &[Told]) -> Result<(), AllocError>
     ensures { OnOk result (out.new.items ≡ out.old.items ++ spec.rule_line told.now later.now) }
@@ -137,7 +137,7 @@ fn push_rule_line(out: &mut Vec<u8>, told: &Told, later: &[Told]) -> Result<(), 
     push_hint_line(out, told.hint.as_slice())
 }
 
-// Appends the line on a rule, unless an earlier one has its sentence.
+// Appends the line about a rule, unless an earlier one has its sentence.
 fn push_line(
     out: &mut Vec<u8>,
     earlier: &[Told],
@@ -152,7 +152,7 @@ fn push_line(
     push_rule_line(out, told, later)
 }
 
-/// Appends the lines on the rules, in their order. Rules that fail by the same sentence share a line.
+/// Appends the lines about the rules, in order. Rules that fail with the same sentence share a line.
 #[tactic(auto, unfolding(crate::specs::RuleLines::rule_lines))]
 pub(crate) fn push_rule_lines(out: &mut Vec<u8>, told: &[Told]) -> Result<(), AllocError>
     ensures { OnOk result (out.new.items ≡ out.old.items ++ spec.rule_lines told.now) }

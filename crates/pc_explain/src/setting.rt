@@ -1,4 +1,4 @@
-//! The lines on a constructor that leaves a field unset.
+//! The lines about a constructor that leaves a field unset.
 ghost use Rattle.std.specs.Prelude.{◌≡◌, ◌++◌, drop, true, IfOk, OnOk};
 ghost use Rattle.std.specs.Option.{option_copied};
 ghost use Rattle.pc_core.specs.Lookup.{own_nodes as own_nodes_are};
@@ -13,10 +13,10 @@ use pc_window::{push_bytes, push_number, push_place, push_quoted};
 use pc_words::{Scene, name_text, push_method, push_place_type};
 use std::alloc::{AllocError, Global};
 
-// How many places of writes are written.
+// How many places of writes are listed at most.
 const MOST: usize = 8;
 
-// Whether a node of this kind writes a field of this name.
+// Whether a node of this kind writes a field with this name.
 fn writes_name(name: u32, kind: &NodeKind) -> bool
     ensures { result ≡ spec.writes_name name kind.now }
 {
@@ -48,7 +48,7 @@ fn writes_name(name: u32, kind: &NodeKind) -> bool
     }
 }
 
-// Whether the child of this number is `this`.
+// Whether the child with this number is `this`.
 fn is_own(core: &Core, child: Option<u32>) -> bool
     ensures { result ≡ spec.is_own (spec.child_in core.now child) }
 {
@@ -61,7 +61,7 @@ fn is_own(core: &Core, child: Option<u32>) -> bool
     }
 }
 
-// Whether the node writes the field of this name of `this`.
+// Whether the node writes the field with this name of `this`.
 #[tactic(auto, unfolding(crate::specs::Setting::writes_own))]
 fn writes_own(core: &Core, name: u32, node: &Node) -> bool
     ensures { result ≡ spec.writes_own core.now name node.now }
@@ -69,7 +69,7 @@ fn writes_own(core: &Core, name: u32, node: &Node) -> bool
     writes_name(name, &node.kind) && is_own(core, node.children.as_slice().get(1).copied())
 }
 
-// What stands before a place.
+// What is written before a place.
 fn before_place(first: bool) -> &'static [u8]
     ensures { result.now ≡ spec.before_place first }
 {
@@ -80,7 +80,7 @@ fn before_place(first: bool) -> &'static [u8]
     }
 }
 
-// Where these nodes begin that write the field of this name of `this`.
+// Where those of these nodes begin that write the field with this name of `this`.
 fn writes_of(alloc: Global, core: &Core, name: u32, nodes: &[Node]) -> Result<Vec<u32>, AllocError>
     ensures { IfOk result (λ starts. starts.items ≡ spec.writes_of core.now name nodes.now) }
 {
@@ -161,14 +161,14 @@ fn own_nodes<'a>(core: &'a Core, method: &Method) -> &'a [Node]
     first_nodes(nodes_from(core.nodes(), first), end.saturating_sub(first))
 }
 
-// These nodes without the first, as many as this.
+// The nodes after the first ones.
 fn nodes_from(nodes: &[Node], first: usize) -> &[Node]
     ensures { result.now ≡ drop first nodes.now }
 {
     &nodes[first.min(nodes.len())..]
 }
 
-// Appends the line on a field that is not set.
+// Appends the line about a field that is not set.
 #[tactic(auto, unfolding(crate::specs::Setting::unset_part))]
 fn push_unset_part(
     alloc: Global,
@@ -190,7 +190,7 @@ fn push_unset_part(
     push_bytes(out, b"\n")
 }
 
-// Appends the line on a field, if it is not set.
+// Appends the line about a field, if it is not set.
 #[tactic(auto, unfolding(crate::specs::Setting::part_of))]
 fn push_part(
     alloc: Global,
@@ -209,7 +209,7 @@ fn push_part(
     }
 }
 
-// Whether the field of this index is set.
+// Whether the field with this index is set.
 fn is_set(set: Mask, index: usize) -> bool
     ensures { result ≡ has set index }
 {
@@ -219,7 +219,7 @@ fn is_set(set: Mask, index: usize) -> bool
     }
 }
 
-// Appends the lines on the fields that are not set.
+// Appends the lines about the fields that are not set.
 fn push_unset_parts(
     alloc: Global,
     out: &mut Vec<u8>,
@@ -280,7 +280,7 @@ fn push_set_hint(
     push_bytes(out, b" an initial value, or set it on every path\n")
 }
 
-// Appends the lines on the fields, the rule and what to do.
+// Appends the lines about the fields, the rule, and what to do.
 #[tactic(auto, unfolding(crate::specs::Setting::field_lines))]
 fn push_field_lines(
     alloc: Global,
@@ -300,7 +300,7 @@ fn push_field_lines(
     push_set_hint(alloc, out, scene.core(), first_unset(set, fields))
 }
 
-// The fields of an entity, if it is there.
+// The fields of an entity, if it exists.
 fn fields_of(entity: Option<&EntityDef>) -> &[FieldInfo]
     ensures { result.now ≡ spec.fields_of (option_copied entity.entry) }
 {
@@ -310,7 +310,7 @@ fn fields_of(entity: Option<&EntityDef>) -> &[FieldInfo]
     }
 }
 
-// Appends the line on the constructor.
+// Appends the line about the constructor.
 #[tactic(auto, unfolding(crate::specs::Setting::constructor_line))]
 fn push_constructor_line(
     alloc: Global,
@@ -325,7 +325,7 @@ fn push_constructor_line(
     push_bytes(out, b"\n")
 }
 
-/// Appends the lines on a constructor at whose end these fields are set, and others are not.
+/// Appends the lines about a constructor that ends with these fields set and others not.
 #[tactic(auto, unfolding(crate::specs::Setting::unset_lines))]
 pub(crate) fn push_unset_lines(
     alloc: Global,

@@ -1,4 +1,4 @@
--- What has a name already.
+-- What already has a name.
 use Rattle.std.specs.Prelude.{ℕ, Bool, ◌||◌, List, [], ◌∷◌, map, Option, Some, None, codes, is_some, if◌then◌else◌}
 use Rattle.std.specs.List.{find}
 use Rattle.std.specs.Str.{bytes_eq}
@@ -29,7 +29,7 @@ word (bearer.Entity k) = kind_word k
 
 -- ---- the first that has the name
 
--- Of places, those of things of one kind.
+-- A place, with the kind of thing that is there.
 abbrev pub as_bearer : Bearer → Option Span → Option (Bearer × Span)
 as_bearer b None = None
 as_bearer b (Some s) = Some (b, s)
@@ -58,7 +58,7 @@ unfoldable pub outer_bearer : Text → t.File → t.Entity → Text → ℕ → 
 outer_bearer bytes file e name at =
     or_else (field_bearer bytes e.fields name at) (or_else (method_bearer bytes e.methods name at) (entity_bearer bytes name at file.entities))
 
--- The first thing with the name, elsewhere than at this byte: a parameter, a local, a field, a method or an entity.
+-- The first thing with the name, other than at this byte: a parameter, a local, a field, a method or an entity.
 unfoldable pub bearer_of : Text → t.File → t.Entity → Option t.Method → Text → ℕ → Option (Bearer × Span)
 bearer_of bytes file e m name at = or_else (param_bearer bytes m name at) (or_else (local_bearer bytes e m name at) (outer_bearer bytes file e name at))
 
@@ -71,7 +71,7 @@ create_bearer bytes e at = or_else (field_bearer bytes e.fields (codes "create")
 abbrev pub is_value : Text → Bool
 is_value name = bytes_eq name (codes "None") || bytes_eq name (codes "U64") || bytes_eq name (codes "Bool") || bytes_eq name (codes "String")
 
--- What kind the entity of this name is, of those that each program has.
+-- The kind of the entity with this name, if every program has it.
 unfoldable pub built_in_kind : Text → Option EntityKind
 built_in_kind name =
     if is_value name then Some kind.Primitive
@@ -80,7 +80,7 @@ built_in_kind name =
 unfoldable pub is_built_in : Text → Bool
 is_built_in name = is_some (built_in_kind name)
 
--- The same of a file's entities.
+-- The same for a file's entities.
 abbrev pub kind_named : Text → List t.Entity → Option EntityKind
 kind_named name [] = None
 kind_named name (e ∷ es) = if bytes_eq e.name.text name then Some e.kind else kind_named name es
@@ -89,6 +89,6 @@ abbrev pub kind_or : Option EntityKind → Option EntityKind → Option EntityKi
 kind_or None other = other
 kind_or (Some k) other = Some k
 
--- The same of both.
+-- The same for both.
 unfoldable pub known_kind : Text → List t.Entity → Option EntityKind
 known_kind name es = kind_or (built_in_kind name) (kind_named name es)

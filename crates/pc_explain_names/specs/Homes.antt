@@ -1,4 +1,4 @@
--- Where in a file a byte stands.
+-- Where a byte is in a file.
 use Rattle.std.specs.Prelude.{ℕ, zero, suc, Bool, nat_le, List, [], ◌∷◌, ◌++◌, map, Option, Some, None, slice_get, count_by}
 use Rattle.pc_caps.specs.declared.span.Span.{Span}
 use Rattle.pc_tree.specs.Tree as t
@@ -9,7 +9,7 @@ use Rattle.pc_explain_names.specs.Marks.{expr, seq, locals}
 abbrev pub begins_by : ℕ → Span → Bool
 begins_by at span = nat_le span.start at
 
--- The last of the first ones, of which there are this many.
+-- The last of the first n ones.
 abbrev pub last_of : {A : Type 0} → ℕ → List A → Option A
 last_of zero xs = None
 last_of (suc n) xs = slice_get xs n
@@ -18,15 +18,15 @@ last_of (suc n) xs = slice_get xs n
 unfoldable pub place_at : t.File → ℕ → ℕ
 place_at file at = count_by (begins_by at) (map entity_span file.entities)
 
--- The entity in whose text a byte stands: the last whose name begins at or before it.
+-- The entity whose text contains a byte: the last one whose name begins at or before it.
 unfoldable pub entity_at : t.File → ℕ → Option t.Entity
 entity_at file at = last_of (place_at file at) file.entities
 
--- The same of an entity's methods. Before the first there are the fields.
+-- The same for an entity's methods. The fields come before the first method.
 unfoldable pub method_at : t.Entity → ℕ → Option t.Method
 method_at e at = last_of (count_by (begins_by at) (map method_span e.methods)) e.methods
 
--- ---- what is met there
+-- ---- what is found there
 
 abbrev pub value_marks : ℕ → Option t.Expr → List Mark
 value_marks at None = []
@@ -52,7 +52,7 @@ abbrev pub params_of : Option t.Method → List Span
 params_of None = []
 params_of (Some m) = map param_span m.params
 
--- The parameters and locals that are visible where these marks are met.
+-- The parameters and locals that are visible where these marks were found.
 unfoldable pub visible_by : Option t.Method → List Mark → List Span
 visible_by m marks = params_of m ++ locals marks
 

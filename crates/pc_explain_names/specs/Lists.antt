@@ -1,4 +1,4 @@
--- Names by the places where they stand, and lists of them in words.
+-- Names by their places, and lists of them in words.
 use Rattle.std.specs.Prelude.{ℕ, ◌-◌, Bool, true, false, ◌&&◌, not, nat_eq, nat_lt, List, [], ◌∷◌, ◌++◌, length, take, codes, decimal, if◌then◌else◌}
 use Rattle.std.specs.Str.{bytes_eq}
 use Rattle.pc_caps.specs.declared.span.Span.{Span}
@@ -9,7 +9,7 @@ use Rattle.pc_tree.specs.declared.names.Name.{Name}
 use Rattle.pc_window.specs.Places.{piece_of}
 use Rattle.pc_window.specs.Quoting.{quoted}
 
--- ---- where names stand
+-- ---- the places of names
 
 abbrev pub entity_span : t.Entity → Span
 entity_span e = e.name.span
@@ -32,13 +32,13 @@ name_span n = n.span
 abbrev pub is_named : Text → Text → Span → Bool
 is_named bytes name span = bytes_eq (piece_of bytes span) name
 
--- It is this one, and stands elsewhere than at this byte.
+-- The name at the place is this one, and the place is not this byte.
 abbrev pub is_other : Text → Text → ℕ → Span → Bool
 is_other bytes name at span = is_named bytes name span && not (nat_eq span.start at)
 
 -- ---- in words
 
--- How many names of a list are written.
+-- How many names of a list are written at most.
 abbrev pub most : ℕ
 most = 8
 
@@ -48,7 +48,7 @@ between first = if first then [] else codes ", "
 abbrev pub one_listed : Text → (first : Bool) → Span → Text
 one_listed bytes first s = between first ++ quoted (piece_of bytes s)
 
--- Names between backquotes, with a comma between two.
+-- Names between backquotes, with a comma between any two.
 abbrev pub listed : Text → (first : Bool) → List Span → Text
 listed bytes first [] = []
 listed bytes first (s ∷ ss) = one_listed bytes first s ++ listed bytes false ss

@@ -1,18 +1,18 @@
--- What is met on the way to a place in the tree of a method's body.
+-- What is found on the way to a place in the tree of a method's body.
 use Rattle.std.specs.Prelude.{ℕ, Bool, ◌&&◌, nat_eq, nat_le, nat_lt, List, [], ◌∷◌, ◌++◌, Option, Some, None, if◌then◌else◌}
 use Rattle.pc_caps.specs.declared.span.Span.{Span}
 use Rattle.pc_tree.specs.Tree as t
 use Rattle.pc_explain_names.specs.declared.marks.Mark.{Mark}
 use Rattle.pc_explain_names.specs.declared.marks.Mark.TheVariants as mark
 
--- The byte stands in the span.
+-- The byte is in the span.
 abbrev pub holds : Span → ℕ → Bool
 holds span at = nat_le span.start at && nat_lt at span.end
 
 abbrev pub when : Bool → List Mark → List Mark
 when b ms = if b then ms else []
 
--- The name of the type that an expression is.
+-- The name of the type, if the expression is one.
 abbrev pub type_in : t.Expr → Option Span
 type_in (t.type_name n) = Some n.span
 type_in (t.number n sp) = None
@@ -89,7 +89,7 @@ abbrev mutual
   one_item at (t.local f n ty e sp) = expr at e ++ when (nat_le sp.end at) (mark.Local n.span ∷ [])
   one_item at (t.plain e) = expr at e
 
--- ---- what is read off them
+-- ---- what they tell
 
 -- The locals.
 abbrev pub local_in : Mark → List Span
@@ -103,7 +103,7 @@ abbrev pub locals : List Mark → List Span
 locals [] = []
 locals (m ∷ ms) = local_in m ++ locals ms
 
--- The first that is no local.
+-- The first mark that is not a local.
 abbrev pub use_in : List Mark → Option Mark
 use_in [] = None
 use_in (mark.Local sp ∷ ms) = use_in ms

@@ -1,4 +1,4 @@
--- The lines on a fault of a file's names.
+-- The lines about a fault of a file's names.
 use Rattle.std.specs.Prelude.{ℕ, Bool, true, false, List, [], ◌∷◌, ◌++◌, map, Option, Some, None, nat_eq, codes, if◌then◌else◌}
 use Rattle.std.specs.List.{find, list_any}
 use Rattle.pc_caps.specs.declared.span.Span.{Span}
@@ -91,7 +91,7 @@ type_line true name (Some k) = codes "rule name: after `is` comes a trait or an 
 type_line false name (Some k) =
     codes "rule name: " ++ (is_a name k ++ (codes ", and only None, a primitive of the file, and a class or actor with a constructor `create` stand in an expression" ++ line_end))
 
--- The name stands in the entity's `is` list.
+-- The name is in the entity's `is` list.
 abbrev pub begins_at : ℕ → Span → Bool
 begins_at at span = nat_eq span.start at
 
@@ -101,7 +101,7 @@ is_provided e at = list_any (begins_at at) (map name_span e.provides)
 unfoldable pub outside_line : Text → t.File → t.Entity → ℕ → Text
 outside_line name file e at = type_line (is_provided e at) name (known_kind name file.entities)
 
--- By how the name is used.
+-- The lines for a name, by how it is used.
 unfoldable pub use_lines : Text → t.File → Span → t.Entity → List Member → List Span → Option Mark → Text
 use_lines bytes file span e ms visible (Some mark.Bare) = bare_lines bytes (piece_of bytes span) e ms visible
 use_lines bytes file span e ms visible (Some mark.Consumed) = consumed_lines bytes (piece_of bytes span) e visible
@@ -115,7 +115,7 @@ unfoldable pub unknown_lines : Text → t.File → Span → t.Entity → List Me
 unknown_lines bytes file span e ms m =
     node_line (piece_of bytes span) e m ++ use_lines bytes file span e ms (visible_at span.start e m) (use_in (marks_at span.start e m))
 
--- ---- a name that stands already
+-- ---- a name that is taken
 
 unfoldable pub built_in_line : Text → Text
 built_in_line name = codes "rule name: " ++ (piece name ++ (codes " is built in" ++ line_end))
@@ -135,11 +135,11 @@ bearer_lines bytes name b at = named_line bytes name b at ++ other_name_hint
 unfoldable pub built_in_lines : Text → Text
 built_in_lines name = built_in_line name ++ other_name_hint
 
--- In the body of a trait's method it is the name of a field of an entity that takes the method over.
+-- In the body of a trait's method, the name is that of a field of an entity that takes over the method.
 unfoldable pub taken_lines : Text → Text
 taken_lines name = codes "rule name: " ++ (quoted name ++ (codes " is the name of a field of an entity that takes this method over" ++ (line_end ++ other_name_hint)))
 
--- ---- a constructor `create` that is added, whose name stands already
+-- ---- a constructor `create` that is added, whose name is taken
 
 unfoldable pub added_at : Text → t.Entity → ℕ → Text
 added_at bytes e at = codes " at " ++ (place bytes at ++ (codes ", and a constructor `create` is added to " ++ (piece e.name.text ++ (codes ", which has none" ++ line_end))))
@@ -154,7 +154,7 @@ added_rule bytes e (Some b) = added_line bytes e b.0 b.1.start
 unfoldable pub added_lines : Text → t.Entity → Option t.Method → ℕ → Text
 added_lines bytes e m at = node_line (codes "create") e m ++ (added_rule bytes e (create_bearer bytes e at) ++ other_name_hint)
 
--- ---- a name that stands in an `is` list already
+-- ---- a name that is in an `is` list twice
 
 unfoldable pub again_line : Text → Text → ℕ → Text
 again_line bytes name at = codes "rule name: " ++ (quoted name ++ (codes " stands after `is` already, at " ++ (place bytes at ++ line_end)))
@@ -174,7 +174,7 @@ again_lines bytes name e m at = node_line name e m ++ (again_rule bytes name (fi
 
 -- ---- by what has the name
 
--- Nothing in the file.
+-- Nothing in the file has the name.
 unfoldable pub unborne_lines : Text → Text → t.Entity → Option t.Method → ℕ → Text
 unborne_lines bytes name e m at =
     if is_built_in name then node_line name e m ++ built_in_lines name

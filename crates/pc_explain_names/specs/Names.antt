@@ -12,7 +12,7 @@ use Rattle.pc_explain_names.specs.Homes.{entity_at, method_at}
 use Rattle.pc_explain_names.specs.Rows.{members_at}
 use Rattle.pc_explain_names.specs.NameLines.{cycle_lines, double_lines, main_lines, no_main_lines, unknown_lines}
 
--- In the entity in whose text the name stands, and in its method.
+-- In the entity whose text contains the name, and in its method.
 abbrev pub unknown_in : Text → t.File → Span → Option t.Entity → Text
 unknown_in bytes file span None = []
 unknown_in bytes file span (Some e) = unknown_lines bytes file span e (members_at file span.start) (method_at e span.start)
@@ -21,13 +21,13 @@ abbrev pub double_in : Text → t.File → Span → Option t.Entity → Text
 double_in bytes file span None = []
 double_in bytes file span (Some e) = double_lines bytes file span e (method_at e span.start)
 
--- The trait or the interface whose name stands there.
+-- The trait or the interface whose name is there.
 abbrev pub cycle_in : Text → Span → Option t.Entity → Text
 cycle_in bytes span None = []
 cycle_in bytes span (Some e) = cycle_lines e.kind (piece_of bytes span)
 
--- The explanation of a fault of the names of the file of this name with these bytes. Of a limit that is passed, and of no
--- memory, there is none.
+-- The explanation of a fault of the names of the file with this name and these bytes. There is none for a limit that is
+-- passed, or if memory ran out.
 abbrev pub names_text : Text → Text → t.File → NameFault → Text
 names_text name bytes file (fault.Double s) = head name bytes s (codes "name twice") ++ double_in bytes file s (entity_at file s.start)
 names_text name bytes file (fault.Unknown s) = head name bytes s (codes "name unknown") ++ unknown_in bytes file s (entity_at file s.start)

@@ -21,12 +21,12 @@ abbrev pub rows_if : List NameFault → t.File → List (List Member)
 rows_if [] file = map (members file.entities) file.entities
 rows_if (f ∷ fs) file = []
 
--- The members of each entity: its own methods, an added `create`, and the methods that it takes over. Of a file whose names have a
--- fault none are known: its bodies are not looked at.
+-- The members of each entity: its own methods, an added `create`, and the methods that it takes over. If the names of
+-- the file have a fault, no members are known, since its bodies are not looked at.
 unfoldable pub rows : t.File → List (List Member)
 rows file = rows_if (all_faults file) file
 
--- Those of the entity in whose text a byte stands.
+-- The members of the entity whose text contains a byte.
 unfoldable pub members_at : t.File → ℕ → List Member
 members_at file at = or_none (last_of (place_at file at) (rows file))
 

@@ -1,4 +1,4 @@
-//! What has a name already, and entities by their names.
+//! What already has a name, and entities by their names.
 ghost use Rattle.std.specs.Prelude.{◌≡◌, map, IfOk};
 ghost use Rattle.std.specs.Option.{option_map};
 ghost use Rattle.std.specs.Str.{bytes_eq};
@@ -24,7 +24,7 @@ pub enum Bearer {
     Entity(EntityKind),
 }
 
-/// A thing with a name, and where the name stands.
+/// A thing with a name, and the place of the name.
 type Found = Option<(Bearer, Span)>;
 
 /// The word for a kind of entity.
@@ -53,7 +53,7 @@ pub(crate) fn bearer_word(bearer: Bearer) -> &'static [u8]
     }
 }
 
-// What was found, as this.
+// What was found, with its kind.
 fn as_bearer(bearer: Bearer, found: Option<Span>) -> Found
     ensures { result ≡ spec.as_bearer bearer found }
 {
@@ -63,7 +63,7 @@ fn as_bearer(bearer: Bearer, found: Option<Span>) -> Found
     }
 }
 
-// The first entity with this name, elsewhere than at this byte.
+// The first entity with this name, other than at this byte.
 fn entity_bearer(bytes: &[u8], name: &[u8], at: u32, entities: &[Entity]) -> Found
     ensures { result ≡ spec.entity_bearer bytes.now name.now at (map entity_view entities.now) }
 {
@@ -75,7 +75,7 @@ fn entity_bearer(bytes: &[u8], name: &[u8], at: u32, entities: &[Entity]) -> Fou
     None
 }
 
-// The first parameter with this name, elsewhere than at this byte.
+// The first parameter with this name, other than at this byte.
 #[tactic(auto, unfolding(crate::specs::Bearers::param_bearer))]
 fn param_bearer(
     alloc: Global,
@@ -90,7 +90,7 @@ fn param_bearer(
     Ok(as_bearer(Bearer::Parameter, first_other(bytes, name, at, &spans)))
 }
 
-// The first visible local with this name, elsewhere than at this byte.
+// The first visible local with this name, other than at this byte.
 #[tactic(auto, unfolding(crate::specs::Bearers::local_bearer))]
 fn local_bearer(
     alloc: Global,
@@ -108,7 +108,7 @@ fn local_bearer(
     Ok(as_bearer(Bearer::Local, first_other(bytes, name, at, &spans)))
 }
 
-// The first field with this name, elsewhere than at this byte.
+// The first field with this name, other than at this byte.
 #[tactic(auto, unfolding(crate::specs::Bearers::field_bearer))]
 fn field_bearer(
     alloc: Global,
@@ -123,7 +123,7 @@ fn field_bearer(
     Ok(as_bearer(Bearer::Field, first_other(bytes, name, at, &spans)))
 }
 
-// The first method with this name, elsewhere than at this byte.
+// The first method with this name, other than at this byte.
 #[tactic(auto, unfolding(crate::specs::Bearers::method_bearer))]
 fn method_bearer(
     alloc: Global,
@@ -138,7 +138,7 @@ fn method_bearer(
     Ok(as_bearer(Bearer::Method, first_other(bytes, name, at, &spans)))
 }
 
-// The first member of the entity, or entity of the file, with this name, elsewhere than at this byte.
+// The first member of the entity, or else entity of the file, with this name, other than at this byte.
 #[tactic(auto, unfolding(crate::specs::Bearers::outer_bearer))]
 fn outer_bearer(
     alloc: Global,
@@ -161,8 +161,8 @@ fn outer_bearer(
     Ok(entity_bearer(bytes, name, at, file.entities.as_slice()))
 }
 
-/// The first thing with this name, elsewhere than at this byte, that is visible there: a parameter, a local, a field, a method
-/// or an entity.
+/// The first thing with this name, other than at this byte, that is visible there: a parameter, a local, a field, a
+/// method or an entity.
 #[tactic(auto, unfolding(crate::specs::Bearers::bearer_of))]
 pub(crate) fn bearer_of(
     alloc: Global,
@@ -186,7 +186,7 @@ pub(crate) fn bearer_of(
     outer_bearer(alloc, bytes, file, entity, name, at)
 }
 
-/// The field or the method of the entity that is called `create`, elsewhere than at this byte.
+/// The field or the method of the entity that is called `create`, other than at this byte.
 #[tactic(auto, unfolding(crate::specs::Bearers::create_bearer))]
 pub(crate) fn create_bearer(
     alloc: Global,
@@ -220,7 +220,7 @@ fn is_value(name: &[u8]) -> bool
         || is_text(name, "String")
 }
 
-// The kind of the entity of this name, of those that each program has.
+// The kind of the entity with this name, if every program has it.
 #[tactic(auto, unfolding(crate::specs::Bearers::built_in_kind))]
 fn built_in_kind(name: &[u8]) -> Option<EntityKind>
     ensures { result ≡ spec.built_in_kind name.now }
@@ -236,7 +236,7 @@ fn built_in_kind(name: &[u8]) -> Option<EntityKind>
     }
 }
 
-/// Whether each program has an entity of this name.
+/// Whether every program has an entity with this name.
 #[tactic(auto, unfolding(crate::specs::Bearers::is_built_in))]
 pub(crate) fn is_built_in(name: &[u8]) -> bool
     ensures { result ≡ spec.is_built_in name.now }
@@ -244,7 +244,7 @@ pub(crate) fn is_built_in(name: &[u8]) -> bool
     built_in_kind(name).is_some()
 }
 
-// The kind of the entity of this name, of those of a file.
+// The kind of the entity with this name, if a file has it.
 fn kind_named(name: &[u8], entities: &[Entity]) -> Option<EntityKind>
     ensures { result ≡ spec.kind_named name.now (map entity_view entities.now) }
 {
@@ -256,7 +256,7 @@ fn kind_named(name: &[u8], entities: &[Entity]) -> Option<EntityKind>
     None
 }
 
-/// The kind of the entity of this name, of those that each program has and those of a file.
+/// The kind of the entity with this name, if every program or the file has it.
 #[tactic(auto, unfolding(crate::specs::Bearers::known_kind))]
 pub(crate) fn known_kind(name: &[u8], entities: &[Entity]) -> Option<EntityKind>
     ensures { result ≡ spec.known_kind name.now (map entity_view entities.now) }

@@ -1,4 +1,4 @@
-//! The lines on a name that stands already.
+//! The lines about a name that is taken.
 ghost use Rattle.std.specs.Prelude.{◌≡◌, ◌++◌, IfOk, OnOk};
 ghost use Rattle.std.specs.Option.{option_map};
 ghost use Rattle.pc_explain_names.specs.NameLines as spec;
@@ -13,7 +13,7 @@ use pc_tree::{Entity, File, MethodDef};
 use pc_window::{piece_of, push_bytes, push_piece, push_place, push_quoted};
 use std::alloc::{AllocError, Global};
 
-// Appends the line on a name that is built in.
+// Appends the line about a built-in name.
 #[tactic(auto, unfolding(crate::specs::NameLines::built_in_line))]
 fn push_built_in_line(alloc: Global, out: &mut Vec<u8>, name: &[u8]) -> Result<(), AllocError>
     ensures { OnOk result (out.new.items ≡ out.old.items ++ spec.built_in_line name.now) }
@@ -23,7 +23,7 @@ fn push_built_in_line(alloc: Global, out: &mut Vec<u8>, name: &[u8]) -> Result<(
     push_bytes(out, b" is built in\n")
 }
 
-// Appends where the name stands.
+// Appends where the name is.
 #[tactic(auto, unfolding(crate::specs::NameLines::stands_at))]
 fn push_stands_at(alloc: Global, out: &mut Vec<u8>, bytes: &[u8], at: u32) -> Result<(), AllocError>
     ensures { OnOk result (out.new.items ≡ out.old.items ++ spec.stands_at bytes.now at) }
@@ -33,7 +33,7 @@ fn push_stands_at(alloc: Global, out: &mut Vec<u8>, bytes: &[u8], at: u32) -> Re
     push_bytes(out, b", which is visible here\n")
 }
 
-// Appends the line on a name that this has, at this byte.
+// Appends the line about a name that this thing has, at this byte.
 #[tactic(auto, unfolding(crate::specs::NameLines::named_line))]
 fn push_named_line(
     alloc: Global,
@@ -52,7 +52,7 @@ fn push_named_line(
     push_stands_at(alloc, out, bytes, at)
 }
 
-// Appends the lines on a name that this has, at this byte.
+// Appends the lines about a name that this thing has, at this byte.
 #[tactic(auto, unfolding(crate::specs::NameLines::bearer_lines))]
 fn push_bearer_lines(
     alloc: Global,
@@ -68,14 +68,14 @@ fn push_bearer_lines(
     push_other_name_hint(out)
 }
 
-// Appends what to do about two things of one name.
+// Appends what to do about two things with the same name.
 fn push_other_name_hint(out: &mut Vec<u8>) -> Result<(), AllocError>
     ensures { OnOk result (out.new.items ≡ out.old.items ++ spec.other_name_hint) }
 {
     push_bytes(out, b"hint: give one of the two another name\n")
 }
 
-// Appends the lines on a name that is built in.
+// Appends the lines about a built-in name.
 #[tactic(auto, unfolding(crate::specs::NameLines::built_in_lines))]
 fn push_built_in_lines(alloc: Global, out: &mut Vec<u8>, name: &[u8]) -> Result<(), AllocError>
     ensures { OnOk result (out.new.items ≡ out.old.items ++ spec.built_in_lines name.now) }
@@ -84,7 +84,7 @@ fn push_built_in_lines(alloc: Global, out: &mut Vec<u8>, name: &[u8]) -> Result<
     push_other_name_hint(out)
 }
 
-// Appends the lines on a name that a field has of an entity that takes the method over.
+// Appends the lines about a name that a field has in an entity that takes over the method.
 #[tactic(auto, unfolding(crate::specs::NameLines::taken_lines))]
 fn push_taken_lines(alloc: Global, out: &mut Vec<u8>, name: &[u8]) -> Result<(), AllocError>
     ensures { OnOk result (out.new.items ≡ out.old.items ++ spec.taken_lines name.now) }
@@ -98,7 +98,7 @@ fn push_taken_lines(alloc: Global, out: &mut Vec<u8>, name: &[u8]) -> Result<(),
     push_other_name_hint(out)
 }
 
-// Appends where the field or method `create` stands, and to which entity `create` is added.
+// Appends where the field or method `create` is, and to which entity `create` is added.
 #[tactic(auto, unfolding(crate::specs::NameLines::added_at))]
 fn push_added_at(
     alloc: Global,
@@ -116,7 +116,7 @@ fn push_added_at(
     push_bytes(out, b", which has none\n")
 }
 
-// Appends the line on a field or method `create`, at this byte.
+// Appends the line about a field or method `create`, at this byte.
 #[tactic(auto, unfolding(crate::specs::NameLines::added_line))]
 fn push_added_line(
     alloc: Global,
@@ -133,7 +133,7 @@ fn push_added_line(
     push_added_at(alloc, out, bytes, entity, at)
 }
 
-// Appends the line on the field or method `create`, if there is one.
+// Appends the line about the field or method `create`, if there is one.
 #[tactic(auto, unfolding(crate::specs::NameLines::added_rule))]
 fn push_added_rule(
     alloc: Global,
@@ -150,7 +150,7 @@ fn push_added_rule(
     }
 }
 
-// Appends the lines on a constructor `create` that is added, at this byte.
+// Appends the lines about a constructor `create` that is added, at this byte.
 #[tactic(auto, unfolding(crate::specs::NameLines::added_lines))]
 fn push_added_lines(
     alloc: Global,
@@ -168,7 +168,7 @@ fn push_added_lines(
     push_other_name_hint(out)
 }
 
-// Appends the line on a name that stands in an `is` list already, at this byte.
+// Appends the line about a name that is in an `is` list already, at this byte.
 #[tactic(auto, unfolding(crate::specs::NameLines::again_line))]
 fn push_again_line(
     alloc: Global,
@@ -186,7 +186,7 @@ fn push_again_line(
     push_bytes(out, b"\n")
 }
 
-// Appends the line on the other place of a name in an `is` list, if there is one.
+// Appends the line about the other place of a name in an `is` list, if there is one.
 #[tactic(auto, unfolding(crate::specs::NameLines::again_rule))]
 fn push_again_rule(
     alloc: Global,
@@ -203,7 +203,7 @@ fn push_again_rule(
     }
 }
 
-// The first place of the name in the entity's `is` list, elsewhere than at this byte.
+// The first place of the name in the entity's `is` list, other than at this byte.
 #[tactic(auto, unfolding(crate::specs::NameLines::first_provided))]
 fn first_provided(
     alloc: Global,
@@ -218,7 +218,7 @@ fn first_provided(
     Ok(first_other(bytes, name, at, &spans))
 }
 
-// Appends the lines on a name that stands in the entity's `is` list already.
+// Appends the lines about a name that is in the entity's `is` list already.
 #[tactic(auto, unfolding(crate::specs::NameLines::again_lines))]
 fn push_again_lines(
     alloc: Global,
@@ -237,7 +237,7 @@ fn push_again_lines(
     push_bytes(out, b"hint: take one of the two away\n")
 }
 
-// Appends the lines on a name that nothing in the file has.
+// Appends the lines about a name that nothing in the file has.
 #[tactic(auto, unfolding(crate::specs::NameLines::unborne_lines))]
 fn push_unborne_lines(
     alloc: Global,
@@ -261,7 +261,7 @@ fn push_unborne_lines(
     }
 }
 
-// Appends the lines on a name by what has it.
+// Appends the lines about a name, by what has it.
 #[tactic(auto, unfolding(crate::specs::NameLines::borne_lines))]
 fn push_borne_lines(
     alloc: Global,
@@ -284,7 +284,7 @@ fn push_borne_lines(
     }
 }
 
-// Appends the lines on a name that stands in no `is` list.
+// Appends the lines about a name that is in no `is` list.
 #[tactic(auto, unfolding(crate::specs::NameLines::named_lines))]
 fn push_named_lines(
     alloc: Global,
@@ -302,7 +302,7 @@ fn push_named_lines(
     push_borne_lines(alloc, out, bytes, name, entity, method, at, found)
 }
 
-/// Appends the lines on a name that stands already, in an entity and its method.
+/// Appends the lines about a name that is taken, in an entity and its method.
 #[tactic(auto, unfolding(crate::specs::NameLines::double_lines))]
 pub(crate) fn push_double_lines(
     alloc: Global,

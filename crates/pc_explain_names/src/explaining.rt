@@ -19,7 +19,7 @@ use pc_tree::{Entity, EntityKind, File};
 use pc_window::{piece_of, push_bytes, push_head, push_piece};
 use std::alloc::{AllocError, Global};
 
-// Appends the line on a trait or an interface.
+// Appends the line about a trait or an interface.
 #[tactic(auto, unfolding(crate::specs::NameLines::trait_line))]
 fn push_trait_line(
     alloc: Global,
@@ -48,7 +48,7 @@ fn push_chain_lines(alloc: Global, out: &mut Vec<u8>, name: &[u8]) -> Result<(),
     push_bytes(out, b"\nhint: take one `is` of the chain away\n")
 }
 
-// Appends the lines on a trait or an interface in a cycle.
+// Appends the lines about a trait or an interface in a cycle.
 #[tactic(auto, unfolding(crate::specs::NameLines::cycle_lines))]
 fn push_cycle_lines(
     alloc: Global,
@@ -62,7 +62,7 @@ fn push_cycle_lines(
     push_chain_lines(alloc, out, name)
 }
 
-// Appends the lines on the trait or the interface whose name stands in a cycle.
+// Appends the lines about the trait or the interface whose name is in a cycle.
 fn push_cycle_in(
     alloc: Global,
     out: &mut Vec<u8>,
@@ -78,7 +78,7 @@ fn push_cycle_in(
     }
 }
 
-// Appends the lines on a `Main` of another form.
+// Appends the lines about a `Main` that does not have the required form.
 #[tactic(auto, unfolding(crate::specs::NameLines::main_lines))]
 fn push_main_lines(out: &mut Vec<u8>) -> Result<(), AllocError>
     ensures { OnOk result (out.new.items ≡ out.old.items ++ lines.main_lines) }
@@ -89,7 +89,7 @@ fn push_main_lines(out: &mut Vec<u8>) -> Result<(), AllocError>
     )
 }
 
-// Appends the explanation of a file of this name that has no `Main`.
+// Appends the explanation for a file with this name that has no `Main`.
 fn push_no_main(out: &mut Vec<u8>, name: &str) -> Result<(), AllocError>
     ensures { OnOk result (out.new.items ≡ out.old.items ++ (no_main_line name.now ++ lines.no_main_lines)) }
 {
@@ -101,7 +101,7 @@ fn push_no_main(out: &mut Vec<u8>, name: &str) -> Result<(), AllocError>
     )
 }
 
-// Appends the lines on a name that nothing has, if it stands in an entity.
+// Appends the lines about a name that nothing has, if it is in an entity.
 fn push_unknown_in(
     alloc: Global,
     out: &mut Vec<u8>,
@@ -117,7 +117,7 @@ fn push_unknown_in(
     }
 }
 
-// Appends the lines on a name that nothing has, in an entity with these members.
+// Appends the lines about a name that nothing has, in an entity with these members.
 fn push_unknown_with(
     alloc: Global,
     out: &mut Vec<u8>,
@@ -133,7 +133,7 @@ fn push_unknown_with(
     push_unknown_lines(alloc, out, bytes, file, span, entity, members, method)
 }
 
-// Appends the lines on a name that nothing has, in an entity.
+// Appends the lines about a name that nothing has, in an entity.
 #[tactic(auto, unfolding(crate::specs::Rows::members_at))]
 fn push_unknown_of(
     alloc: Global,
@@ -153,7 +153,7 @@ fn push_unknown_of(
     }
 }
 
-// Appends the lines on a name that stands already, if it stands in an entity.
+// Appends the lines about a name that is taken, if it is in an entity.
 fn push_double_in(
     alloc: Global,
     out: &mut Vec<u8>,
@@ -169,7 +169,7 @@ fn push_double_in(
     }
 }
 
-// Appends the lines on a name that stands already, in an entity.
+// Appends the lines about a name that is taken, in an entity.
 fn push_double_of(
     alloc: Global,
     out: &mut Vec<u8>,
@@ -217,8 +217,8 @@ fn push_names_text(
     }
 }
 
-/// The explanation of a source of this name with these bytes, whose tree has this fault of its names. Of a limit that is
-/// passed, and of no memory, there is none, and the text is empty.
+/// The explanation of a source with this name and these bytes, whose tree has this fault of its names. For a limit that
+/// is passed, or if memory ran out, there is none, and the text is empty.
 pub fn explain_names(
     alloc: Global,
     name: &str,

@@ -1,4 +1,4 @@
-//! Where in a file a byte stands, and what is met there.
+//! Where a byte is in a file, and what is found there.
 ghost use Rattle.std.specs.Prelude.{◌≡◌, ◌++◌, map, IfOk, OnOk};
 ghost use Rattle.std.specs.List.{count_by};
 ghost use Rattle.std.specs.Option.{option_map};
@@ -24,7 +24,7 @@ fn count_before(spans: &[Span], at: u32) -> usize
     count
 }
 
-// The last of the first entities, of which there are this many.
+// The last of the first `count` entities.
 fn last_entity(entities: &List<Entity>, count: usize) -> Option<&Entity>
     ensures { option_map (λ e. entity_view e.now) result ≡ spec.last_of count (map entity_view entities.now) }
 {
@@ -35,7 +35,7 @@ fn last_entity(entities: &List<Entity>, count: usize) -> Option<&Entity>
     }
 }
 
-// The last of the first methods, of which there are this many.
+// The last of the first `count` methods.
 fn last_method(methods: &List<MethodDef>, count: usize) -> Option<&MethodDef>
     ensures { option_map (λ m. method_view m.now) result ≡ spec.last_of count (map method_view methods.now) }
 {
@@ -55,7 +55,7 @@ pub(crate) fn place_at(alloc: Global, file: &File, at: u32) -> Result<usize, All
     Ok(count_before(&spans, at))
 }
 
-/// The entity in whose text a byte stands.
+/// The entity whose text contains a byte.
 #[tactic(auto, unfolding(crate::specs::Homes::entity_at))]
 pub(crate) fn entity_at(alloc: Global, file: &File, at: u32) -> Result<Option<&Entity>, AllocError>
     ensures { IfOk result (λ found. option_map (λ e. entity_view e.now) found ≡ spec.entity_at (file_view file.now) at) }
@@ -64,7 +64,7 @@ pub(crate) fn entity_at(alloc: Global, file: &File, at: u32) -> Result<Option<&E
     Ok(last_entity(&file.entities, place))
 }
 
-/// The method of an entity in whose text a byte stands.
+/// The method of an entity whose text contains a byte.
 #[tactic(auto, unfolding(crate::specs::Homes::method_at))]
 pub(crate) fn method_at(
     alloc: Global,
@@ -77,7 +77,7 @@ pub(crate) fn method_at(
     Ok(last_method(&entity.methods, count_before(&spans, at)))
 }
 
-// Appends what is met in an initial value, if there is one.
+// Appends what is found in an initial value, if there is one.
 fn push_value(out: &mut Vec<Mark>, at: u32, value: &Option<Expr>) -> Result<(), AllocError>
     ensures { OnOk result (out.new.items ≡ out.old.items ++ spec.value_marks at (maybe_expr value.now)) }
 {
@@ -87,7 +87,7 @@ fn push_value(out: &mut Vec<Mark>, at: u32, value: &Option<Expr>) -> Result<(), 
     }
 }
 
-// Appends what is met in a body, if there is one.
+// Appends what is found in a body, if there is one.
 fn push_body(out: &mut Vec<Mark>, at: u32, body: &Option<Seq>) -> Result<(), AllocError>
     ensures { OnOk result (out.new.items ≡ out.old.items ++ spec.body_marks at (maybe_seq body.now)) }
 {
@@ -97,7 +97,7 @@ fn push_body(out: &mut Vec<Mark>, at: u32, body: &Option<Seq>) -> Result<(), All
     }
 }
 
-// Appends what is met in the initial values of fields.
+// Appends what is found in the initial values of fields.
 fn push_fields(out: &mut Vec<Mark>, at: u32, fields: &[FieldDef]) -> Result<(), AllocError>
     ensures { OnOk result (out.new.items ≡ out.old.items ++ spec.all_field_marks at (map field_view fields.now)) }
 {
@@ -107,7 +107,7 @@ fn push_fields(out: &mut Vec<Mark>, at: u32, fields: &[FieldDef]) -> Result<(), 
     Ok(())
 }
 
-/// What is met on the way to a byte: in the method's body, or in the fields' initial values.
+/// What is found on the way to a byte: in the method's body, or in the fields' initial values.
 #[tactic(auto, unfolding(crate::specs::Homes::marks_at))]
 pub(crate) fn marks_at(
     alloc: Global,
@@ -125,7 +125,7 @@ pub(crate) fn marks_at(
     Ok(marks)
 }
 
-/// Where the names of the method's parameters stand.
+/// The places of the names of the method's parameters.
 pub(crate) fn params_of(alloc: Global, method: Option<&MethodDef>) -> Result<Vec<Span>, AllocError>
     ensures { IfOk result (λ spans. spans.items ≡ spec.params_of (option_map (λ m. method_view m.now) method.entry)) }
 {
@@ -135,7 +135,7 @@ pub(crate) fn params_of(alloc: Global, method: Option<&MethodDef>) -> Result<Vec
     }
 }
 
-/// Where the names stand of the parameters and locals that are visible at a byte.
+/// The places of the names of the parameters and locals that are visible at a byte.
 #[tactic(auto, unfolding(crate::specs::Homes::visible_by))]
 pub(crate) fn visible_at(
     alloc: Global,

@@ -1,9 +1,9 @@
 //! Why the names of a file are refused, in words.
 //!
-//! Proved: `explain_names` writes exactly the explanation of a fault, or memory ran out: the refusal's line, the source's line
-//! with carets, the entity and the method in which the name stands, and the rule: for a name that nothing has, the locals,
-//! parameters, fields and methods that could stand there, with an added `create` and the methods that the entity takes over; for
-//! one that stands already, the first thing that has it.
+//! Proved: `explain_names` writes exactly the explanation of a fault, or memory ran out: the refusal's line, the
+//! source's line with carets, the entity and the method that contain the name, and the rule. For a name that nothing
+//! has, the rule lists the locals, parameters, fields and methods that could be there, including an added `create` and
+//! the methods that the entity takes over; for a name that is taken, the first thing that has it.
 #![tactic(auto)]
 
 mod bearers;

@@ -7,7 +7,7 @@ use pc_caps::Span;
 use pc_window::{piece_of, push_bytes, push_number, push_quoted};
 use std::alloc::{AllocError, Global};
 
-/// How many names of a list are written.
+/// How many names of a list are written at most.
 pub(crate) const MOST: usize = 8;
 
 // Whether the name at the place is this one.
@@ -24,14 +24,14 @@ pub(crate) fn one_is_named(bytes: &[u8], name: &[u8], spans: &[Span]) -> bool
     spans.iter().any(|span| is_named(bytes, name, *span))
 }
 
-/// Whether the name at the place is this one, and stands elsewhere than at this byte.
+/// Whether the name at the place is this one, and the place is not this byte.
 pub(crate) fn is_other(bytes: &[u8], name: &[u8], at: u32, span: Span) -> bool
     ensures { result ≡ spec.is_other bytes.now name.now at span }
 {
     is_named(bytes, name, span) && span.start != at
 }
 
-/// The first of these places that has this name, elsewhere than at this byte.
+/// The first of these places that has this name, other than at this byte.
 pub(crate) fn first_other(bytes: &[u8], name: &[u8], at: u32, spans: &[Span]) -> Option<Span>
     ensures { result ≡ find (spec.is_other bytes.now name.now at) spans.now }
 {
@@ -43,7 +43,7 @@ pub(crate) fn first_other(bytes: &[u8], name: &[u8], at: u32, spans: &[Span]) ->
     None
 }
 
-/// A comma, unless the first name comes.
+/// A comma, unless this is the first name.
 pub(crate) fn between(first: bool) -> &'static [u8]
     ensures { result.now ≡ spec.between first }
 {
@@ -64,7 +64,7 @@ fn push_one(
     push_quoted(alloc, out, piece_of(bytes, span))
 }
 
-// Appends names between backquotes, with a comma between two.
+// Appends names between backquotes, with a comma between any two.
 fn push_listed(
     alloc: Global,
     out: &mut Vec<u8>,

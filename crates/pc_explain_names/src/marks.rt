@@ -1,5 +1,5 @@
-//! What is met on the way to a place in the tree of a method's body: the locals that are visible there, and how the name there
-//! is used.
+//! What is found on the way to a place in the tree of a method's body: the locals that are visible there, and how the
+//! name there is used.
 ghost use Rattle.std.specs.Prelude.{◌≡◌, ◌++◌, ◌∷◌, [], OnOk};
 ghost use Rattle.pc_explain_names.specs.Marks as spec;
 ghost use Rattle.pc_tree.specs.View.{arm_view, arms_view, expr_view, exprs_view, item_view, items_view, other_view, seq_view, suffix_view, suffixes_view};
@@ -8,29 +8,29 @@ use pc_caps::Span;
 use pc_tree::{Arm, Expr, Item, Seq, Suffix};
 use std::alloc::AllocError;
 
-/// What is met on the way to a place.
+/// What is found on the way to a place.
 #[derive(Clone, Copy, Debug, PartialEq, Eq)]
 pub enum Mark {
-    /// A local that is visible at the place: where its name stands.
+    /// A local that is visible at the place, with the place of its name.
     Local(Span),
-    /// The place has a name alone, or before arguments.
+    /// The place has a name on its own, or before arguments.
     Bare,
     /// It has the name after `consume`.
     Consumed,
     /// It has a type name in an expression.
     Type,
-    /// It has the name after that of a type and a dot: where the type's name stands.
+    /// It has the name after a type's name and a dot, with the place of the type's name.
     Constructor(Span),
 }
 
-// Whether the byte stands in the span.
+// Whether the byte is in the span.
 fn holds(span: Span, at: u32) -> bool
     ensures { result ≡ spec.holds span at }
 {
     span.start <= at && at < span.end
 }
 
-// Appends a mark, if it is one.
+// Appends a mark, if it was met.
 fn push_when(out: &mut Vec<Mark>, met: bool, mark: Mark) -> Result<(), AllocError>
     ensures { OnOk result (out.new.items ≡ out.old.items ++ spec.when met (mark ∷ [])) }
 {
@@ -40,7 +40,7 @@ fn push_when(out: &mut Vec<Mark>, met: bool, mark: Mark) -> Result<(), AllocErro
     Ok(())
 }
 
-// Where the name stands of the type that an expression is.
+// The place of the type's name, if an expression is a type.
 fn type_in(head: &Expr) -> Option<Span>
     ensures { result ≡ spec.type_in (expr_view head.now) }
 {
@@ -63,7 +63,7 @@ fn type_in(head: &Expr) -> Option<Span>
     }
 }
 
-// Appends the mark of a name after that of a type and a dot.
+// Appends the mark of a name after a type's name and a dot.
 fn push_constructor(
     out: &mut Vec<Mark>,
     at: u32,
@@ -78,7 +78,7 @@ fn push_constructor(
     }
 }
 
-/// Appends what is met in an expression.
+/// Appends what is found in an expression.
 #[cycle(met)]
 pub(crate) fn push_expr(out: &mut Vec<Mark>, at: u32, expression: &Expr) -> Result<(), AllocError>
     ensures { OnOk result (out.new.items ≡ out.old.items ++ spec.expr at (expr_view expression.now)) }
@@ -179,7 +179,7 @@ fn push_other(out: &mut Vec<Mark>, at: u32, other: &Option<Box<Seq>>) -> Result<
     }
 }
 
-/// Appends what is met in a sequence.
+/// Appends what is found in a sequence.
 #[cycle(met)]
 pub(crate) fn push_seq(out: &mut Vec<Mark>, at: u32, seq: &Seq) -> Result<(), AllocError>
     ensures { OnOk result (out.new.items ≡ out.old.items ++ spec.seq at (seq_view seq.now)) }
@@ -242,7 +242,7 @@ pub(crate) fn push_locals(out: &mut Vec<Span>, marks: &[Mark]) -> Result<(), All
     Ok(())
 }
 
-/// How the name at the place is used: the first mark that is no local's.
+/// How the name at the place is used: the first mark that is not a local.
 pub(crate) fn use_in(marks: &[Mark]) -> Option<Mark>
     ensures { result ≡ spec.use_in marks.now }
 {

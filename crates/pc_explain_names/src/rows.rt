@@ -59,7 +59,7 @@ pub(crate) fn list_rows<'a>(
     }
 }
 
-/// The last of the first rows, of which there are this many.
+/// The last of the first `count` rows.
 pub(crate) fn last_row<'t, 'a>(
     rows: &'t List<List<Member<'a>>>,
     count: usize,
@@ -99,7 +99,7 @@ fn push_one_member(
     push_quoted(alloc, out, member.text())
 }
 
-// Appends the members' names between backquotes, with a comma between two.
+// Appends the members' names between backquotes, with a comma between any two.
 fn push_listed_members(
     alloc: Global,
     out: &mut Vec<u8>,

@@ -1,4 +1,4 @@
-//! Where the names of a file stand.
+//! The places of the names of a file.
 ghost use Rattle.std.specs.Prelude.{◌≡◌, map, IfOk};
 ghost use Rattle.pc_explain_names.specs.Lists as spec;
 ghost use Rattle.pc_tree.specs.View.{entity_view, field_view, method_view};
@@ -37,7 +37,7 @@ fn name_span(name: &Name) -> Span
     name.span
 }
 
-/// Where the names of entities stand.
+/// The places of the names of entities.
 pub(crate) fn entity_spans(alloc: Global, entities: &[Entity]) -> Result<Vec<Span>, AllocError>
     ensures { IfOk result (λ spans. spans.items ≡ map spec.entity_span (map entity_view entities.now)) }
 {
@@ -48,7 +48,7 @@ pub(crate) fn entity_spans(alloc: Global, entities: &[Entity]) -> Result<Vec<Spa
     Ok(spans)
 }
 
-/// Where the names of fields stand.
+/// The places of the names of fields.
 pub(crate) fn field_spans(alloc: Global, fields: &[FieldDef]) -> Result<Vec<Span>, AllocError>
     ensures { IfOk result (λ spans. spans.items ≡ map spec.field_span (map field_view fields.now)) }
 {
@@ -59,7 +59,7 @@ pub(crate) fn field_spans(alloc: Global, fields: &[FieldDef]) -> Result<Vec<Span
     Ok(spans)
 }
 
-/// Where the names of methods stand.
+/// The places of the names of methods.
 pub(crate) fn method_spans(alloc: Global, methods: &[MethodDef]) -> Result<Vec<Span>, AllocError>
     ensures { IfOk result (λ spans. spans.items ≡ map spec.method_span (map method_view methods.now)) }
 {
@@ -70,7 +70,7 @@ pub(crate) fn method_spans(alloc: Global, methods: &[MethodDef]) -> Result<Vec<S
     Ok(spans)
 }
 
-/// Where the names of parameters stand.
+/// The places of the names of parameters.
 pub(crate) fn param_spans(alloc: Global, params: &[ParamDef]) -> Result<Vec<Span>, AllocError>
     ensures { IfOk result (λ spans. spans.items ≡ map spec.param_span params.now) }
 {
@@ -81,7 +81,7 @@ pub(crate) fn param_spans(alloc: Global, params: &[ParamDef]) -> Result<Vec<Span
     Ok(spans)
 }
 
-/// Where names stand.
+/// The places of names.
 pub(crate) fn name_spans(alloc: Global, names: &[Name]) -> Result<Vec<Span>, AllocError>
     ensures { IfOk result (λ spans. spans.items ≡ map spec.name_span names.now) }
 {

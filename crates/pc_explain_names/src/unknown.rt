@@ -1,4 +1,4 @@
-//! The lines on a name that nothing has.
+//! The lines about a name that nothing has.
 ghost use Rattle.std.specs.Prelude.{◌≡◌, ◌++◌, false, true, IfOk, OnOk, Some};
 ghost use Rattle.std.specs.List.{list_any};
 ghost use Rattle.std.specs.Option.{option_map};
@@ -50,7 +50,7 @@ fn push_home(
     push_method_part(alloc, out, method)
 }
 
-/// Appends the line on the name.
+/// Appends the line about the name.
 #[tactic(auto, unfolding(crate::specs::NameLines::node_line))]
 pub(crate) fn push_node_line(
     alloc: Global,
@@ -129,7 +129,7 @@ fn push_bare_line(
     push_members_part(alloc, out, bytes, entity, members)
 }
 
-// Whether the entity has a field of this name.
+// Whether the entity has a field with this name.
 #[tactic(auto, unfolding(crate::specs::NameLines::has_field))]
 fn has_field(alloc: Global, bytes: &[u8], name: &[u8], entity: &Entity) -> Result<bool, AllocError>
     ensures { IfOk result (λ has. has ≡ spec.has_field bytes.now name.now (entity_view entity.now)) }
@@ -190,7 +190,7 @@ fn push_old_value_hint(
     }
 }
 
-// Appends the lines on a bare name.
+// Appends the lines about a bare name.
 #[tactic(auto, unfolding(crate::specs::NameLines::bare_lines))]
 fn push_bare_lines(
     alloc: Global,
@@ -225,7 +225,7 @@ fn push_consumed_line(
     push_bytes(out, b"\n")
 }
 
-// Appends the lines on a name after `consume`.
+// Appends the lines about a name after `consume`.
 #[tactic(auto, unfolding(crate::specs::NameLines::consumed_lines))]
 fn push_consumed_lines(
     alloc: Global,
@@ -242,7 +242,7 @@ fn push_consumed_lines(
     push_old_value_hint(alloc, out, named, name)
 }
 
-// Appends the line on a name after that of a type and a dot.
+// Appends the line about a name after a type's name and a dot.
 #[tactic(auto, unfolding(crate::specs::NameLines::constructor_line))]
 fn push_constructor_line(
     alloc: Global,
@@ -287,7 +287,7 @@ fn push_is_a(
     push_bytes(out, kind_word(kind))
 }
 
-// Appends the line on a type name after `is` that is the name of another entity.
+// Appends the line about a type name after `is` that is the name of another entity.
 #[tactic(auto, unfolding(crate::specs::NameLines::type_line))]
 fn push_provided_line(
     alloc: Global,
@@ -305,7 +305,7 @@ fn push_provided_line(
     push_bytes(out, b"\n")
 }
 
-// Appends the line on a type name in an expression that is the name of another entity.
+// Appends the line about a type name in an expression that is the name of another entity.
 #[tactic(auto, unfolding(crate::specs::NameLines::type_line))]
 fn push_expression_line(
     alloc: Global,
@@ -323,7 +323,7 @@ fn push_expression_line(
     )
 }
 
-// Appends the line on a type name, in an expression or after `is`.
+// Appends the line about a type name, in an expression or after `is`.
 #[tactic(auto, unfolding(crate::specs::NameLines::type_line))]
 fn push_type_line(
     alloc: Global,
@@ -357,7 +357,7 @@ fn one_begins_at(spans: &[Span], at: u32) -> bool
     spans.iter().any(|span| span.start == at)
 }
 
-/// Whether the name at this byte stands in the entity's `is` list.
+/// Whether the name at this byte is in the entity's `is` list.
 #[tactic(auto, unfolding(crate::specs::NameLines::is_provided))]
 pub(crate) fn is_provided(alloc: Global, entity: &Entity, at: u32) -> Result<bool, AllocError>
     ensures { IfOk result (λ is. is ≡ spec.is_provided (entity_view entity.now) at) }
@@ -366,7 +366,7 @@ pub(crate) fn is_provided(alloc: Global, entity: &Entity, at: u32) -> Result<boo
     Ok(one_begins_at(&spans, at))
 }
 
-// Appends the lines on a type name that stands in no method, or in an `is` list.
+// Appends the lines about a type name that is outside all methods, or in an `is` list.
 #[tactic(auto, unfolding(crate::specs::NameLines::outside_line))]
 fn push_outside_lines(
     alloc: Global,
@@ -383,7 +383,7 @@ fn push_outside_lines(
     push_type_line(alloc, out, provided, name, kind)
 }
 
-// Appends the lines on a name by how it is used.
+// Appends the lines about a name, by how it is used.
 #[tactic(auto, unfolding(crate::specs::NameLines::use_lines))]
 fn push_use_lines(
     alloc: Global,
@@ -414,7 +414,7 @@ fn push_use_lines(
     }
 }
 
-/// Appends the lines on a name that nothing has, in an entity with these members and its method.
+/// Appends the lines about a name that nothing has, in an entity with these members and its method.
 #[tactic(auto, unfolding(crate::specs::NameLines::unknown_lines))]
 pub(crate) fn push_unknown_lines(
     alloc: Global,

@@ -1,4 +1,4 @@
-//! Sources with a fault of names and their explanations: one for each class of fault, as `examples/refused` has them.
+//! Sources with a fault of names and their explanations: one for each class of fault, as in `examples/refused`.
 
 /// A source: its name, its bytes, and its explanation.
 pub type Case<'a> = (&'a str, &'a [u8], &'a [u8]);

@@ -1,4 +1,4 @@
--- What holds of the tokens is what is answered.
+-- What holds for the tokens is what is returned.
 use Rattle.std.proofs.Common.{◌≡◌, ℕ, ◌<◌, List, ◌∷◌, drop, length, Result, Ok, Err, refl, sym, ap, ap₂, ◌∙◌, arith, length-drop}
 use Rattle.pc_token.specs.declared.kinds.Token.{Token}
 use Rattle.pc_grammar.specs.Begins.{Answer, read, refused, deep, IsOneAnswer}
@@ -6,7 +6,7 @@ use Rattle.pc_expr.specs.declared.fault.ParseFault.{ParseFault}
 use Rattle.pc_expr.specs.declared.fault.ParseFault.TheVariants as fault
 use Rattle.pc_expr.specs.Answers.{Places, ReadsTo, Refuses, Answers, Is}
 
--- what stands behind a place tells the place
+-- what comes after a place determines the place
 same_place : (tokens : List Token) (i j : ℕ) → i < length tokens → j < length tokens → drop i tokens ≡ drop j tokens → i ≡ j
 same_place tokens i j a b e =
     let left : length (drop i tokens) ≡ length (drop j tokens) = ap length e in

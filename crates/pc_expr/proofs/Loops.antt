@@ -1,4 +1,4 @@
--- The loops of the rules, whatever they read.
+-- The repetitions of the rules, whatever they read.
 use Rattle.std.proofs.Common.{◌≡◌, ℕ, suc, ◌-◌, ◌<◌, ◌≤◌, List, [], ◌∷◌, ◌++◌, length, Option, Some, None, Ok, Err, refl, sym, ap, ◌∙◌, subst, ◌⊎◌, inl, inr, arith, append_assoc, append-nil}
 use Rattle.pc_token.specs.declared.kinds.Token.{Token}
 use Rattle.pc_expr.specs.declared.stop.ParseStop.{ParseStop}
@@ -8,7 +8,7 @@ use Rattle.pc_expr.specs.Onto.{onto}
 use Rattle.pc_expr.proofs.Parts.{stops_first}
 use Rattle.pc_grammar.specs.Reading.{Fault, Outcome, Parser, and_then, pure, many, many_step, all}
 
--- What has been read is xs, and with what the loop still reads it makes the whole.
+-- What has been read is xs, and together with what is still read it makes the whole.
 pub record Loop {A : Type 0} (next : List Token → Option (List Token)) (p : Parser A) (whole : Outcome (List A)) (rest : List Token) (xs : List A) : Type 0 where
   pub turns : ℕ
   pub enough : length rest ≤ turns
@@ -53,7 +53,7 @@ module _ {A : Type 0} (next : List Token → Option (List Token)) (p : Parser A)
     stops_here xs tokens rest begin (stop.TooDeep n) l goes s some = (loop_fails xs rest begin _ l goes s.0 some, s.1)
     stops_here xs tokens rest begin stop.Memory l goes s some = tt
 
--- The next one begins at rest: it is the first, or one behind those that have been read.
+-- The next one begins at rest: it is the first, or one after those that have been read.
 abbrev pub Turn : {A : Type 0} → (List Token → Option (List Token)) → Parser A → Outcome (List A) → List Token → List A → Type 0
 Turn next p whole rest xs =
     ((xs ≡ []) × (whole ≡ and_then (p rest) (λ x. onto next p (x ∷ []))))

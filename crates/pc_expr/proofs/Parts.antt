@@ -1,4 +1,4 @@
--- A rule with a loop reads as its parts do.
+-- A rule with a repetition reads as its parts do.
 use Rattle.std.proofs.Common.{◌≡◌, ℕ, zero, suc, ◌-◌, ◌<◌, Bool, true, false, List, [], ◌∷◌, ◌++◌, Option, Some, None, Result, Ok, Err, refl, sym, ap, ◌∙◌, if◌then◌else◌, rules}
 use Rattle.pc_tree.specs.Tree as t
 use Rattle.pc_tree.specs.View.{seq_view}
@@ -20,12 +20,12 @@ use Rattle.pc_expr.specs.Gives.{Stops, Gives}
 use Rattle.pc_expr.specs.declared.stop.ParseStop.{ParseStop}
 use Rattle.pc_expr.specs.declared.stop.ParseStop.TheVariants as stop
 
--- the same is read where the same is read in front and, whatever that is, behind it
+-- the same is read if the same is read first, and then the same after whatever that is
 pub same_behind : {A B : Type 0} (o : Outcome A) (f g : A → Parser B) → ((x : A) (rest : List Token) → f x rest ≡ g x rest) → and_then o f ≡ and_then o g
 same_behind (Ok r) f g same = same r.0 r.1
 same_behind (Err e) f g same = refl
 
--- what stops in front stops the whole
+-- what stops first stops the whole
 pub stops_first : {A B : Type 0} (tokens : List Token) (e : ParseStop) (o : Outcome A) (f : A → Parser B) → Stops tokens e o → Stops tokens e (and_then o f)
 stops_first tokens (stop.Unexpected n) o f s = (ap (λ r. and_then r f) s.0, s.1)
 stops_first tokens (stop.TooDeep n) o f s = (ap (λ r. and_then r f) s.0, s.1)
@@ -44,7 +44,7 @@ made_after : {A B : Type 0} (xs : List A) (f : List A → Parser B) (o : Outcome
 made_after xs f (Ok r) = refl
 made_after xs f (Err e) = refl
 
--- first what is read onto a list, then what is made of it
+-- first what is read is appended to a list, then the result is made of it
 pub onto_first : {A B : Type 0} (next : List Token → Option (List Token)) (p : Parser A) (xs : List A) (f : List A → Parser B) (ts : List Token)
     → and_then (all next p ts) (λ more. f (xs ++ more)) ≡ and_then (onto next p xs ts) f
 unfolding onto
@@ -54,7 +54,7 @@ seq_by_parts : (n : ℕ) (i : Inner) (ts : List Token) → seq_in n i ts ≡ seq
 unfolding seq_in seq_with seq_parts
 seq_by_parts n i ts = same_behind (item (expr_in n i) ts) _ _ (λ x rest. onto_first next_item (item (expr_in n i)) (x ∷ []) (λ is. pure (seq_of is)) rest)
 
--- the items are read, and then what is made of them
+-- the items are read, and then the sequence is made of them
 pub seq_by_items : (n : ℕ) (i : Inner) (ts : List Token) → seq_in n i ts ≡ and_then (and_then (item (expr_in n i) ts) (λ x. more_items n i (x ∷ []))) (λ is. pure (seq_of is))
 unfolding seq_parts
 seq_by_items n i ts = seq_by_parts n i ts ∙ grouped (item (expr_in n i) ts) (λ x. more_items n i (x ∷ [])) (λ is. pure (seq_of is))
@@ -105,7 +105,7 @@ taken_first : {B : Type 0} (o : Outcome Token) (b : t.Seq) (f : t.Seq → Span �
 taken_first (Ok r) b f = refl
 taken_first (Err e) b f = refl
 
--- a sequence and a word behind it
+-- a sequence and a word after it
 abbrev closed_by : Parser t.Seq → Word → Parser (t.Seq × Span)
 closed_by body word = body >>= λ b. take_if (is_word word) >>= λ close. pure (b, close.span)
 
@@ -124,7 +124,7 @@ arm_reads word body ts = same_behind (take_if (is_word word) ts) _ _ (λ opener 
 pub seq_spans : (b : Seq) → t.seq_span (seq_view b) ≡ b.span
 seq_spans b = search (rules, the_lemmas)
 
--- an arm of parts that are read
+-- an arm made of parts that are read
 pub arm_made : (word : Word) (body : Parser t.Seq) (ts us vs rest : List Token) (x : Token) (c : t.Seq × Span) (b : t.Seq)
     → take_if (is_word word) ts ≡ Ok (x, us) → closed_by body w.ThenWord us ≡ Ok (c, vs) → body vs ≡ Ok (b, rest) → arm word body ts ≡ Ok (t.arm_of c.0 b (join x.span (t.seq_span b)), rest)
 arm_made word body ts us vs rest x c b opened closed read =
@@ -167,14 +167,14 @@ recover_reads n ts some =
     ∙ one_deeper n (take_if (is_word w.RecoverWord) >>= λ opener. maybe_cap >>= λ k. body >>= λ b. take_if (is_word w.EndWord) >>= λ close. pure (t.recover k b (join opener.span close.span))) ts some
     ∙ same_behind (take_if (is_word w.RecoverWord) ts) _ _ (λ opener rest. same_behind (maybe_cap rest) _ _ (λ k more. closed_first (body more) w.EndWord (λ b sp. pure (t.recover k b (join opener.span sp)))))
 
--- what is assigned is read, and then what is made of it
+-- what is assigned is read, and then the assignment is made of it
 becomes_by_parts : (n : ℕ) (inner : Parser t.Expr) (e : t.Expr) (ts : List Token)
     → becomes n inner e ts ≡ and_then (deeper n (take_if (is_sign s.Assign) >> inner) ts) (λ r. pure (t.assign e r (join (t.span_of e) (t.span_of r))))
 unfolding becomes deeper
 becomes_by_parts zero inner e ts = refl
 becomes_by_parts (suc n) inner e ts = refl
 
--- where a place is read and an "=" follows
+-- if a place is read and an "=" follows
 pub reads_becomes : (n : ℕ) (i : Inner) (e : t.Expr) (x : Token) (ts rest more : List Token) → infix_in n i ts ≡ Ok (e, rest) → rest ≡ x ∷ more → assigns x e ≡ true
     → expr_in n i ts ≡ and_then (deeper n (λ us. and_then (take_if (is_sign s.Assign) us) (λ _. i.expr)) rest) (λ r. pure (t.assign e r (join (t.span_of e) (t.span_of r))))
 unfolding expr_in expr_with peek
@@ -186,7 +186,7 @@ reads_becomes n i e x ts rest more read here follows =
     ∙ ap (becomes n i.expr e) (sym here)
     ∙ becomes_by_parts n i.expr e rest
 
--- what is made of a list where the list is given
+-- what is made of a list, given the list
 pub gives_made : {X Y Z : Type 0} (view : X → Y) (make : Y → Z) (tokens : List Token) (r : Result (X × ℕ) ParseStop) (read : Outcome Y)
     → Gives view tokens r read → Gives (λ x. make (view x)) tokens r (and_then read (λ y. pure (make y)))
 gives_made view make tokens (Ok r) read gives = ap (λ o. and_then o (λ y. pure (make y))) gives
@@ -194,7 +194,7 @@ gives_made view make tokens (Err (stop.Unexpected p)) read gives = (ap (λ o. an
 gives_made view make tokens (Err (stop.TooDeep p)) read gives = (ap (λ o. and_then o (λ y. pure (make y))) gives.0, gives.1)
 gives_made view make tokens (Err stop.Memory) read gives = tt
 
--- where no ")" stands, there are arguments
+-- if there is no ")", there are arguments
 pub not_closed : (e : Parser t.Expr) (x : Token) (ts rest : List Token) → ts ≡ x ∷ rest → is_sign s.CloseParen x ≡ false → arg_list_parts e ts ≡ and_then (some_args e ts) (λ es. pure (t.exprs_of es))
 unfolding arg_list_parts peek
 not_closed e x ts rest here other =

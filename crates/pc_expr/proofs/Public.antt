@@ -1,4 +1,4 @@
--- From the reading to what the public calls promise.
+-- From reading to the promises of the public calls.
 use Rattle.std.proofs.Common.{◌≡◌, ℕ, zero, suc, ◌<◌, List, [], ◌∷◌, drop, length, Err, sym, ap, ◌∙◌, subst, arith}
 use Rattle.pc_token.specs.declared.kinds.Token.{Token}
 use Rattle.pc_grammar.specs.Reading.{Outcome, Parser, unexpected}

@@ -1,4 +1,4 @@
--- What the parser answers.
+-- What the parser returns.
 use Rattle.std.specs.Prelude.{◌≡◌, ◌≢◌, ℕ, ◌<◌, List, ◌∷◌, drop, length, Result, Ok, Err}
 use Rattle.pc_token.specs.declared.kinds.Token.{Token}
 use Rattle.pc_grammar.specs.Begins.{IsRead, IsRefused, IsTooDeep}
@@ -23,29 +23,29 @@ module _ {A : Type 0} (spells : A → List Token → Type 0) (depth : A → ℕ)
   abbrev pub ReadsTo : List Token → ℕ → A → ℕ → Type 0
   ReadsTo tokens at tree to = (at < to) × (to < length tokens) × IsRead spells depth n (drop at tokens) tree (drop to tokens)
 
-  -- Why there is no tree from `at` on, by the first byte of the token at which nothing begins any more, or at which only
-  -- deeper ones begin. Or memory ran out.
+  -- Why there is no tree from `at` on, by the first byte of the token with which nothing begins any more, or with which
+  -- only deeper trees begin. Or memory ran out.
   abbrev pub Refuses : List Token → ℕ → ParseFault → Type 0
   Refuses tokens at (fault.Unexpected p) = (k : ℕ) × Places tokens k p × IsRefused spells depth n (drop at tokens) (drop k tokens)
   Refuses tokens at (fault.TooDeep p) = (k : ℕ) × Places tokens k p × IsTooDeep spells depth n (drop at tokens) (drop k tokens)
   Refuses tokens at fault.Memory = Unit {0}
 
-  -- an answer of which nothing is left open: a tree and a place, or a fault that is no want of memory
+  -- a definite answer: a tree and a place, or a fault other than running out of memory
   abbrev pub Answers : List Token → ℕ → Result (A × ℕ) ParseFault → Type 0
   Answers tokens at (Ok r) = ReadsTo tokens at r.0 r.1
   Answers tokens at (Err f) = (f ≢ fault.Memory) × Refuses tokens at f
 
-  -- Whatever answer holds of the tokens is the result, unless memory ran out.
+  -- Whatever answer holds for the tokens is the result, unless memory ran out.
   abbrev pub IsOnly : {X : Type 0} → (X → A) → List Token → ℕ → Result (X × ℕ) ParseFault → Type 0
   IsOnly view tokens at result = (answer : Result (A × ℕ) ParseFault) → Answers tokens at answer → Is view result answer
 
--- a stop stands at a token
+-- a stop is at a token
 abbrev pub StopsAtToken : List Token → ParseStop → Type 0
 StopsAtToken tokens (stop.Unexpected k) = k < length tokens
 StopsAtToken tokens (stop.TooDeep k) = k < length tokens
 StopsAtToken tokens stop.Memory = Unit {0}
 
--- a fault is a stop, by the byte at which its token begins
+-- the fault is that of the stop, given by the byte at which its token begins
 abbrev pub Names : List Token → ParseStop → ParseFault → Type 0
 Names tokens (stop.Unexpected k) f = (p : ℕ) × (f ≡ fault.Unexpected p) × Places tokens k p
 Names tokens (stop.TooDeep k) f = (p : ℕ) × (f ≡ fault.TooDeep p) × Places tokens k p

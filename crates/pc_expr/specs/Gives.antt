@@ -1,4 +1,4 @@
--- What a rule of the parser gives, by what reading with one token ahead gives.
+-- What a rule of the parser returns, in terms of reading with one token of lookahead.
 use Rattle.std.specs.Prelude.{◌≡◌, ℕ, ◌<◌, List, [], ◌∷◌, drop, length, Result, Ok, Err}
 use Rattle.pc_token.specs.declared.kinds.Token.{Token}
 use Rattle.pc_token.specs.declared.kinds.TokenKind.TheVariants as k
@@ -12,7 +12,7 @@ EndsWithEnd [] = ⊥
 EndsWithEnd (x ∷ []) = x.kind ≡ k.End
 EndsWithEnd (x ∷ y ∷ ts) = EndsWithEnd (y ∷ ts)
 
--- a token stands there, and the tokens from it on end with `End`
+-- there is a token at this place, and the tokens from it on end with `End`
 pub record At (tokens : List Token) (at : ℕ) : Type 0 where
   pub within : at < length tokens
   pub ends : EndsWithEnd (drop at tokens)

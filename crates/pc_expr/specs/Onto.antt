@@ -1,4 +1,4 @@
--- The loops of the grammar, and the rules around them.
+-- The repetitions of the grammar, and the rules around them.
 use Rattle.std.specs.Prelude.{ℕ, List, [], ◌∷◌, ◌++◌, Option, Some, None, if◌then◌else◌}
 use Rattle.pc_caps.specs.declared.span.Span.{Span}
 use Rattle.pc_tree.specs.Tree as t
@@ -13,7 +13,7 @@ use Rattle.pc_grammar.specs.Spells.{join}
 use Rattle.pc_grammar.specs.Asking.{op_of}
 use Rattle.pc_grammar.specs.Reading.{Parser, Inner, ◌>>=◌, pure, name, type_name, refuse, leaf, peek, deeper, take_if, all, next_item, after, at, is_op, begins_suffix, item, expr_in, seq_of, arm, other, term, infix_of, atom, suffix, chain_of}
 
--- what is read as long as `next` says where one more begins, behind what has been read
+-- what is read as long as `next` says where one more begins, appended to what was read before
 unfoldable pub onto : {A : Type 0} → (List Token → Option (List Token)) → Parser A → List A → Parser (List A)
 onto next p xs = all next p >>= λ more. pure (xs ++ more)
 
@@ -52,7 +52,7 @@ arg_list_by e x = if is_sign s.CloseParen x then pure t.no_exprs else (some_args
 unfoldable pub arg_list_parts : Parser t.Expr → Parser t.Exprs
 arg_list_parts e = peek >>= arg_list_by e
 
--- Op Term {Op Term}, behind a term
+-- Op Term {Op Term}, after a term
 unfoldable pub chain_terms : ℕ → Inner → Op → t.Expr → Parser t.Expr
 chain_terms n i o e = more_terms n i o (e ∷ []) >>= λ es. pure (infix_of o es)
 
@@ -79,7 +79,7 @@ first_arm (a ∷ more) = t.arm_span a
 unfoldable pub if_parts : ℕ → Parser t.Seq → Parser t.Expr
 if_parts n body = deeper n (arms body >>= λ as'. other body >>= λ o. take_if (is_word w.EndWord) >>= λ close. pure (t.if_ (t.arms_of as') o (join (first_arm as') close.span)))
 
--- a name, and a type name, as an expression
+-- a name, or a type name, as an expression
 unfoldable pub named : Parser t.Expr
 named = name >>= λ m. pure (t.name m)
 

@@ -1,4 +1,4 @@
-//! What may stand before an `=`.
+//! What may come before an `=`.
 ghost use Rattle.std.specs.Prelude.{◌≡◌, false};
 ghost use Rattle.pc_tree.specs.View.{expr_view, suffix_view, suffixes_view};
 ghost use Rattle.pc_grammar.specs.Asking as grammar;
@@ -8,7 +8,7 @@ ghost use Rattle.pc_grammar.specs.Reading as reading;
 use pc_token::{Sign, Token, Word, is_sign};
 use pc_tree::{Expr, Suffix};
 
-/// The word before a local that is fixed, or is not.
+/// The keyword of a local, `let` if it is fixed.
 pub fn local_word(fixed: bool) -> Word
     ensures { result ≡ grammar.local_word fixed }
 {
@@ -35,7 +35,7 @@ fn ends_in_dot(suffixes: &[Suffix]) -> bool
     dot
 }
 
-/// Whether it may stand before an `=`.
+/// Whether it may come before an `=`.
 fn is_place(expression: &Expr) -> bool
     ensures { result ≡ spells.is_place (expr_view expression.now) }
 {
@@ -58,7 +58,7 @@ fn is_place(expression: &Expr) -> bool
     }
 }
 
-/// Whether the token is an `=` that follows a place.
+/// Whether the token is an `=` after something that can be assigned.
 pub fn assigns(token: &Token, expression: &Expr) -> bool
     ensures { result ≡ reading.assigns token.now (expr_view expression.now) }
 {

@@ -1,9 +1,9 @@
-//! The parser of sequences and expressions: the tree that tokens spell, or the first token at which there is none.
+//! The parser of sequences and expressions: the tree that tokens spell, or the first token that rules one out.
 //! `docs/grammar.md` has the grammar in words.
 //!
-//! Proved: `seq`, `expr` and `infix` read the tree that the tokens spell from a place on, up to the first token that
-//! does not go on with it; or name the first token with which nothing goes on, or that opens a level too many.
-//! Whichever of these holds of the tokens is the answer, or memory ran out.
+//! Proved: `seq`, `expr` and `infix` return the tree that the tokens spell from a place on, up to the first token that
+//! does not continue it; or name the first token with which nothing continues, or which opens a level too many.
+//! Whichever of these holds for the tokens is the result, or memory ran out.
 #![tactic(auto)]
 
 mod asking;

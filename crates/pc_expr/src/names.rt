@@ -61,7 +61,7 @@ pub fn type_name(alloc: Global, tokens: &[Token], at: usize) -> Result<(Name, us
     }
 }
 
-/// A capability, where one is written, and the place behind it.
+/// A capability, if one is written, and the place after it.
 #[tactic(auto, using(crate::proofs::Ends::is_cap_not_end), unfolding(pc_grammar::specs::Reading::maybe_cap, pc_grammar::specs::Reading::peek, pc_grammar::specs::Reading::take_if))]
 pub fn maybe_cap(tokens: &[Token], at: usize) -> (Option<Cap>, usize)
     requires { At tokens.now at }
@@ -74,7 +74,7 @@ pub fn maybe_cap(tokens: &[Token], at: usize) -> (Option<Cap>, usize)
     }
 }
 
-/// A type, as locals, fields and parameters have it: without a `^`.
+/// A type, as in locals, fields and parameters: without a `^`.
 #[tactic(auto, unfolding(pc_grammar::specs::Reading::written_type))]
 pub fn written_type(
     alloc: Global,
@@ -91,7 +91,7 @@ pub fn written_type(
     Ok((TypeRef { name, cap, hat }, to))
 }
 
-/// A type behind a `:`, where one is written.
+/// A type after a `:`, if one is written.
 #[tactic(auto, unfolding(pc_grammar::specs::Reading::maybe_type, pc_grammar::specs::Reading::peek))]
 pub fn maybe_type(
     alloc: Global,

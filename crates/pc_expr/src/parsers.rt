@@ -1,5 +1,5 @@
-//! For a parser that stands on this one: single tokens, names and types, and two rules by the levels that are left. Here a
-//! token is named by its place among the tokens.
+//! For parsers built on this one: single tokens, names and types, and two rules with the number of levels left. Here a
+//! token is given by its place in the list of tokens.
 pub use crate::asking::local_word;
 pub use crate::names::{maybe_cap, name, type_name, written_type};
 pub use crate::parsing::fault;

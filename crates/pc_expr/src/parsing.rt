@@ -14,7 +14,7 @@ use pc_token::Token;
 use pc_tree::{Expr, Seq};
 use std::alloc::Global;
 
-/// How many levels may be opened, one in another.
+/// How many nested levels may be opened.
 pub const LEVELS: u16 = 200;
 
 fn begin(tokens: &[Token], at: usize) -> u32
@@ -24,7 +24,7 @@ fn begin(tokens: &[Token], at: usize) -> u32
     tokens[at].span.start
 }
 
-/// The fault of a stop, by the offset of its token.
+/// The fault of a stop, with the offset of its token.
 pub fn fault(tokens: &[Token], stop: ParseStop) -> ParseFault
     requires { StopsAtToken tokens.now stop }
     ensures { Names tokens.now stop result }
@@ -36,11 +36,11 @@ pub fn fault(tokens: &[Token], stop: ParseStop) -> ParseFault
     }
 }
 
-/// The sequence that the tokens spell from a place on, and the place of the first token that does not go on with it.
+/// The sequence that the tokens spell from a place on, and the place of the first token that does not continue it.
 ///
-/// `level` is the level at which the sequence stands: a body stands at level 1. The grammar is that of `docs/grammar.md`;
-/// it goes on as long as some sequence, of any depth, begins with the tokens so far. `Unexpected` names the first token
-/// with which none begins, where those before it are none; `TooDeep` the first token that opens level 201.
+/// `level` is the level of the sequence: a body is at level 1. The grammar is that of `docs/grammar.md`; reading
+/// continues as long as some sequence, of any depth, begins with the tokens so far. `Unexpected` names the first token
+/// with which none begins, if those before it spell none; `TooDeep` the first token that opens level 201.
 pub fn seq(
     alloc: Global,
     tokens: &[Token],
@@ -50,11 +50,11 @@ pub fn seq(
     requires ends { EndsWithEnd tokens.now }
     requires within { at < length tokens.now }
     requires level { level ≤ level_limit }
-    // The tree that the tokens spell up to the place, where nothing goes on with it.
+    // The tree that the tokens spell up to the place, at which nothing continues it.
     ensures read { IfOk result (λ r. ReadsTo SpellsSeq levels.seq_depth (level_limit - level) tokens.now at (seq_view r.0) r.1) }
     // Why there is none, or memory ran out.
     ensures refused { IfErr result (Refuses SpellsSeq levels.seq_depth (level_limit - level) tokens.now at) }
-    // Whatever answer holds of the tokens is the result, unless memory ran out.
+    // Whatever answer holds for the tokens is the result, unless memory ran out.
     ensures exact { IsOnly SpellsSeq levels.seq_depth (level_limit - level) seq_view tokens.now at result }
 {
     match rules::seq(alloc, tokens, at, LEVELS - level) {
@@ -63,7 +63,7 @@ pub fn seq(
     }
 }
 
-/// The expression that the tokens spell from a place on, as `seq` does it for a sequence.
+/// The expression that the tokens spell from a place on, as with `seq`.
 pub fn expr(
     alloc: Global,
     tokens: &[Token],
@@ -73,11 +73,11 @@ pub fn expr(
     requires ends { EndsWithEnd tokens.now }
     requires within { at < length tokens.now }
     requires level { level ≤ level_limit }
-    // The tree that the tokens spell up to the place, where nothing goes on with it.
+    // The tree that the tokens spell up to the place, at which nothing continues it.
     ensures read { IfOk result (λ r. ReadsTo Spells levels.depth (level_limit - level) tokens.now at (expr_view r.0) r.1) }
     // Why there is none, or memory ran out.
     ensures refused { IfErr result (Refuses Spells levels.depth (level_limit - level) tokens.now at) }
-    // Whatever answer holds of the tokens is the result, unless memory ran out.
+    // Whatever answer holds for the tokens is the result, unless memory ran out.
     ensures exact { IsOnly Spells levels.depth (level_limit - level) expr_view tokens.now at result }
 {
     match rules::expr(alloc, tokens, at, LEVELS - level) {
@@ -86,7 +86,7 @@ pub fn expr(
     }
 }
 
-/// The expression without `=` that the tokens spell from a place on, as `seq` does it for a sequence.
+/// The expression without `=` that the tokens spell from a place on, as with `seq`.
 pub fn infix(
     alloc: Global,
     tokens: &[Token],
@@ -96,11 +96,11 @@ pub fn infix(
     requires ends { EndsWithEnd tokens.now }
     requires within { at < length tokens.now }
     requires level { level ≤ level_limit }
-    // The tree that the tokens spell up to the place, where nothing goes on with it.
+    // The tree that the tokens spell up to the place, at which nothing continues it.
     ensures read { IfOk result (λ r. ReadsTo SpellsInfix levels.depth (level_limit - level) tokens.now at (expr_view r.0) r.1) }
     // Why there is none, or memory ran out.
     ensures refused { IfErr result (Refuses SpellsInfix levels.depth (level_limit - level) tokens.now at) }
-    // Whatever answer holds of the tokens is the result, unless memory ran out.
+    // Whatever answer holds for the tokens is the result, unless memory ran out.
     ensures exact { IsOnly SpellsInfix levels.depth (level_limit - level) expr_view tokens.now at result }
 {
     match rules::infix(alloc, tokens, at, LEVELS - level) {

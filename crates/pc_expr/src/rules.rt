@@ -24,7 +24,7 @@ use pc_token::{Sign, Token, TokenKind, Word, is_sign, is_word};
 use pc_tree::{Arm, Expr, Item, Op, Seq, Suffix, join, span_of};
 use std::alloc::Global;
 
-/// Item {Next Item}, where so many levels may still be opened.
+/// Item {Next Item}, if `left` levels may still be opened.
 #[cycle(rules)]
 #[tactic(auto, using(pc_tree::proofs::Views::view_seq, crate::proofs::Parts::seq_by_items), unfolding(pc_grammar::specs::Reading::seq_of))]
 pub fn seq(alloc: Global, tokens: &[Token], at: usize, left: u16) -> Result<(Seq, usize), ParseStop>
@@ -139,7 +139,7 @@ pub fn expr(
     }
 }
 
-/// "=" Expr: the expression, behind a place.
+/// "=" Expr, after the expression that is assigned to.
 #[cycle(rules)]
 #[tactic(auto, using(pc_grammar::proofs::Levels::no_deeper, pc_grammar::proofs::Levels::one_deeper, pc_grammar::proofs::Levels::inner_expr))]
 fn becomes(
@@ -159,7 +159,7 @@ fn becomes(
     expr(alloc, tokens, begin, left - 1)
 }
 
-/// A place and the expression that is assigned to it.
+/// The assignment of an expression.
 fn assigned(alloc: Global, place: Expr, right: Expr) -> Result<Expr, ParseStop>
     ensures ok { IfOk result (λ e. expr_view e ≡ t.assign (expr_view place) (expr_view right) (spells.join (t.span_of (expr_view place)) (t.span_of (expr_view right)))) }
     ensures err { IfErr result (λ e. e ≡ Memory) }
@@ -174,7 +174,7 @@ fn assigned(alloc: Global, place: Expr, right: Expr) -> Result<Expr, ParseStop>
     }
 }
 
-/// A place and the expression that is assigned to it, with where they lie.
+/// The assignment of an expression, with its spans.
 #[tactic(auto, using(pc_tree::proofs::Views::view_assign))]
 fn assign(alloc: Global, left: Box<Expr>, right: Expr, span: Span) -> Result<Expr, ParseStop>
     ensures ok { IfOk result (λ e. expr_view e ≡ t.assign (expr_view left.value) (expr_view right) span) }
@@ -189,7 +189,7 @@ fn assign(alloc: Global, left: Box<Expr>, right: Expr, span: Span) -> Result<Exp
     }
 }
 
-/// Term {Op Term}, where so many levels may still be opened.
+/// Term {Op Term}, if `left` levels may still be opened.
 #[cycle(rules)]
 #[tactic(auto, using(crate::proofs::Parts::infix_by_parts), unfolding(crate::specs::Onto::infix_parts, pc_grammar::specs::Reading::peek))]
 pub fn infix(
@@ -209,7 +209,7 @@ pub fn infix(
     }
 }
 
-/// {Op Term}, behind a term.
+/// {Op Term}, after a term.
 #[cycle(rules)]
 #[tactic(auto, using(pc_tree::proofs::Views::view_infix), unfolding(crate::specs::Onto::chain_terms, pc_grammar::specs::Reading::infix_of))]
 fn operators(
@@ -231,7 +231,7 @@ fn operators(
     Ok((Expr::Infix { op, terms, span }, to))
 }
 
-/// {Op Term}, behind some terms.
+/// {Op Term}, after some terms.
 #[cycle(rules)]
 fn more_terms(
     alloc: Global,
@@ -319,7 +319,7 @@ fn postfix(
     }
 }
 
-/// An atom with its suffixes; alone, where there are none.
+/// An atom with its suffixes; the atom alone if there are none.
 #[tactic(auto, using(pc_tree::proofs::Views::view_chain), unfolding(pc_grammar::specs::Reading::chain_of))]
 fn chain(alloc: Global, head: Expr, suffixes: List<Suffix>) -> Result<Expr, ParseStop>
     ensures ok { IfOk result (λ e. expr_view e ≡ reading.chain_of (expr_view head) (map suffix_view suffixes)) }
@@ -337,7 +337,7 @@ fn chain(alloc: Global, head: Expr, suffixes: List<Suffix>) -> Result<Expr, Pars
     })
 }
 
-/// {"." Name | "(" [Expr {"," Expr}] ")"}, behind some suffixes.
+/// {"." Name | "(" [Expr {"," Expr}] ")"}, after some suffixes.
 #[cycle(rules)]
 fn more_suffixes(
     alloc: Global,
@@ -446,7 +446,7 @@ fn some_args(
     }
 }
 
-/// One token, or what stands between brackets.
+/// One token, or something in brackets.
 #[cycle(rules)]
 #[tactic(auto, using(pc_tree::proofs::Views::view_number, pc_tree::proofs::Views::view_truth, pc_tree::proofs::Views::view_this), unfolding(pc_grammar::specs::Reading::atom, pc_grammar::specs::Reading::peek, pc_grammar::specs::Reading::take_if, crate::specs::Onto::named, crate::specs::Onto::type_named, crate::specs::Onto::text_at))]
 fn atom(alloc: Global, tokens: &[Token], at: usize, left: u16) -> Result<(Expr, usize), ParseStop>
@@ -536,7 +536,7 @@ fn arms(
     more_arms(alloc, tokens, to, left, arms)
 }
 
-/// {"elseif" Seq "then" Seq}, behind some arms.
+/// {"elseif" Seq "then" Seq}, after some arms.
 #[cycle(rules)]
 fn more_arms(
     alloc: Global,
@@ -559,7 +559,7 @@ fn more_arms(
     Ok((arms, to))
 }
 
-/// "if" Seq "then" Seq, or the same with another word.
+/// "if" Seq "then" Seq, or the same with another keyword.
 #[cycle(rules)]
 #[tactic(auto, using(pc_tree::proofs::Views::view_arm, crate::proofs::Parts::arm_reads))]
 fn arm(
@@ -587,7 +587,7 @@ fn arm(
     }
 }
 
-/// Seq and the word behind it, with where that word lies.
+/// Seq and the keyword after it, with the span of that keyword.
 #[cycle(rules)]
 #[tactic(auto, using(crate::proofs::Ends::is_word_not_end), unfolding(pc_grammar::specs::Reading::take_if))]
 fn closed(
@@ -661,7 +661,7 @@ fn repetition(
     }
 }
 
-/// What is done again as long as a condition holds.
+/// A loop with its condition and body.
 #[tactic(auto, using(pc_tree::proofs::Views::view_while))]
 fn repeated(alloc: Global, cond: Seq, body: Seq, span: Span) -> Result<Expr, ParseStop>
     ensures ok { IfOk result (λ e. expr_view e ≡ t.while_ (seq_view cond) (seq_view body) span) }

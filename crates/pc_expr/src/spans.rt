@@ -1,4 +1,4 @@
-//! Where the parts of a tree lie in the text.
+//! The spans of parts of a tree in the text.
 ghost use Rattle.std.specs.Prelude.{◌≡◌, map};
 ghost use Rattle.pc_tree.specs.Tree as t;
 ghost use Rattle.pc_tree.specs.View.{expr_view, item_view, suffix_view, arm_view};

@@ -1,17 +1,17 @@
-//! Why a rule of the parser gives nothing, by the place of a token.
+//! Why a rule of the parser returns no tree, by the place of a token.
 ghost use Rattle.pc_expr.specs.declared.stop.ParseStop.TheVariants.{Memory};
 ghost use Rattle.std.specs.Prelude.{◌≡◌};
 
 use std::alloc::{AllocError, AllocFailed};
 
-/// Why a rule gives nothing, with the place of a token among the tokens.
+/// Why a rule returns no tree, with the place of a token in the list of tokens.
 #[derive(Clone, Copy, Debug, PartialEq, Eq)]
 pub enum ParseStop {
     /// With the token at this place nothing begins any more.
     Unexpected(usize),
     /// The token at this place opens a level too many.
     TooDeep(usize),
-    /// There was no more memory.
+    /// Memory ran out.
     Memory,
 }
 

@@ -1,4 +1,4 @@
-//! Single tokens: looking at them, taking them, and where a list goes on.
+//! Single tokens: looking at them, taking them, and where a list continues.
 ghost use Rattle.std.specs.Prelude.{◌≡◌, ◌≢◌, ◌+◌, ◌∷◌, ◌≤◌, drop, IfOk, IfSome, option_map};
 ghost use Rattle.pc_token.specs.declared.kinds.TokenKind.TheVariants.{End};
 ghost use Rattle.pc_token.specs.declared.signs.Sign.TheVariants.{Comma};
@@ -22,7 +22,7 @@ pub fn look(tokens: &[Token], at: usize) -> &Token
     &tokens[at]
 }
 
-/// The sign, if it stands there.
+/// The sign and the place after it, if it is there.
 #[tactic(auto, using(crate::proofs::Ends::is_sign_not_end), unfolding(pc_grammar::specs::Reading::take_if))]
 pub fn take_sign(tokens: &[Token], at: usize, sign: Sign) -> Result<(&Token, usize), ParseStop>
     requires { At tokens.now at }
@@ -37,7 +37,7 @@ pub fn take_sign(tokens: &[Token], at: usize, sign: Sign) -> Result<(&Token, usi
     }
 }
 
-/// The word, if it stands there.
+/// The word and the place after it, if it is there.
 #[tactic(auto, using(crate::proofs::Ends::is_word_not_end), unfolding(pc_grammar::specs::Reading::take_if))]
 pub fn take_word(tokens: &[Token], at: usize, word: Word) -> Result<(&Token, usize), ParseStop>
     requires { At tokens.now at }
@@ -69,7 +69,7 @@ pub fn next_item(tokens: &[Token], at: usize) -> Option<usize>
     }
 }
 
-/// Behind the comma, if one stands there.
+/// The place after the comma, if there is one.
 #[tactic(auto, using(crate::proofs::Ends::is_sign_not_end), unfolding(pc_grammar::specs::Reading::after))]
 pub fn after_comma(tokens: &[Token], at: usize) -> Option<usize>
     requires { At tokens.now at }
@@ -100,7 +100,7 @@ fn is_op(token: &Token, op: Op) -> bool
     }
 }
 
-/// Behind the operator, if it stands there.
+/// The place after the operator, if it is there.
 #[tactic(auto, using(crate::proofs::Ends::is_op_not_end), unfolding(pc_grammar::specs::Reading::after))]
 pub fn after_op(tokens: &[Token], at: usize, op: Op) -> Option<usize>
     requires { At tokens.now at }
@@ -121,7 +121,7 @@ fn begins_suffix(token: &Token) -> bool
     is_sign(token, Sign::Dot) || (is_sign(token, Sign::OpenParen) && !token.first)
 }
 
-/// Here, if a suffix begins here.
+/// This place, if a suffix begins here.
 #[tactic(auto, unfolding(pc_grammar::specs::Reading::at))]
 pub fn at_suffix(tokens: &[Token], at: usize) -> Option<usize>
     requires { At tokens.now at }
@@ -135,7 +135,7 @@ pub fn at_suffix(tokens: &[Token], at: usize) -> Option<usize>
     }
 }
 
-/// Here, if an `elseif` stands here.
+/// This place, if there is an `elseif` here.
 #[tactic(auto, unfolding(pc_grammar::specs::Reading::at))]
 pub fn at_elseif(tokens: &[Token], at: usize) -> Option<usize>
     requires { At tokens.now at }

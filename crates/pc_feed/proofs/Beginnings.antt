@@ -39,7 +39,7 @@ nodes_cut (s ∷ all) (t ∷ notes) more e =
 same_slot : (a b : ℕ × Cap) → slot_of a ≡ slot_of b → a ≡ b
 same_slot (a, k) (b, j) e = let p : a ≡ b = cc in let q : k ≡ j = cc in ap (λ x. (x, k)) p ∙ ap (λ x. (b, x)) q
 
--- Fewer slots than there are: more follow.
+-- If there are fewer slots than in the core, more follow.
 slots_cut : (all slots : Slots) (notes : List Note) (more : List Line) → map slot_of all ++ map line.Node notes ≡ map slot_of slots ++ more → length slots ≤ length all
     → (rest : Slots) × (all ≡ slots ++ rest) × (map slot_of rest ++ map line.Node notes ≡ more)
 slots_cut all [] notes more e l = (all, refl, e)

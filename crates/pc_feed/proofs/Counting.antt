@@ -1,4 +1,4 @@
--- Which lines end in some bytes: counts, slots and nodes, as many as the counts say.
+-- Which lines end in some bytes: counts, slots and nodes, in the numbers that the counts state.
 use Rattle.std.specs.Prelude.{◌≡◌, ℕ, suc, ◌+◌, ◌<◌, ◌≤◌, Bool, true, false, cond, ◌&&◌, ◌==◌, nat_le, List, [], ◌∷◌, ◌++◌, length, map, Option, Some, None, option_map, Result, Ok, Err, refl}
 use Rattle.std.proofs.Common.{subst, arith}
 use Rattle.std.proofs.lemmas.Option.{same_Some}
@@ -60,7 +60,7 @@ checked_fits c n (Some k) l h e = subst (LineFits c n) (limits_keep k l e) (h k 
 abbrev Answer : Type 0
 Answer = Result (Option Line) LineFault
 
--- What was answered fits, and the counts and the number are those behind it.
+-- The result fits, and the counts and the number are those after it.
 abbrev Goes : Taken → Answer → Taken → Type 0
 Goes t (Ok (Some l)) u = LineFits t.counts t.ended l × (u.counts ≡ counts_with t.counts l) × (u.ended ≡ t.ended + 1)
 Goes t (Ok None) u = (u.counts ≡ t.counts) × (u.ended ≡ t.ended)
@@ -152,7 +152,7 @@ counted_slots c d n m ((e, k) ∷ slots) notes h =
     let size : length ((e, k) ∷ slots) ≡ suc (length slots) = refl in
     (more.0, omega (arith, same, size))
 
--- behind the first line, the counts are its, and the number is one more than there are slots and nodes
+-- after the first line, the counts are its own, and the number is one more than that of slots and nodes
 pub counted_behind : (v a b : ℕ) (d : Option (ℕ × ℕ)) (m : ℕ) (slots : Slots) (notes : List Note)
     → Counted None 0 (line.Head v a b ∷ (map slot_of slots ++ map line.Node notes)) d m → (Some (a, b) ≡ d) × (1 + length slots + length notes ≡ m)
 counted_behind v a b d m slots notes h =

@@ -22,7 +22,7 @@ use Rattle.pc_feed.specs.declared.judging.Judging.{Judging}
 use Rattle.pc_feed.specs.Streams.{Stands, no_line, behind_head, NothingWrong, JudgedBy, Judged}
 use Rattle.pc_feed.proofs.Beginnings.{no_lines, head_of, notes_begin}
 
--- Of an annotation's lines, the slots and the nodes are all.
+-- Among an annotation's lines, the slots and the nodes are all of them.
 all_stand : (core : CoreData) (v : Version) (ann : Ann) (slots : List (ℕ × Cap)) (notes : List Note) → Stands core (lines_of v ann) slots notes
     → (ann.slots ≡ slots) × (ann.notes ≡ notes) × (length slots ≡ length core.slots) × (length notes ≡ length core.nodes)
 all_stand core v ann slots notes (no_line p q r) = absurd (no_lines v ann p)

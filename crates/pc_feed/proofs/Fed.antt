@@ -1,4 +1,4 @@
--- A stream behind its pieces.
+-- A stream after its pieces.
 use Rattle.std.specs.Prelude.{◌≡◌, ℕ, List, [], ◌++◌, Option, Ok, Err, refl}
 use Rattle.std.proofs.Common.{ap, sym, subst, ◌∙◌, arith}
 use Rattle.pc_core.specs.CoreData.{CoreData}
@@ -50,7 +50,7 @@ feeds_by core k bytes piece old new a b (Err (fault.Invalid f)) e read h = h
 feeds_by core k bytes piece old new a b (Err fault.Memory) e read h =
     (h.spent, grew_part_of core (lines_in bytes) (lines_in (bytes ++ piece)) h.taken h.rest old.judging h.right a b read.judged h.cut h.found h.grew)
 
--- the same of the core that the stream has
+-- the same for the core of the stream
 pub feeds_at : (core k : CoreData) (bytes piece : List ℕ) (old new : Reading) (a b : Option Pairs) (r : Answer) → k ≡ core → ReadSo core bytes old → (ReadSo k bytes old → PieceTaken k bytes piece old new a b r)
     → Feeds core bytes piece (record { core = k; reading = new }) a b r
 feeds_at core k bytes piece old new a b r e read take =

@@ -19,7 +19,7 @@ use Rattle.pc_feed.specs.Feeding.{Feeds, EndsSo}
 use Rattle.pc_feed.specs.Streams.{StreamData, IsFed}
 use Rattle.pc_feed.specs.Parts.{part_size, file_limit, Asks, FileJudged, PartsRead, AllRead, PartFed, IsPartAt, Size, PartTaken, PartsEnd}
 
--- ---- what the referee is asked
+-- ---- what the referee is asked about
 
 asks_on_told : OneIsAsked → (core : CoreData) (bytes part : List ℕ) (p more : Pairs) (after : Option Pairs) → IsAsked core (lines_in bytes) more → Grew core (lines_in bytes) (lines_in (bytes ++ part)) (Some (p ++ more)) after
     → Asks core (bytes ++ part) (Some p) after
@@ -47,7 +47,7 @@ part_stopped core told from bytes part before now taken new a b (fault.Text f) h
 part_stopped core told from bytes part before now taken new a b (fault.Invalid f) h = absurd h
 part_stopped core told from bytes part before now taken new a b fault.Memory h = tt
 
--- how many bytes of the file there are where a part has this many
+-- how many bytes of the file there are if a part has this many
 part_length : (from : ℕ) (t part : List ℕ) → part ≡ take part_size (drop from t) → length part ≡ min part_size (length t - from)
 part_length from t part e = ap (λ (x : List ℕ). length x) e ∙ length-take part_size (drop from t) ∙ ap (λ n. min part_size n) (length-drop from t)
 
@@ -171,7 +171,7 @@ module _ (core : CoreData) (told : Option (List ℕ)) (from : ℕ) (s : StreamDa
   parts_stopped (fault.Invalid f) earlier l h = h
   parts_stopped fault.Memory earlier l h = tt
 
--- the same of what is told of the file at first
+-- the same for what is known of the file at first
 pub part_of_same : (core : CoreData) (told later : Option (List ℕ)) (from : ℕ) (bytes : List ℕ) (before now taken : ℕ) (new : StreamData) (a b : Option Pairs) (r : Result Bool DerivationFault) → later ≡ told
     → PartTaken core later from bytes before now taken new a b r → PartTaken core told from bytes before now taken new a b r
 part_of_same core told later from bytes before now taken new a b r e h = subst (λ (o : Option (List ℕ)). PartTaken core o from bytes before now taken new a b r) e h

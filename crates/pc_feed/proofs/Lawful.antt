@@ -1,4 +1,4 @@
--- The laws of what is asked and of how bytes end.
+-- The laws of what is asked about and of how bytes end.
 use Rattle.std.specs.Prelude.{◌≡◌, ℕ, ◌<◌, ◌≤◌, List, [], ◌∷◌, ◌++◌, length, map, take, Ok, Err, refl}
 use Rattle.std.proofs.Common.{inl, inr, ap, ap₂, sym, append-nil, subst, ◌∙◌, arith}
 use Rattle.std.proofs.lemmas.Bool.{cases_lt}
@@ -45,7 +45,7 @@ one_list core ls a b x y =
     ] in
     x.are ∙ ap (λ n. take n (numbered 0 (notes_in ls))) same ∙ sym y.are
 
--- ---- one end
+-- ---- only one end
 
 same_fault : (f g : LineFault) → as_read f ≡ as_read g → f ≡ g
 same_fault (line_fault.BadLine n) (line_fault.BadLine m) e = let same : n ≡ m = cc in ap line_fault.BadLine same

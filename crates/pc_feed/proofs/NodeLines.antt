@@ -32,7 +32,7 @@ use Rattle.pc_feed.proofs.Beginnings.{head_of, notes_begin}
 use Rattle.pc_feed.proofs.Places.{NodeAt}
 use Rattle.pc_feed.proofs.Waitings.{behind, back_is}
 
--- ---- what stands in the lines of slots and of nodes
+-- ---- the content of the lines of slots and of nodes
 
 abbrev pub top_of : CoreData → ℕ → Line
 top_of core v = line.Head v (length core.slots) (length core.nodes)
@@ -40,7 +40,7 @@ top_of core v = line.Head v (length core.slots) (length core.nodes)
 abbrev pub lines_with : CoreData → ℕ → List (ℕ × Cap) → List Note → List Line
 lines_with core v slots notes = top_of core v ∷ (map slot_of slots ++ map line.Node notes)
 
--- the annotation that lines give with a node among them
+-- the annotation given by lines with a node among them
 module _ (core : CoreData) (v : ℕ) (slots : List (ℕ × Cap)) (t : Note) (notes : List Note) (more : List Line) where
   pub so_far_begins : Begins (so_far (lines_with core v slots (t ∷ notes) ++ more)) slots (t ∷ notes)
   so_far_begins = (notes_in more, slots_behind v (length core.slots) (length core.nodes) slots t notes more, notes_behind v (length core.slots) (length core.nodes) slots (t ∷ notes) more)
@@ -55,7 +55,7 @@ begins_push core v slots notes own more =
     let s = push_is_some notes own in
     subst (λ (ts : List Note). Begins (so_far (lines_with core v slots ts ++ more)) slots ts) (sym s.2) (so_far_begins core v slots s.0 s.1 more)
 
--- An annotation that begins with a note more begins with those before it.
+-- An annotation that begins with one more note begins with those before it.
 pub begins_less : (ann : Ann) (slots : List (ℕ × Cap)) (notes : List Note) (own : Note) → Begins ann slots (notes ++ own ∷ []) → Begins ann slots notes
 begins_less ann slots notes own b = (own ∷ b.0, b.1, b.2 ∙ append_assoc notes (own ∷ []) b.0)
 
@@ -85,7 +85,7 @@ module _ (core : CoreData) (formed : Formed core) (ls : List Line) (j : Judging)
   abbrev children : List Note
   children = last_of j.waiting (length x.children)
 
-  -- What the referee is asked tells of each annotation that begins so.
+  -- The referee's answer holds for every annotation that begins like this.
   tells : (ann : Ann) → Begins ann j.slots notes → (Holds core j.slots own children j.right) ↔ (MeetsRule core ann n)
   tells ann b =
       let t = waiting_tells core j.slots so.notes j.waiting so.numbers own x formed so.waits so.waiting is_here in
@@ -98,7 +98,7 @@ module _ (core : CoreData) (formed : Formed core) (ls : List Line) (j : Judging)
   passed_before : (ann : Ann) → Begins ann j.slots notes → (k : ℕ) → k < n → Passes core ann k
   passed_before ann b k l = so.passed ann (begins_less ann j.slots so.notes own b) k l
 
-  -- of an annotation whose lines begin so
+  -- for an annotation whose lines begin like this
   ann_begins : (v : Version) (ann : Ann) (more : List Line) → lines_of v ann ≡ after ++ more → (Begins ann j.slots notes) × (length ann.slots ≡ length core.slots) × (length ann.notes ≡ length core.nodes)
   ann_begins v ann more e =
       let h = head_of v ann at.version (length core.slots) (length core.nodes) ((map slot_of j.slots ++ map line.Node notes) ++ more) e in
@@ -131,7 +131,7 @@ module _ (core : CoreData) (formed : Formed core) (ls : List Line) (j : Judging)
             ap (λ (xs : List (ℕ × Cap)). slice_get xs k) b.1 ∙ so.written k y (omega (arith, low, full)) h w q;
       }
 
-  -- those before are found right
+  -- the earlier ones are found right
   found_before : (more : List Line) (k : ℕ) → k < n → IsFoundRight core (after ++ more) k
   found_before more k l =
       let b = begins_push core at.version j.slots so.notes own more in
@@ -144,9 +144,9 @@ module _ (core : CoreData) (formed : Formed core) (ls : List Line) (j : Judging)
   size : length (notes_in after) ≡ n + 1
   size = ap (λ (ts : List Note). length ts) (ap notes_in (sym (append-nil after)) ∙ notes_behind at.version (length core.slots) (length core.nodes) j.slots notes [] ∙ append-nil notes) ∙ count_push so.notes own
 
-  -- ---- it does not meet its rule
+  -- ---- it does not satisfy its rule
 
-  -- As far as was found right before it.
+  -- As far as nodes were found right before it.
   pub found_so_far : Found core (ls ++ line.Node own ∷ []) j.right
   found_so_far =
       let count = so.count in
@@ -174,7 +174,7 @@ module _ (core : CoreData) (formed : Formed core) (ls : List Line) (j : Judging)
         | inr m ↦ let same : k ≡ n = omega (arith, l, m) in subst (MeetsRule core (so_far (after ++ more))) same r.meets
       ]
 
-  -- ---- it meets its rule
+  -- ---- it satisfies its rule
 
   module _ (right : Holds core j.slots own children j.right) where
     meets : (ann : Ann) → Begins ann j.slots notes → MeetsRule core ann n
@@ -198,7 +198,7 @@ module _ (core : CoreData) (formed : Formed core) (ls : List Line) (j : Judging)
     pub found_one : (r : ℕ) → r ≡ j.right + 1 → Found core (ls ++ line.Node own ∷ []) r
     found_one r e = subst (λ l. Found core l r) (sym longer) (found_after r e)
 
-    -- what is computed of the fields behind it, in each annotation
+    -- what is computed about the fields after it, in every annotation
     unset_in : (ann : Ann) → Begins ann j.slots notes → unset_of core n (slice_get core.methods x.method) (slice_get ann.notes n) ≡ unset_of core j.right (slice_get core.methods x.method) (Some own)
     unset_in ann b =
         ap (λ (o : Option Note). unset_of core n (slice_get core.methods x.method) o) (own_at ann j.slots so.notes own b)
@@ -250,7 +250,7 @@ module _ (core : CoreData) (formed : Formed core) (ls : List Line) (j : Judging)
             ];
           }
 
-      -- How the keeping of its note ended.
+      -- How keeping its note ended.
       pub node_kept : {E : Type 0} → j.fault ≡ None → (old new : Judging) (r : Result (Unit {0}) E) → old ≡ record { slots = j.slots; waiting = j.waiting; right = j.right + 1; fault = j.fault }
           → OnOk r (new ≡ record old { waiting = waits_behind old.waiting x own }) → OnErr r (new.right ≡ old.right) → OneFound core ls own j new r
       node_kept none old new (Ok u) e ok err =

@@ -1,4 +1,4 @@
--- The notes of those that wait.
+-- The notes of the nodes without a parent so far.
 use Rattle.std.specs.Prelude.{◌≡◌, ◌↔◌, ℕ, zero, suc, List, [], ◌∷◌, ◌++◌, length, Option, Some, slice_get, refl}
 use Rattle.std.proofs.Common.{ap, sym, subst, ◌∙◌}
 use Rattle.std.proofs.lemmas.Option.{same_Some, none-some}
@@ -34,14 +34,14 @@ front_get [] ys i t e = absurd (none-some t e)
 front_get (x ∷ xs) ys zero t e = e
 front_get (x ∷ xs) ys (suc i) t e = front_get xs ys i t e
 
--- notes that follow change none
+-- later notes change none
 pub noted_more : (notes more : List Note) (cs : List ℕ) (ts : List Note) → notes_of notes cs ≡ Some ts → notes_of (notes ++ more) cs ≡ Some ts
 noted_more notes more [] ts e = e
 noted_more notes more (c ∷ cs) ts e =
     let h = first_of notes c cs ts e in
     first_on (notes ++ more) c cs h.0 h.1 (front_get notes more c h.0 h.2) (noted_more notes more cs h.1 h.3) ∙ ap Some (sym h.4)
 
--- those that wait, cut where the nodes are
+-- these nodes, cut at the same place as their notes
 pub noted_cut : (notes : List Note) (rest cs : List ℕ) (ts : List Note) → notes_of notes (rest ++ cs) ≡ Some ts
     → (front : List Note) × (children : List Note) × (ts ≡ front ++ children) × (notes_of notes rest ≡ Some front) × (notes_of notes cs ≡ Some children)
 noted_cut notes [] cs ts e = ([], ts, refl, refl, e)

@@ -114,7 +114,7 @@ module _ (core : CoreData) (ls : List Line) (j : Judging) (so : NothingWrong cor
   abbrev wrong_at : ℕ
   wrong_at = length j.slots
 
-  -- what has this type there does not have the written one
+  -- if the type there is this one, it is not the written one
   not_kept : (ann : Ann) → slice_get ann.slots wrong_at ≡ Some ty → (y : Slot) → slice_get core.slots wrong_at ≡ Some y → KeepsType ann wrong_at y → MayHave core wrong_at ty
   not_kept ann has y g keeps z h w e =
       let one : y ≡ z = same_Some y z (sym g ∙ h) in
@@ -153,7 +153,7 @@ module _ (core : CoreData) (ls : List Line) (j : Judging) (so : NothingWrong cor
       subst (λ i. Wrong core (ls ++ slot_of ty ∷ []) j.right (fault.Slot i)) (sym e)
       (subst (λ x. Wrong core x j.right (fault.Slot (length j.slots))) (sym longer) (wrong_slot (λ may. not (subst (λ i. MayHave core i ty) (sym e) may))))
 
-  -- At want of memory no node has been asked.
+  -- If memory runs out, no node has been asked about.
   pub slot_lost : Found core (ls ++ slot_of ty ∷ []) j.right
   slot_lost = none_found core (ls ++ slot_of ty ∷ []) j.right (no_notes core ls j so at.none)
 

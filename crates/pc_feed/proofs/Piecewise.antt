@@ -1,4 +1,4 @@
--- A piece that is taken line by line.
+-- A piece that is processed line by line.
 use Rattle.std.specs.Prelude.{◌≡◌, ℕ, zero, suc, ◌+◌, ◌-◌, ◌≤◌, List, [], ◌∷◌, ◌++◌, length, take, drop, slice_range, Option, Some, None, Result, Ok, Err, refl}
 use Rattle.std.proofs.Common.{ap, sym, subst, ◌∙◌, arith, append-nil, append_assoc}
 use Rattle.std.proofs.lemmas.List.{take-append-drop}
@@ -144,9 +144,9 @@ module _ (core : CoreData) (bytes : List ℕ) (old : Reading) (read : ReadSo cor
         subst (λ x. RanOut core bytes x old new a b) (range_rest piece at stop (omega (arith, before)))
         (line_ran_out core bytes old read part l u is_line.3 new a b (drop stop piece) h)
 
--- ---- behind a fault
+-- ---- after a fault
 
--- Behind a fault no line ends, and the fault is answered.
+-- After a fault no line ends, and the fault is returned.
 pub no_line_behind : (old u : Taken) (piece : List ℕ) (at stop : ℕ) (o : Option Line) (f : LineFault) → old.fault ≡ Some f → IsNext old piece at (Ok (stop, o)) u → ⊥
 no_line_behind old u piece at stop None f e h =
     let same : u ≡ old = ap (λ (q : List Line × Taken). q.1) (sym h.2 ∙ fed_stays old f (drop at piece) e) in
@@ -193,7 +193,7 @@ ran_out_on core bytes a b old mid new x y z h k =
       grew = grew_on (first_nodes (lines_in bytes) old.judging.right) (first_nodes (lines_in (bytes ++ a)) mid.judging.right) (first_nodes k.taken k.right) x y z h.grew k.grew;
     }
 
--- The front of a piece was taken.
+-- The first part of a piece was processed.
 pub record Underway (core : CoreData) (bytes piece : List ℕ) (at : ℕ) (old now : Reading) (a b : Option Pairs) : Type 0 where
   pub within : at ≤ length piece
   pub went : Went core bytes (take at piece) old now a b
@@ -229,7 +229,7 @@ module _ (core : CoreData) (bytes piece : List ℕ) (at : ℕ) (old now new : Re
   piece_stopped (fault.Invalid f) h = absurd h
   piece_stopped fault.Memory h = subst (λ x. RanOut core bytes x old new a d) whole (ran_out_on core bytes (take at piece) (drop at piece) old now new a b d so.went h)
 
-  -- the same of what was answered
+  -- the same for the result
   pub underway_by : (o : Option ℕ) (stop : ℕ) → o ≡ Some stop → NextTaken core (bytes ++ take at piece) piece at now new b d (Ok o) → Underway core bytes piece stop old new a d
   underway_by o stop e h = underway_next stop (subst (λ x. NextTaken core (bytes ++ take at piece) piece at now new b d (Ok x)) e h)
 

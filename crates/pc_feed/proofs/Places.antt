@@ -1,4 +1,4 @@
--- Where nothing is wrong, what may come next, and what is there for it.
+-- If there is no fault, what may come next, and what is there for it.
 use Rattle.std.specs.Prelude.{◌≡◌, ℕ, ◌+◌, ◌<◌, ◌≤◌, List, [], ◌∷◌, ◌++◌, length, map, Option, Some, None}
 use Rattle.std.proofs.Common.{inl, inr, ap, sym, subst, ◌∙◌, arith, append-nil}
 use Rattle.pc_caps.specs.declared.capability.Cap.{Cap}

@@ -1,4 +1,4 @@
--- By post-order a node's children are the last ones that wait.
+-- By post-order a node's children are the last of the nodes without a parent.
 use Rattle.std.specs.Prelude.{◌≡◌, ◌≢◌, ℕ, zero, suc, ◌+◌, ◌-◌, ◌<◌, ◌≤◌, List, [], ◌∷◌, ◌++◌, length, take, drop, Some, slice_get, slice_range}
 use Rattle.std.proofs.Common.{inl, inr, ap, sym, subst, ◌∙◌, arith}
 use Rattle.std.proofs.lemmas.Bool.{cases_lt}
@@ -31,12 +31,12 @@ range_cut xs n last x e l =
 range_none : {A : Type 0} → (xs : List A) (n : ℕ) → slice_range xs (n + 1) (n + 1) ≡ []
 range_none xs n = let z : n + 1 - (n + 1) ≡ 0 = omega arith in ap (λ k. take k (drop (n + 1) xs)) z
 
--- Node n in its method, from it on in post-order with these nodes waiting.
+-- Node n in its method, from which on the nodes are in post-order after these nodes without a parent.
 record At (core : CoreData) (n : ℕ) (ws : List ℕ) : Type 0 where
   pub own : Home core n
   pub order : PostOrder n (slice_range core.nodes n (own.body + 1)) ws (own.body ∷ [])
 
--- At a method's first node nothing waits.
+-- At a method's first node there are no nodes without a parent.
 at_first : (core : CoreData) (n : ℕ) (h : Home core n) → h.method.first_node ≡ n → At core n []
 at_first core n h e =
     let end : node_end h.method.first_node h.method.body ≡ h.body + 1 = ap (node_end h.method.first_node) h.is_body in
@@ -69,7 +69,7 @@ at_next core n rest x a g other =
       order = subst (λ r. PostOrder (n + 1) (slice_range core.nodes (n + 1) (h.body + 1)) (r ++ n ∷ []) (h.body ∷ [])) same t.2;
     }
 
--- Behind a body the next method begins.
+-- After a body the next method begins.
 first_behind : (core : CoreData) (n : ℕ) (x : Node) (h : Home core (n + 1)) → slice_get core.nodes n ≡ Some x → x.kind ≡ node.Body → h.method.first_node ≡ n + 1
 first_behind core n x h g k =
     let from = h.from in

@@ -1,4 +1,4 @@
--- What lines say, with more lines behind them.
+-- What lines say, with more lines after them.
 use Rattle.std.specs.Prelude.{◌≡◌, ℕ, zero, suc, ◌+◌, ◌≤◌, List, [], ◌∷◌, ◌++◌, length, map, take, refl}
 use Rattle.std.proofs.Common.{ap, sym, ◌∙◌, arith, append_assoc, append-nil, length-append}
 use Rattle.std.proofs.lemmas.List.{take-append-le}
@@ -28,7 +28,7 @@ pub notes_of_slots : (slots : Slots) (ls : List Line) → notes_in (map slot_of 
 notes_of_slots [] ls = refl
 notes_of_slots ((e, k) ∷ slots) ls = notes_of_slots slots ls
 
--- the notes behind the first line, slots and nodes
+-- the notes after the first line, slots and nodes
 pub notes_behind : (v a b : ℕ) (slots : Slots) (notes : List Note) (more : List Line)
     → notes_in ((line.Head v a b ∷ (map slot_of slots ++ map line.Node notes)) ++ more) ≡ notes ++ notes_in more
 notes_behind v a b slots notes more =
@@ -41,7 +41,7 @@ pub slots_app : (slots : Slots) (ls : List Line) → slots_in (map slot_of slots
 slots_app [] ls = refl
 slots_app ((e, k) ∷ slots) ls = ap (λ ts. (e, k) ∷ ts) (slots_app slots ls)
 
--- Behind a node no further slot counts.
+-- After a node no further slot counts.
 pub slots_behind : (v a b : ℕ) (slots : Slots) (t : Note) (notes : List Note) (more : List Line)
     → slots_in ((line.Head v a b ∷ (map slot_of slots ++ map line.Node (t ∷ notes))) ++ more) ≡ slots
 slots_behind v a b slots t notes more =
@@ -69,7 +69,7 @@ pub numbered_length : (n : ℕ) (a : List Note) → length (numbered n a) ≡ le
 numbered_length n [] = refl
 numbered_length n (t ∷ a) = ap suc (numbered_length (n + 1) a)
 
--- More lines change no first nodes.
+-- More lines do not change the first nodes.
 pub first_nodes_more : (ls more : List Line) (n : ℕ) → n ≤ length (notes_in ls) → first_nodes (ls ++ more) n ≡ first_nodes ls n
 first_nodes_more ls more n l =
     let size = numbered_length 0 (notes_in ls) in

@@ -1,4 +1,4 @@
--- How a line is taken, by what was wrong before it.
+-- How a line is processed, depending on the fault before it.
 use Rattle.std.specs.Prelude.{◌≡◌, ℕ, ◌+◌, ◌≤◌, Bool, true, false, List, [], ◌∷◌, ◌++◌, length, Option, Some, None, Result, Ok, Err, refl}
 use Rattle.std.proofs.Common.{ap, sym, subst, ◌∙◌, append_assoc, length-append, arith}
 use Rattle.pc_core.specs.CoreData.{CoreData}
@@ -16,7 +16,7 @@ use Rattle.pc_feed.proofs.Sayings.{notes_app, first_nodes_more, first_nodes_push
 use Rattle.pc_feed.proofs.Growing.{grew_none, grew_one}
 use Rattle.pc_feed.proofs.Places.{notes_are, right_within}
 
--- Where no fault is kept, nothing is wrong.
+-- If no fault is kept, there is none.
 pub nothing : (core : CoreData) (ls : List Line) (j : Judging) → j.fault ≡ None → Judged core ls j → NothingWrong core ls j
 nothing core ls j e h = subst (JudgedBy core ls j) e h
 
@@ -29,7 +29,7 @@ few_more ls l right few =
     let both = length-append (notes_in ls) (notes_in (l ∷ [])) in
     omega (arith, few, app, both)
 
--- What is wrong stays so.
+-- A fault stays.
 pub wrong_stays : (core : CoreData) (ls : List Line) (l : Line) (right : ℕ) (f : JudgeFault) → Wrong core ls right f → Wrong core (ls ++ l ∷ []) right f
 wrong_stays core ls l right f w =
     let on : (more : List Line) → ls ++ (l ∷ more) ≡ (ls ++ l ∷ []) ++ more = λ more. sym (append_assoc ls (l ∷ []) more) in
@@ -41,12 +41,12 @@ wrong_stays core ls l right f w =
 
 -- ---- the referee's list
 
--- No further node was found right, and the referee was asked of none that is.
+-- No further node was found right, and the referee was asked about none that is.
 pub same_nodes : (ls : List Line) (l : Line) (old new : ℕ) (a b : Option Pairs) → old ≤ length (notes_in ls) → new ≡ old → b ≡ a → GrewBy (first_nodes ls old) (first_nodes (ls ++ l ∷ []) new) a b
 same_nodes ls l old new a b few e same =
     grew_none (first_nodes ls old) (first_nodes (ls ++ l ∷ []) new) a b (ap (first_nodes (ls ++ l ∷ [])) e ∙ first_nodes_more ls (l ∷ []) old few) same
 
--- The next node was found right, and the referee put it behind its list.
+-- The next node was found right, and the referee appended it to its list.
 pub one_node : (ls : List Line) (own : Note) (old new : ℕ) (a b : Option Pairs) → old ≡ length (notes_in ls) → new ≡ old + 1 → b ≡ asked_after {E = Unit {0}} a old own (Ok true)
     → GrewBy (first_nodes ls old) (first_nodes (ls ++ line.Node own ∷ []) new) a b
 one_node ls own old new a b all e same =
@@ -65,17 +65,17 @@ pub taken_one : {E : Type 0} → (core : CoreData) (ls : List Line) (own : Note)
 taken_one core ls own old new a b (Ok u) so same h = (h.0, one_node ls own old.right new.right a b (all_right core ls old so) h.1 same)
 taken_one core ls own old new a b (Err e) so same h = (h.0, one_node ls own old.right new.right a b (all_right core ls old so) h.1 same)
 
--- Behind a fault a line is passed over.
+-- After a fault a line is skipped.
 pub passed_over : (core : CoreData) (ls : List Line) (l : Line) (j : Judging) (f : JudgeFault) → j.fault ≡ Some f → Judged core ls j → Judged core (ls ++ l ∷ []) j
 passed_over core ls l j f e h = subst (JudgedBy core (ls ++ l ∷ []) j) (sym e) (wrong_stays core ls l j.right f (subst (JudgedBy core ls j) e h))
 
--- the same of a line that is this one
+-- the same for a line equal to this one
 pub taken_as : {E : Type 0} → (core : CoreData) (ls : List Line) (l k : Line) (old new : Judging) (a b : Option Pairs) (r : Result (Unit {0}) E) → l ≡ k → (Comes ls k → Judged core ls old → SameFound core ls k old new r)
     → Comes ls l → Judged core ls old → b ≡ a → LineTaken core ls l old new a b r
 taken_as {E = E} core ls l k old new a b r e h m j same =
     subst (λ x. Comes ls x → LineTaken {E = E} core ls x old new a b r) (sym e) (λ n. taken_same core ls k old new a b r j same (h n j)) m
 
--- ---- what a referee answered
+-- ---- the referee's answer
 
 asked_same : {E : Type 0} → (a : Option Pairs) (n : ℕ) (t : Note) (e : E) → asked_after a n t (Err e) ≡ a
 asked_same None n t e = refl

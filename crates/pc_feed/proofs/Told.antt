@@ -1,4 +1,4 @@
--- Which nodes a referee was asked of, by what is kept.
+-- Which nodes a referee was asked about, in terms of the state.
 use Rattle.std.specs.Prelude.{◌≡◌, ◌⊎◌, ◌↔◌, ℕ, ◌+◌, ◌-◌, ◌<◌, ◌≤◌, List, [], ◌∷◌, ◌++◌, length, take, drop, Option, Some, None, slice_get, refl}
 use Rattle.std.proofs.Common.{inl, inr, ap, sym, subst, ◌∙◌, arith, append-nil, length-append}
 use Rattle.std.proofs.Math.Seq.{take-add}
@@ -22,7 +22,7 @@ use Rattle.pc_feed.proofs.Sayings.{notes_app, first_nodes_more}
 use Rattle.pc_feed.proofs.Places.{notes_are, right_within}
 use Rattle.pc_feed.proofs.NodeLines.{lines_with, so_far_begins}
 
--- ---- where nothing is wrong, all are
+-- ---- all of them, if there is no fault
 
 first_of : (notes : List Note) (k : ℕ) → k < length notes → (t : Note) × (rest : List Note) × (notes ≡ t ∷ rest)
 first_of [] k l = absurd (omega (arith, l))
@@ -73,7 +73,7 @@ pub grew_of : (core : CoreData) (old new : List Line) (j k : Judging) (a b : Opt
 grew_of core old new j k None b h i g = g
 grew_of core old new j k (Some p) b h i g = (first_nodes old j.right, g.0, asked_of core old j h, subst (IsAsked core new) g.1 (asked_of core new k i), g.2)
 
--- What was found right first is asked, whatever follows.
+-- What was found right first is asked about, whatever follows.
 asked_front : (core : CoreData) (taken rest : List Line) (right : ℕ) (all : Pairs) → Found core taken right → IsAsked core (taken ++ rest) all → (more : Pairs) × (all ≡ first_nodes taken right ++ more)
 asked_front core taken rest right all found asked =
     let app : length (notes_in (taken ++ rest)) ≡ length (notes_in taken ++ notes_in rest) = ap (λ (ts : List Note). length ts) (notes_app taken rest) in

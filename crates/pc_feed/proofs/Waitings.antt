@@ -1,4 +1,4 @@
--- The notes that wait, behind one node more.
+-- The notes of the nodes without a parent, after one more node.
 use Rattle.std.specs.Prelude.{◌≡◌, ◌≢◌, ℕ, ◌+◌, ◌-◌, List, [], ◌∷◌, ◌++◌, length, take, drop, Option, Some, slice_get, refl}
 use Rattle.std.proofs.Common.{ap, sym, subst, ◌∙◌, arith, length-append}
 use Rattle.std.proofs.lemmas.Option.{same_Some}
@@ -28,7 +28,7 @@ drop_front : (f c : List Note) → drop (length f) (f ++ c) ≡ c
 drop_front [] c = refl
 drop_front (t ∷ f) c = drop_front f c
 
--- Where the last so many are cut off.
+-- If the last notes, this many, are cut off.
 front_length : (ws f c : List Note) (k : ℕ) → ws ≡ f ++ c → length c ≡ k → length ws - k ≡ length f
 front_length ws f c k e l =
     let size : length ws ≡ length (f ++ c) = ap (λ (x : List Note). length x) e in
@@ -41,7 +41,7 @@ front_is ws f c k e l = ap (λ n. take n ws) (front_length ws f c k e l) ∙ ap 
 pub back_is : (ws f c : List Note) (k : ℕ) → ws ≡ f ++ c → length c ≡ k → last_of ws k ≡ c
 back_is ws f c k e l = ap (λ n. drop n ws) (front_length ws f c k e l) ∙ ap (drop (length f)) e ∙ drop_front f c
 
--- ---- one note more
+-- ---- one more note
 
 abbrev put_on : Note → Option (List Note) → Option (List Note)
 put_on t rest = rest >>= λ ts. Some (t ∷ ts)
@@ -73,7 +73,7 @@ count_of notes (c ∷ cs) ts e =
     let more = count_of notes cs m.0 m.1 in
     omega (arith, size, more)
 
--- Those that wait behind a node with this note.
+-- The nodes without a parent after a node with this note.
 pub record Behind (core : CoreData) (notes : List Note) (waiting : List Note) (own : Note) : Type 0 where
   pub numbers : List ℕ
   pub waits : Waits core (length (notes ++ own ∷ [])) numbers

@@ -1,4 +1,4 @@
--- What is answered where a piece is fed, and at the end.
+-- The results of feeding a piece, and of the end.
 use Rattle.std.specs.Prelude.{◌≡◌, ℕ, List, ◌++◌, Option, Some, None, Result, Ok, Err}
 use Rattle.pc_core.specs.CoreData.{CoreData}
 use Rattle.pc_ann.specs.declared.annotation.Ann.{Ann}
@@ -16,7 +16,7 @@ use Rattle.pc_feed.specs.Streams.{StreamData, IsFed, IsSpent}
 abbrev pub Answer : Type 0
 Answer = Result (Unit {0}) StreamFault
 
--- A piece behind these bytes. Whatever is wrong with the annotation is told at the end; a line's fault is told at once.
+-- A piece after these bytes. A fault of the annotation is reported at the end, a fault of a line at once.
 abbrev pub Feeds : CoreData → (bytes piece : List ℕ) → StreamData → Option Pairs → Option Pairs → Answer → Type 0
 Feeds core bytes piece new before after (Ok _) =
     IsFed core (bytes ++ piece) new × (fault_in (bytes ++ piece) ≡ None) × Grew core (lines_in bytes) (lines_in (bytes ++ piece)) before after
@@ -25,8 +25,8 @@ Feeds core bytes piece new before after (Err (fault.Text f)) =
 Feeds core bytes piece new before after (Err (fault.Invalid f)) = ⊥
 Feeds core bytes piece new before after (Err fault.Memory) = IsSpent new × GrewPart core (lines_in bytes) (lines_in (bytes ++ piece)) before after
 
--- The end, where these bytes were fed: they are the text of a valid annotation, or they have this fault, or they are the text
--- of an annotation with this fault.
+-- The end, if these bytes were fed: they are the text of a valid annotation, or they have this fault, or they are the
+-- text of an annotation with this fault.
 abbrev pub EndsSo : CoreData → List ℕ → Answer → Type 0
 EndsSo core bytes (Ok _) = (ann : Ann) × IsText bytes ann × Valid core ann
 EndsSo core bytes (Err (fault.Text f)) = IsFault bytes (as_read f)

@@ -1,4 +1,4 @@
--- What holds of all bytes that are fed.
+-- Laws of all bytes that are fed.
 use Rattle.std.specs.Prelude.{◌≡◌, ℕ, List}
 use Rattle.pc_core.specs.CoreData.{CoreData}
 use Rattle.pc_core.specs.Formed.{Formed}
@@ -12,15 +12,15 @@ use Rattle.pc_feed.specs.Asked.{IsAsked}
 use Rattle.pc_feed.specs.Numbered.{numbered}
 use Rattle.pc_feed.specs.Feeding.{Answer, EndsSo}
 
--- At most one list of nodes is asked.
+-- At most one list of nodes is asked about.
 abbrev pub OneIsAsked : Type 0
 OneIsAsked = (core : CoreData) (ls : List Line) (a b : Pairs) → IsAsked core ls a → IsAsked core ls b → a ≡ b
 
--- The same bytes end in one way.
+-- The same bytes end in only one way.
 abbrev pub OneEnd : Type 0
 OneEnd = (core : CoreData) (bytes : List ℕ) (a b : Answer) → Formed core → EndsSo core bytes a → EndsSo core bytes b → a ≡ b
 
--- Of the text of a valid annotation every node is asked, with its note.
+-- For the text of a valid annotation every node is asked about, with its note.
 abbrev pub ValidAsksAll : Type 0
 ValidAsksAll =
     (core : CoreData) (bytes : List ℕ) (ann : Ann) (pairs : Pairs) → Formed core → IsText bytes ann → Valid core ann

@@ -16,14 +16,14 @@ lines_in bytes = (fed nothing_taken bytes).0
 abbrev pub fault_in : List ℕ → Option LineFault
 fault_in bytes = (fed nothing_taken bytes).1.fault
 
--- how many slots and nodes the first line says that there are
+-- the numbers of slots and nodes that the first line states
 abbrev pub counts_in : List Line → Option (ℕ × ℕ)
 counts_in [] = None
 counts_in (line.Head version slots nodes ∷ ls) = Some (slots, nodes)
 counts_in (line.Slot entity cap ∷ ls) = None
 counts_in (line.Node note ∷ ls) = None
 
--- the types of slots, whose lines stand before those of the nodes
+-- the types of slots, whose lines come before those of the nodes
 abbrev pub slots_in : List Line → Slots
 slots_in [] = []
 slots_in (line.Head version slots nodes ∷ ls) = slots_in ls

@@ -1,4 +1,4 @@
--- Notes with the numbers of their nodes, as a referee is asked of them.
+-- Notes with the numbers of their nodes, as a referee is asked about them.
 use Rattle.std.specs.Prelude.{ℕ, ◌+◌, List, [], ◌∷◌}
 use Rattle.pc_ann.specs.declared.annotation.Note.{Note}
 use Rattle.pc_referee.specs.Asked.{Pairs}

@@ -20,18 +20,18 @@ part_size = 65536
 abbrev pub file_limit : ℕ
 file_limit = 33554432
 
--- A referee's list, where it is told, grew by the nodes that are found right in the text of these bytes.
+-- A referee's list, if it is known, grew by the nodes that are found right in the text of these bytes.
 abbrev pub Asks : CoreData → List ℕ → Option Pairs → Option Pairs → Type 0
 Asks core bytes None after = after ≡ None
 Asks core bytes (Some pairs) after = (more : Pairs) × IsAsked core (lines_in bytes) more × (after ≡ Some (pairs ++ more))
 
--- The file was read whole: these are all its bytes, where they are told, and not more than a derivation may have.
+-- The whole file was read: these are all its bytes, if they are known, and not more than a derivation may have.
 pub record ReadWhole (told : Option (List ℕ)) (bytes : List ℕ) : Type 0 where
   pub within : length bytes ≤ file_limit
   pub all : IfSome told (λ t. bytes ≡ t)
 
--- How the judging of a file ended, by what is told of it, by how often its reading had failed before and after the call, by
--- how many bytes the last part had, and by the referee's list.
+-- How judging a file ended, depending on what is known of the file, on how often reading it had failed before and after
+-- the call, on how many bytes the last part had, and on the referee's list.
 abbrev pub FileJudged : CoreData → Option (List ℕ) → (before now taken : ℕ) → Option Pairs → Option Pairs → Result (Unit {0}) DerivationFault → Type 0
 FileJudged core told before now taken old new (Ok _) =
     (bytes : List ℕ) × ReadWhole told bytes × ((ann : Ann) × IsText bytes ann × Valid core ann) × Asks core bytes old new
@@ -40,7 +40,7 @@ FileJudged core told before now taken old new (Err (fault.Invalid f)) =
     (bytes : List ℕ) × ReadWhole told bytes × ((ann : Ann) × IsText bytes ann × FirstFault core ann f) × Asks core bytes old new
 -- Its faults rose.
 FileJudged core told before now taken old new (Err fault.Failed) = before < now
--- The part behind all bytes that a derivation may have is not empty.
+-- The part after the greatest number of bytes of a derivation is not empty.
 FileJudged core told before now taken old new (Err fault.TooLong) = (0 < taken) × IfSome told (λ t. file_limit < length t)
 FileJudged core told before now taken old new (Err fault.Memory) = Unit {0}
 
@@ -54,7 +54,7 @@ pub record PartsRead (core : CoreData) (told : Option (List ℕ)) (from : ℕ) (
   pub fed : IsFed core bytes stream
   pub asks : Asks core bytes old new
 
--- All of it was.
+-- All of the file was read and fed.
 pub record AllRead (core : CoreData) (told : Option (List ℕ)) (stream : StreamData) (old new : Option Pairs) : Type 0 where
   pub bytes : List ℕ
   pub read : ReadWhole told bytes
@@ -70,7 +70,7 @@ PartFed core bytes part new old after (Err (fault.Text f)) = ⊥
 PartFed core bytes part new old after (Err (fault.Invalid f)) = ⊥
 PartFed core bytes part new old after (Err fault.Memory) = Unit {0}
 
--- What is read where a part begins at this place.
+-- What is read if a part begins at this place.
 abbrev pub IsPartAt : Option (List ℕ) → ℕ → List ℕ → Type 0
 IsPartAt told from part = (length part ≤ part_size) × IfSome told (λ t. part ≡ take part_size (drop from t))
 
@@ -87,7 +87,7 @@ abbrev pub Size : (from : ℕ) → List ℕ → Bool → Type 0
 Size from part true = (length part ≡ part_size) × (from < file_limit)
 Size from part false = (length part < part_size) × (from ≡ file_limit → length part ≡ 0)
 
--- A part was read and fed behind these bytes.
+-- A part was read and fed after these bytes.
 abbrev pub PartTaken : CoreData → Option (List ℕ) → (from : ℕ) → List ℕ → (before now taken : ℕ) → StreamData → Option Pairs → Option Pairs → Result Bool DerivationFault → Type 0
 PartTaken core told from bytes before now taken new old after (Ok full) = (part : List ℕ) × IsPartAt told from part × Size from part full × PartFed core bytes part new old after (Ok tt)
 PartTaken core told from bytes before now taken new old after (Err fault.Failed) = before < now
@@ -96,7 +96,7 @@ PartTaken core told from bytes before now taken new old after (Err (fault.Text f
 PartTaken core told from bytes before now taken new old after (Err (fault.Invalid f)) = ⊥
 PartTaken core told from bytes before now taken new old after (Err fault.Memory) = Unit {0}
 
--- How the reading of all parts ended.
+-- How reading all parts ended.
 abbrev pub PartsEnd : CoreData → Option (List ℕ) → (before now taken : ℕ) → StreamData → Option Pairs → Option Pairs → Result (Unit {0}) DerivationFault → Type 0
 PartsEnd core told before now taken new old after (Ok _) = AllRead core told new old after
 PartsEnd core told before now taken new old after (Err fault.Failed) = before < now

@@ -1,4 +1,4 @@
--- How one line is taken, and how a piece is.
+-- How one line is processed, and how a piece is.
 use Rattle.std.specs.Prelude.{◌≡◌, ℕ, ◌+◌, ◌-◌, ◌<◌, ◌≤◌, true, false, List, [], ◌∷◌, ◌++◌, length, take, drop, slice_get, slice_range, Option, Some, None, Result, Ok, Err}
 use Rattle.pc_caps.specs.declared.capability.Cap.{Cap}
 use Rattle.pc_core.specs.declared.nodes.Slot.{Slot}
@@ -23,9 +23,9 @@ use Rattle.pc_feed.specs.Numbered.{numbered}
 use Rattle.pc_feed.specs.Feeding.{Answer}
 use Rattle.pc_feed.specs.Streams.{Found, Judged, ReadSo}
 
--- ---- which lines follow one another
+-- ---- the order of lines
 
--- Behind so many lines, with these counts, a line of this kind stands.
+-- After this number of lines, with these counts, there may be a line of this kind.
 abbrev pub LineFits : Option (ℕ × ℕ) → ℕ → Line → Type 0
 LineFits None n (line.Head version slots nodes) = Unit {0}
 LineFits None n (line.Slot entity cap) = ⊥
@@ -52,26 +52,26 @@ pub record Comes (ls : List Line) (l : Line) : Type 0 where
 abbrev pub HasWritten : Slot → ℕ × Cap → Type 0
 HasWritten y ty = (wanted : ℕ × Cap) → y.written ≡ Some wanted → wanted ≡ ty
 
--- The slot of this number may have this type.
+-- The slot with this number may have this type.
 abbrev pub MayHave : CoreData → ℕ → ℕ × Cap → Type 0
 MayHave core k ty = (y : Slot) → slice_get core.slots k ≡ Some y → HasWritten y ty
 
--- There is room for what the line says.
+-- There is room for the content of the line.
 abbrev pub HasRoom : CoreData → Judging → Line → Type 0
 HasRoom core j (line.Head version slots nodes) = Unit {0}
 HasRoom core j (line.Slot entity cap) = length j.slots < length core.slots
 HasRoom core j (line.Node note) = (length j.slots ≡ length core.slots) × (j.right < length core.nodes)
 
--- The first so many nodes of these lines, with their notes.
+-- The first nodes of these lines, this many, with their notes.
 abbrev pub first_nodes : List Line → ℕ → Pairs
 first_nodes ls n = take n (numbered 0 (notes_in ls))
 
--- A list, where it is told, grew as one list did to another.
+-- A list, if it is known, grew as one list did to another.
 abbrev pub GrewBy : Pairs → Pairs → Option Pairs → Option Pairs → Type 0
 GrewBy old new None after = after ≡ None
 GrewBy old new (Some pairs) after = (more : Pairs) × (new ≡ old ++ more) × (after ≡ Some (pairs ++ more))
 
--- A line was taken behind these, or memory ran out.
+-- A line was processed after these, or memory ran out.
 abbrev pub LineTaken : {E : Type 0} → CoreData → List Line → Line → Judging → Judging → Option Pairs → Option Pairs → Result (Unit {0}) E → Type 0
 LineTaken core ls l old new before after (Ok _) = Judged core (ls ++ l ∷ []) new × GrewBy (first_nodes ls old.right) (first_nodes (ls ++ l ∷ []) new.right) before after
 LineTaken core ls l old new before after (Err e) = Found core (ls ++ l ∷ []) new.right × GrewBy (first_nodes ls old.right) (first_nodes (ls ++ l ∷ []) new.right) before after
@@ -81,7 +81,7 @@ abbrev pub SameFound : {E : Type 0} → CoreData → List Line → Line → Judg
 SameFound core ls l old new (Ok _) = Judged core (ls ++ l ∷ []) new × (new.right ≡ old.right)
 SameFound core ls l old new (Err e) = Found core (ls ++ l ∷ []) new.right × (new.right ≡ old.right)
 
--- The node of this note was found right.
+-- The node with this note was found right.
 abbrev pub OneFound : {E : Type 0} → CoreData → List Line → Note → Judging → Judging → Result (Unit {0}) E → Type 0
 OneFound core ls own old new (Ok _) = Judged core (ls ++ line.Node own ∷ []) new × (new.right ≡ old.right + 1)
 OneFound core ls own old new (Err e) = Found core (ls ++ line.Node own ∷ []) new.right × (new.right ≡ old.right + 1)
@@ -104,9 +104,9 @@ JudgedSo core ann (Err (fault.Text f)) = ⊥
 JudgedSo core ann (Err (fault.Invalid f)) = FirstFault core ann f
 JudgedSo core ann (Err fault.Memory) = ⊥
 
--- ---- the notes that wait
+-- ---- the notes of nodes without a parent so far
 
--- the last so many
+-- the last elements, this many
 abbrev pub last_of : List Note → ℕ → List Note
 last_of waiting count = drop (length waiting - count) waiting
 
@@ -114,7 +114,7 @@ last_of waiting count = drop (length waiting - count) waiting
 abbrev pub all_but_last : List Note → ℕ → List Note
 all_but_last waiting count = take (length waiting - count) waiting
 
--- a node's note, unless it is a body
+-- a node's note appended, unless it is a body
 abbrev pub put_behind : List Note → NodeKind → Note → List Note
 put_behind front node.Body own = front
 put_behind front k own = front ++ own ∷ []
@@ -131,12 +131,12 @@ nothing_read = record { lines = nothing_taken; judging = nothing_judged; spent =
 
 -- ---- a piece
 
--- These bytes were taken behind those.
+-- These bytes were processed after those.
 pub record Went (core : CoreData) (bytes more : List ℕ) (old new : Reading) (before after : Option Pairs) : Type 0 where
   pub reads : ReadSo core (bytes ++ more) new
   pub grew : GrewBy (first_nodes (lines_in bytes) old.judging.right) (first_nodes (lines_in (bytes ++ more)) new.judging.right) before after
 
--- Memory ran out behind some of these bytes' lines.
+-- Memory ran out after some of the lines of these bytes.
 pub record RanOut (core : CoreData) (bytes more : List ℕ) (old new : Reading) (before after : Option Pairs) : Type 0 where
   pub spent : new.spent ≡ true
   pub taken : List Line
@@ -146,7 +146,7 @@ pub record RanOut (core : CoreData) (bytes more : List ℕ) (old new : Reading) 
   pub found : Found core taken right
   pub grew : GrewBy (first_nodes (lines_in bytes) old.judging.right) (first_nodes taken right) before after
 
--- A piece was taken from one place on: up to the end of its next line, or to its end.
+-- A piece was processed from one place on: up to the end of its next line, or to its end.
 abbrev pub NextTaken : CoreData → List ℕ → List ℕ → ℕ → Reading → Reading → Option Pairs → Option Pairs → Result (Option ℕ) StreamFault → Type 0
 NextTaken core bytes piece at old new before after (Ok (Some stop)) = (at < stop) × (stop ≤ length piece) × Went core bytes (slice_range piece at stop) old new before after
 NextTaken core bytes piece at old new before after (Ok None) = Went core bytes (drop at piece) old new before after × (fault_in (bytes ++ drop at piece) ≡ None)
@@ -154,7 +154,7 @@ NextTaken core bytes piece at old new before after (Err (fault.Text f)) = Went c
 NextTaken core bytes piece at old new before after (Err (fault.Invalid f)) = ⊥
 NextTaken core bytes piece at old new before after (Err fault.Memory) = RanOut core bytes (drop at piece) old new before after
 
--- A piece was taken whole.
+-- A whole piece was processed.
 abbrev pub PieceTaken : CoreData → List ℕ → List ℕ → Reading → Reading → Option Pairs → Option Pairs → Answer → Type 0
 PieceTaken core bytes piece old new before after (Ok _) = Went core bytes piece old new before after × (fault_in (bytes ++ piece) ≡ None)
 PieceTaken core bytes piece old new before after (Err (fault.Text f)) = Went core bytes piece old new before after × (fault_in (bytes ++ piece) ≡ Some f)

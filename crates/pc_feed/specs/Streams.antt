@@ -1,4 +1,4 @@
--- What a stream keeps, and when it is what it is to be behind some bytes.
+-- The state of a stream, and when it is the right one after some bytes.
 use Rattle.std.specs.Prelude.{◌≡◌, ◌⊎◌, ℕ, ◌<◌, ◌≤◌, true, false, List, [], ◌∷◌, ◌++◌, length, map, Option, Some, None, slice_get}
 use Rattle.pc_core.specs.declared.nodes.Slot.{Slot}
 use Rattle.pc_core.specs.CoreData.{CoreData}
@@ -24,15 +24,15 @@ pub record StreamData : Type 0 where
   pub core : CoreData
   pub reading : Reading
 
--- The lines are those of these slots and nodes: none yet, or the version and the counts, and slots and nodes behind them.
+-- The lines are those of these slots and nodes: none yet, or the version and the counts, followed by slots and nodes.
 pub data Stands (core : CoreData) (ls : List Line) (slots : Slots) (notes : List Note) : Type 0 where
   no_line : ls ≡ [] → slots ≡ [] → notes ≡ [] → Stands core ls slots notes
   behind_head : (version : ℕ) → ls ≡ line.Head version (length core.slots) (length core.nodes) ∷ (map slot_of slots ++ map line.Node notes)
       → length slots ≤ length core.slots → length notes ≤ length core.nodes
       → (notes ≡ []) ⊎ (length slots ≡ length core.slots) → Stands core ls slots notes
 
--- Nothing is wrong in these lines. What is kept are the types of the slots, the notes of the nodes whose parent has not come
--- yet, and how many nodes were found right.
+-- There is no fault in these lines. What is kept are the types of the slots, the notes of the nodes without a parent so
+-- far, and how many nodes were found right.
 pub record NothingWrong (core : CoreData) (ls : List Line) (j : Judging) : Type 0 where
   pub notes : List Note
   pub lines : Stands core ls j.slots notes
@@ -43,13 +43,13 @@ pub record NothingWrong (core : CoreData) (ls : List Line) (j : Judging) : Type 
   pub written : (k : ℕ) (y : Slot) → k < length j.slots → slice_get core.slots k ≡ Some y → KeepsType (record { slots = j.slots; notes = notes }) k y
   pub passed : (ann : Ann) → Begins ann j.slots notes → (k : ℕ) → k < length notes → Passes core ann k
 
--- The first so many nodes are found right, whatever lines follow.
+-- The first nodes, this many, are found right, whatever lines follow.
 pub record Found (core : CoreData) (ls : List Line) (right : ℕ) : Type 0 where
   pub few : right ≤ length (notes_in ls)
   pub each : (more : List Line) (k : ℕ) → k < right → IsFoundRight core (ls ++ more) k
 
--- This is wrong in these lines: it is the first fault of each annotation whose lines in a version begin so, unless a
--- declaration fails; and no further node is found right, whatever lines follow.
+-- These lines have this fault: it is the first fault of every annotation whose lines in some version begin like this,
+-- unless a declaration fails; and no further node is found right, whatever lines follow.
 pub record Wrong (core : CoreData) (ls : List Line) (right : ℕ) (f : JudgeFault) : Type 0 where
   pub found : Found core ls right
   pub stops : (more : List Line) (k : ℕ) → right ≤ k → IsFoundRight core (ls ++ more) k → ⊥
@@ -62,7 +62,7 @@ JudgedBy core ls j (Some f) = Wrong core ls j.right f
 abbrev pub Judged : CoreData → List Line → Judging → Type 0
 Judged core ls j = JudgedBy core ls j j.fault
 
--- What is kept is what is to be kept of these bytes, and memory did not run out.
+-- The state is the right one for these bytes, and memory did not run out.
 pub record ReadSo (core : CoreData) (bytes : List ℕ) (r : Reading) : Type 0 where
   pub enough : r.spent ≡ false
   pub taken : r.lines ≡ (fed nothing_taken bytes).1

@@ -1,4 +1,4 @@
--- The nodes of a core, one by one, and those whose parent has not come yet.
+-- The nodes of a core, one by one, and those without a parent so far.
 use Rattle.std.specs.Prelude.{◌≡◌, ◌≢◌, ℕ, ◌+◌, List, [], ◌∷◌, ◌++◌, Some, slice_get}
 use Rattle.pc_core.specs.declared.nodes.Node.{Node}
 use Rattle.pc_core.specs.declared.nodes.NodeKind.TheVariants as node
@@ -7,8 +7,8 @@ use Rattle.pc_ann.specs.declared.annotation.Note.{Note}
 use Rattle.pc_ann.specs.declared.annotation.Ann.{Ann}
 use Rattle.pc_valid.specs.Words.{Slots}
 
--- The nodes before node n that wait: a node takes the place of its children, which are the last ones. A body has no parent,
--- and nothing waits behind it.
+-- The nodes before node n that are without a parent: a node takes the place of its children, which are the last ones. A
+-- body has no parent, and nothing is left after it.
 pub data Waits (core : CoreData) : ℕ → List ℕ → Type 0 where
   start : Waits core 0 []
   next : {n : ℕ} (rest : List ℕ) (x : Node) → slice_get core.nodes n ≡ Some x → x.kind ≢ node.Body → Waits core n (rest ++ x.children) → Waits core (n + 1) (rest ++ n ∷ [])

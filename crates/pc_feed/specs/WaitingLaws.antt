@@ -1,4 +1,4 @@
--- What waits, of every core whose parts fit together.
+-- The nodes without a parent so far, for every core whose parts fit together.
 use Rattle.std.specs.Prelude.{◌≡◌, ◌↔◌, ℕ, List, [], ◌∷◌, ◌++◌, length, Some, slice_get}
 use Rattle.pc_core.specs.declared.nodes.Node.{Node}
 use Rattle.pc_core.specs.declared.nodes.NodeKind.TheVariants as node
@@ -11,14 +11,14 @@ use Rattle.pc_valid.specs.Words.{Slots}
 use Rattle.pc_valid.specs.Valid.{Holds, MeetsRule}
 use Rattle.pc_feed.specs.Waiting.{Waits, Begins}
 
--- A node's children are the last ones that wait, and those of a body the only ones.
+-- A node's children are the last of the nodes without a parent, and those of a body the only ones.
 abbrev pub ChildrenWaitLast : Type 0
 ChildrenWaitLast =
     (core : CoreData) (n : ℕ) (waiting : List ℕ) (x : Node) → Formed core → Waits core n waiting → slice_get core.nodes n ≡ Some x
     → (rest : List ℕ) × (waiting ≡ rest ++ x.children) × (x.kind ≡ node.Body → rest ≡ [])
 
--- Of the notes of those that wait, the last are those of the children. By them the node meets the rule of a note exactly
--- where it does in each annotation that begins so.
+-- The children's notes are the last of the notes of the nodes without a parent. By them the node satisfies the rule of
+-- a note iff it does so in every annotation that begins like this.
 abbrev pub WaitingTells : Type 0
 WaitingTells =
     (core : CoreData) (slots : Slots) (notes waiting : List Note) (numbers : List ℕ) (own : Note) (x : Node) → Formed core

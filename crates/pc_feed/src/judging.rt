@@ -22,8 +22,8 @@ use pc_referee::Referee;
 use pc_sub::declarations;
 use std::alloc::{AllocError, Global};
 
-/// The types of the slots so far, the notes of the nodes whose parent has not come yet, how many nodes were found right, and
-/// what is first wrong.
+/// The types of the slots so far, the notes of the nodes without a parent so far, how many nodes were found right, and
+/// the first fault.
 #[derive(Drop)]
 pub struct Judging {
     pub slots: List<(u32, Cap)>,
@@ -40,7 +40,7 @@ fn is_body(node: &Node) -> bool
 }
 
 impl Judging {
-    /// No line has come. Takes no memory.
+    /// No line so far. Does not allocate.
     pub fn new(alloc: Global) -> Judging
         ensures { result ≡ nothing_judged }
     {
@@ -52,7 +52,7 @@ impl Judging {
         }
     }
 
-    // The first line, of either version.
+    // The first line, in either version.
     fn take_head(&mut self, core: &Core, slots: u32, nodes: u32)
         requires { self.old.fault ≡ None }
         ensures { (version : ℕ) (ls : Sequence LineIs) → Comes ls (line.Head version slots nodes) → Judged core.now ls self.old
@@ -79,7 +79,7 @@ impl Judging {
         self.slots.push(ty)
     }
 
-    // Asks the referee of the next node, which has this note.
+    // Asks the referee about the next node, which has this note.
     fn ask<R: Referee>(
         &self,
         core: &Core,
@@ -103,7 +103,7 @@ impl Judging {
         )
     }
 
-    // The next node's note takes the place of its children's. That of a body waits for none.
+    // The next node's note takes the place of its children's. After a body no notes are left.
     fn keep(&mut self, node: &Node, own: Note) -> Result<(), AllocError>
         ensures ok { OnOk result (self.new ≡ record self.old { waiting = waits_behind self.old.waiting node.now own }) }
         ensures err { OnErr result (self.new.right ≡ self.old.right) }
@@ -157,7 +157,7 @@ impl Judging {
         Ok(())
     }
 
-    // A line, where nothing was wrong before it.
+    // A line, if there was no fault before it.
     fn take_next<R: Referee>(
         &mut self,
         core: &Core,
@@ -186,7 +186,7 @@ impl Judging {
         }
     }
 
-    /// Takes a line. Behind the first thing that is wrong, lines are passed over.
+    /// Processes a line. After the first fault, lines are skipped.
     pub fn take_line<R: Referee>(
         &mut self,
         core: &Core,
@@ -203,7 +203,7 @@ impl Judging {
         }
     }
 
-    /// What is first wrong of the annotation whose lines these were: a declaration, or what was found.
+    /// The first fault of the annotation with these lines: a declaration, or what was found.
     pub fn end(&self, core: &Core) -> Result<(), StreamFault>
         ensures { (version : VersionIs) (ann : AnnIs) → Judged core.now (lines_of version ann) self.now → JudgedSo core.now ann result }
     {

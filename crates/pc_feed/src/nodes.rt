@@ -1,4 +1,5 @@
-//! What is looked at beside a rule: the counts, the types that are written for slots, and the fields behind a constructor.
+//! What is checked in addition to the rules: the counts, the types that are written for slots, and the fields after a
+//! constructor.
 ghost use Rattle.std.specs.Prelude.{◌≡◌, ◌↔◌, IsTrue, Some, length, slice_get};
 ghost use Rattle.pc_judge.specs.Computed as computed;
 ghost use Rattle.pc_feed.specs.Steps.{HasWritten, MayHave};
@@ -8,7 +9,7 @@ use pc_caps::Cap;
 use pc_core::{Core, Method, Slot};
 use pc_rules::{constructs, full};
 
-/// Whether there are so many slots and so many nodes.
+/// Whether these are the numbers of slots and of nodes.
 pub fn has_counts(core: &Core, slots: u32, nodes: u32) -> bool
     ensures { IsTrue result ↔ ((slots ≡ length core.now.slots) × (nodes ≡ length core.now.nodes)) }
 {
@@ -25,7 +26,7 @@ fn has_written(slot: Slot, ty: (u32, Cap)) -> bool
     }
 }
 
-/// Whether the slot of this number may have this type.
+/// Whether the slot with this number may have this type.
 pub fn may_have(core: &Core, number: usize, ty: (u32, Cap)) -> bool
     ensures { IsTrue result ↔ MayHave core.now number ty }
 {
@@ -35,7 +36,7 @@ pub fn may_have(core: &Core, number: usize, ty: (u32, Cap)) -> bool
     }
 }
 
-// Whether the node of this number is the body.
+// Whether the node with this number is the body.
 fn ends(body: Option<u32>, number: u32) -> bool
     ensures { result ≡ computed.ends body number }
 {
@@ -45,7 +46,7 @@ fn ends(body: Option<u32>, number: u32) -> bool
     }
 }
 
-// Whether the method is a constructor with this body, and a field is not set behind it.
+// Whether the method is a constructor with this body, and some field is not set after it.
 fn unset_behind(core: &Core, number: u32, method: &Method, note: Note) -> bool
     ensures { result ≡ computed.unset_behind core.now number method.now note }
 {
@@ -53,8 +54,8 @@ fn unset_behind(core: &Core, number: u32, method: &Method, note: Note) -> bool
         && (ends(method.body, number) && !full(core, method.entity, note.set_after))
 }
 
-/// Whether the node of this number, with this note, is the body of the method, a constructor, and a field is not set behind
-/// it.
+/// Whether the node with this number, with this note, is the body of the method, a constructor, and some field is not
+/// set after it.
 pub fn leaves_unset(core: &Core, number: u32, method: u32, note: Note) -> bool
     ensures { result ≡ computed.unset_of core.now number (slice_get core.now.methods method) (Some note) }
 {

@@ -27,15 +27,15 @@ pub enum DerivationFault {
     Failed,
     /// The file has more bytes than a derivation may have.
     TooLong,
-    /// Its bytes are no derivation's text.
+    /// Its bytes are not a derivation's text.
     Text(LineFault),
-    /// They are the text of an annotation that is not valid: this is the first thing that is wrong.
+    /// They are the text of an annotation that is not valid: this is its first fault.
     Invalid(JudgeFault),
     /// Memory ran out.
     Memory,
 }
 
-// Feeds a part. A fault of its text is told at the end.
+// Feeds a part. A fault of its text is reported at the end.
 fn feed_part<R: Referee>(
     stream: &mut Stream<'_>,
     part: &[u8],
@@ -80,7 +80,7 @@ fn is_past(from: u32, part: &[u8]) -> bool
     from == FILE_LIMIT && !part.is_empty()
 }
 
-// Reads the part from one place on, and feeds it. The answer is whether the part is full.
+// Reads the part from one place on, and feeds it. Returns whether the part is full.
 fn take_part<F: Files, R: Referee>(
     alloc: Global,
     files: &mut F,
@@ -128,13 +128,13 @@ fn take_parts<F: Files, R: Referee>(
     }
 }
 
-/// Judges the derivation in the file of this name, in version 1 or 2. It holds one part of 65,536 bytes at a time. The file
-/// is read until a part is shorter, and at most to the part behind the longest derivation. Each node is decided by asking the
-/// referee, as `Stream` says.
+/// Judges the derivation in the file with this name, in version 1 or 2. It holds one part of 65,536 bytes at a time.
+/// The file is read until a part is shorter, and at most to the part after the longest derivation. Each node is decided
+/// by asking the referee, as described at `Stream`.
 ///
 /// # Errors
-/// The first of these: a part that could not be read, that the file is too long, that the bytes are no derivation's text, that
-/// the annotation is not valid. `Memory` at want of memory.
+/// The first of these: a part could not be read, the file is too long, the bytes are not a derivation's text, the
+/// annotation is not valid. `Memory` if memory runs out.
 pub fn judge_file<F: Files, R: Referee>(
     alloc: Global,
     files: &mut F,
@@ -144,7 +144,7 @@ pub fn judge_file<F: Files, R: Referee>(
 ) -> Result<(), DerivationFault>
     ensures later { (n : Sequence ℕ) → F.faults files.old n ≤ F.faults files.new n }
     ensures same { (n : Sequence ℕ) → F.bytes files.new n ≡ F.bytes files.old n }
-    // What was found, with its cause, and the nodes that the referee was asked of.
+    // What was found, with its cause, and the nodes about which the referee was asked.
     ensures judged { FileJudged core.now (F.bytes files.old name.now) (F.faults files.old name.now) (F.faults files.new name.now) (F.taken files.new) (R.asked referee.old) (R.asked referee.new) result }
 {
     let mut stream = Stream::start(alloc, core);

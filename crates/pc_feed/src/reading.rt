@@ -1,4 +1,4 @@
-//! Pieces of a text, taken line by line.
+//! Pieces of a text, processed line by line.
 ghost use Rattle.std.specs.Prelude.{◌≡◌, ◌≤◌, ℕ, List as Sequence, Err, None, Some, true, false, length};
 ghost use Rattle.pc_deriv.specs.declared.line.Line.{Line as LineIs};
 ghost use Rattle.pc_deriv.specs.declared.line.LineFault.{LineFault as FaultIs};
@@ -23,7 +23,7 @@ pub struct Reading {
 }
 
 impl Reading {
-    /// No byte was taken. Takes no memory.
+    /// No byte was taken. Does not allocate.
     pub fn new(alloc: Global) -> Reading
         ensures { result ≡ nothing_read }
     {
@@ -55,7 +55,7 @@ impl Reading {
         }
     }
 
-    // Takes a piece from one place on, to the end of its next line or to its end. The answer is where the line ended.
+    // Processes a piece from one place on, to the end of its next line or to its end. Returns where the line ended.
     fn take_next<R: Referee>(
         &mut self,
         core: &Core,
@@ -82,7 +82,7 @@ impl Reading {
         }
     }
 
-    /// Takes a piece.
+    /// Processes a piece.
     pub fn take_piece<R: Referee>(
         &mut self,
         core: &Core,

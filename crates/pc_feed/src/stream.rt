@@ -14,10 +14,10 @@ use pc_referee::Referee;
 use std::alloc::Global;
 use std::marker::Model;
 
-/// A judge of a core that is fed a derivation's text in pieces, of any length. The first line tells the text's version.
+/// A judge of a core that is fed a derivation's text in pieces, of any length. The first line names the text's version.
 ///
-/// Contracts see of which bytes it is the stream (`IsFed`): those of all pieces that were fed, one behind the other. It keeps
-/// the types of the slots, the notes of the nodes whose parent has not come yet, and the bytes of one line.
+/// Contracts see of which bytes it is the stream (`IsFed`): those of all pieces that were fed, one after the other. It
+/// keeps the types of the slots, the notes of the nodes without a parent so far, and the bytes of one line.
 #[derive(Drop)]
 pub struct Stream<'p> {
     core: &'p Core,
@@ -35,7 +35,7 @@ impl<'p> Model for Stream<'p> {
 }
 
 impl<'p> Stream<'p> {
-    /// A judge of a core that was fed nothing. Takes no memory.
+    /// A judge of a core that was fed nothing. Does not allocate.
     pub fn start(alloc: Global, core: &'p Core) -> Stream<'p>
         ensures { IsFed core.now [] result }
     {
@@ -45,22 +45,22 @@ impl<'p> Stream<'p> {
         }
     }
 
-    /// Takes the next piece of the text. Each node whose line ends in it is decided by asking the referee once, in order, until
-    /// something is wrong: a count, a slot, a node, or a field that a constructor leaves unset. A declaration that fails is
-    /// told by `end`, and does not stop the asking.
+    /// Takes the next piece of the text. Each node whose line ends in it is decided by asking the referee once, in
+    /// order, up to the first fault: a count, a slot, a node, or a field that a constructor leaves unset. A declaration
+    /// that fails is reported by `end`, and does not stop the asking.
     ///
     /// # Errors
-    /// - `Text` exactly where a line's fault is found in the bytes fed so far. Every later call answers the same.
-    /// - `Memory` at want of memory, here or earlier. The referee was asked of some first nodes of the piece then, and is asked
-    ///   no more.
+    /// - `Text` iff a line's fault is found in the bytes fed so far. Every later call returns the same.
+    /// - `Memory` if memory runs out, here or earlier. Then the referee was asked about some first nodes of the
+    ///   piece, and is asked no more.
     pub fn feed<R: Referee>(&mut self, piece: &[u8], referee: &mut R) -> Result<(), StreamFault>
-        // The stream is that of the piece behind all bytes before it, and the referee's list, where it is told, grew by the
-        // nodes that are found right in the piece.
+        // The stream is that of the piece after all bytes before it, and the referee's list, if it is known, grew by
+        // the nodes that are found right in the piece.
         ensures fed { (core : CoreData) (bytes : Sequence ℕ) → IsFed core bytes self.old
             → Feeds core bytes piece.now self.new (R.asked referee.old) (R.asked referee.new) result }
-        // A fault of the text is answered again.
+        // A fault of the text is returned again.
         ensures kept { (core : CoreData) (bytes : Sequence ℕ) (f : FaultIs) → IsFed core bytes self.old → fault_in bytes ≡ Some f → result ≡ Err (Text f) }
-        // Behind want of memory nothing is taken and nothing is asked.
+        // After memory ran out nothing is taken and nothing is asked.
         ensures spent { IsSpent self.old → (result ≡ Err Memory) × IsSpent self.new × (R.asked referee.new ≡ R.asked referee.old) }
     {
         if self.reading.spent {
@@ -69,12 +69,12 @@ impl<'p> Stream<'p> {
         self.reading.take_piece(self.core, piece, referee)
     }
 
-    /// Ok exactly where the bytes fed are the text of a valid annotation, in version 1 or 2. Takes no memory.
+    /// Ok iff the bytes fed are the text of a valid annotation, in version 1 or 2. Does not allocate.
     ///
     /// # Errors
-    /// - `Text` exactly where they are no derivation's text in either version, with its fault.
-    /// - `Invalid` exactly where they are the text of an annotation that is not valid, with its first fault.
-    /// - `Memory` exactly where a call of `feed` answered it.
+    /// - `Text` iff they are not a derivation's text in either version, with its fault.
+    /// - `Invalid` iff they are the text of an annotation that is not valid, with its first fault.
+    /// - `Memory` iff a call of `feed` returned it.
     pub fn end(self) -> Result<(), StreamFault>
         ensures fed { (core : CoreData) (bytes : Sequence ℕ) → IsFed core bytes self.entry → EndsSo core bytes result }
         ensures spent { IsSpent self.entry → result ≡ Err Memory }

@@ -1,4 +1,4 @@
-//! A small program, its derivation, and what a judge says of its variants.
+//! A small program, its derivation, and what a judge reports of its variants.
 use pc_ann::Note;
 use pc_core::Core;
 use pc_feed::{Stream, StreamFault};
@@ -24,12 +24,12 @@ pub(crate) fn program(alloc: Global) -> Option<Core> {
     core_of(alloc, ONE_OBJECT)
 }
 
-// Whether a fault that a call answers is answered by the next one too.
+// Whether a fault that a call returns is returned by the next one too.
 fn keeps(before: &Result<(), StreamFault>, after: &Result<(), StreamFault>) -> bool {
     before.is_ok() || *after == *before
 }
 
-/// What a judge says of two pieces in the end, if each fault that it answers to a piece is answered from then on.
+/// What a judge finally reports of two pieces, if each fault that it returns for a piece is returned from then on.
 pub(crate) fn judge_pieces(
     alloc: Global,
     core: &Core,
@@ -47,7 +47,7 @@ pub(crate) fn judge_pieces(
     }
 }
 
-// Whether what was asked is this node of the derivation.
+// Whether the question was about this node of the derivation.
 fn is_node(asked: Option<&(u32, Note)>, at: usize) -> bool {
     match (asked, NODES.get(at)) {
         (Some((number, own)), Some(row)) => *number as usize == at && *own == note(*row),
@@ -55,7 +55,7 @@ fn is_node(asked: Option<&(u32, Note)>, at: usize) -> bool {
     }
 }
 
-/// Whether the referee was asked of these first nodes and of no other.
+/// Whether the referee was asked about these first nodes and no others.
 pub(crate) fn was_asked(referee: &ListReferee, count: usize) -> bool {
     let asked = referee.asked();
     for at in 0..count {
@@ -66,7 +66,7 @@ pub(crate) fn was_asked(referee: &ListReferee, count: usize) -> bool {
     asked.len() == count
 }
 
-// What a judge that was fed a text without a fault says of it, where so many first nodes are asked of.
+// What a judge reports of a text that it was fed without a fault, if this many first nodes are asked about.
 fn judge_asking(
     alloc: Global,
     core: &Core,

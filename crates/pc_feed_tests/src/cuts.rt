@@ -9,7 +9,7 @@ use pc_test_inputs::{LINES, LINES2, variant_of};
 use std::alloc::{AllocError, Global};
 use std::test::Fail;
 
-// Where a text is cut so that it is not accepted, if anywhere.
+// A place where a text can be cut so that it is not accepted, if there is one.
 fn refused_cut(alloc: Global, core: &Core, bytes: &[u8]) -> Option<usize> {
     for cut in 0..bytes.len() {
         if judge_pieces(alloc, core, &bytes[..cut], &bytes[cut..]) != Some(Ok(())) {
@@ -19,7 +19,7 @@ fn refused_cut(alloc: Global, core: &Core, bytes: &[u8]) -> Option<usize> {
     None
 }
 
-// Whether a text is accepted whose bytes come one by one.
+// Whether a text is accepted if its bytes come one by one.
 fn is_accepted_by_bytes(alloc: Global, core: &Core, bytes: &[u8]) -> bool {
     let mut stream = Stream::start(alloc, core);
     for at in 0..bytes.len() {
@@ -54,7 +54,7 @@ fn wherever_the_derivation_in_version_2_is_cut_it_is_accepted(rt: HostRuntime) -
     Ok(())
 }
 
-// A line of the derivation by its number, other bytes for it, and the fault then.
+// A line of the derivation by its number, other bytes for it, and the resulting fault.
 type Variant = (usize, &'static [u8], StreamFault);
 
 const VARIANTS: [Variant; 6] = [
@@ -88,7 +88,7 @@ const VARIANTS2: [Variant; 8] = [
         b"n new 6 ref 3 0 0 0\n",
         StreamFault::Invalid(JudgeFault::Node(3)),
     ),
-    // The masks after the node, as version 1 has them.
+    // The masks after the node, as in version 1.
     (
         6,
         b"n prim 0 val 1 0 1 0\n",
@@ -118,7 +118,7 @@ const VARIANTS2: [Variant; 8] = [
     ),
 ];
 
-// Whether a text has this fault wherever it is cut, at each eleventh byte.
+// Whether a text has this fault wherever it is cut, at every eleventh byte.
 fn has_fault(alloc: Global, core: &Core, bytes: &[u8], fault: StreamFault) -> bool {
     for nth in 0..bytes.len() / 11 {
         let cut = 11 * nth;
@@ -163,7 +163,7 @@ fn a_variant_of_version_2_cut_at_each_11th_byte_has_its_fault(rt: HostRuntime) {
     assert!(rt; are_refused(rt.alloc(), &LINES2, &VARIANTS2));
 }
 
-// What a judge says of the program's derivation in one piece.
+// What a judge reports of the program's derivation in one piece.
 fn judged(alloc: Global, text: &[u8]) -> Option<Result<(), StreamFault>> {
     let core = program(alloc)?;
     judge_pieces(alloc, &core, text, b"")

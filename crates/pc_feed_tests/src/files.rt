@@ -8,14 +8,14 @@ use pc_referee::{ListReferee, Rules};
 use std::alloc::{AllocError, Global};
 use std::test::Fail;
 
-// Files in memory of which these calls fail, with this text in `a.der`.
+// Files in memory for which these calls fail, with this text in `a.der`.
 fn files_with(alloc: Global, fail: &[u32], text: &[u8]) -> Result<MemFiles, AllocError> {
     let mut files = MemFiles::new(alloc, fail)?;
     files.add("a.der", text)?;
     Ok(files)
 }
 
-// What is said of the program's derivation in a file.
+// What is reported of the program's derivation in a file.
 fn judged(alloc: Global, files: &mut MemFiles, name: &str) -> Option<Result<(), DerivationFault>> {
     let core = program(alloc)?;
     Some(judge_file(alloc, files, name, &core, &mut Rules))
@@ -26,7 +26,7 @@ fn is_asked_whole_of(alloc: Global, files: &mut MemFiles, core: &Core) -> bool {
     judge_file(alloc, files, "a.der", core, &mut referee).is_ok() && was_asked(&referee, 7)
 }
 
-// Whether the program's derivation in `a.der` is accepted, and all its nodes are asked of.
+// Whether the program's derivation in `a.der` is accepted, and all its nodes are asked about.
 fn is_asked_whole(alloc: Global, files: &mut MemFiles) -> bool {
     match program(alloc) {
         Some(core) => is_asked_whole_of(alloc, files, &core),
@@ -34,14 +34,15 @@ fn is_asked_whole(alloc: Global, files: &mut MemFiles) -> bool {
     }
 }
 
-// Whether a file is refused so.
+// Whether a file is refused with this fault.
 fn is_refused(alloc: Global, files: &mut MemFiles, name: &str, fault: DerivationFault) -> bool {
     judged(alloc, files, name) == Some(Err(fault))
 }
 
 const FAILED: DerivationFault = DerivationFault::Failed;
 
-// Whether the files are answered so: the second reading of all is of no file, the third fails, and the fourth does not.
+// Whether the files give these results: the second reading of all is of no file, the third fails, and the fourth does
+// not.
 fn fails_twice(alloc: Global, files: &mut MemFiles) -> bool {
     is_asked_whole(alloc, files)
         && is_refused(alloc, files, "gone.der", FAILED)
@@ -74,7 +75,7 @@ fn a_file_in_no_version_is_refused(rt: HostRuntime) -> Result<(), Fail> {
     Ok(())
 }
 
-// The derivation with 70,000 line ends behind it.
+// The derivation followed by 70,000 line ends.
 fn long_text(alloc: Global) -> Result<Vec<u8>, AllocError> {
     let mut text = variant(alloc, 0, b"")?;
     for _ in 0..70_000 {
@@ -83,7 +84,7 @@ fn long_text(alloc: Global) -> Result<Vec<u8>, AllocError> {
     Ok(text)
 }
 
-// Whether the long text is refused so, where these calls fail.
+// Whether the long text is refused with this fault if these calls fail.
 fn long_is_refused(
     alloc: Global,
     fail: &[u32],

@@ -1,4 +1,4 @@
--- A trait has all methods of the traits above it, however long a chain of `is` may be.
+-- A trait has all methods of the traits above it, whatever the bound on the length of a chain of `is`.
 use Rattle.std.proofs.Common.{◌≡◌, ℕ, zero, suc, ◌+◌, ◌-◌, ◌<◌, ◌≤◌, List, [], ◌∷◌, ◌++◌, length, Option, Some, None, Bool, true, false, refl, sym, ap, ◌∙◌, subst, arith, if◌then◌else◌, inl, inr}
 use Rattle.std.specs.Prelude.{slice_get, ◌⊎◌}
 use Rattle.std.proofs.lemmas.Bool.{cases_lt}
@@ -77,11 +77,11 @@ upto_has (suc n) c l = elim (cases_lt c n) [
   | inr m ↦ let e : n ≡ c = omega (arith, l, m) in (0, ap Some e)
 ]
 
--- Different numbers below another are no more than it.
+-- There are no more different numbers below a bound than the bound.
 few_below : (n : ℕ) (path : List ℕ) → Differ path → ((c : ℕ) → Has path c → c < n) → length path ≤ n
 few_below n path d f = let k = no_longer path (upto n) d (λ c h. upto_has n c (f c h)) in let e = upto_count n in omega (arith, k, e)
 
--- ---- one step more
+-- ---- one more step
 
 same_each : (one other : t.Entity → List t.Method) (all : List t.Entity) (ns : List Name) → ((n : Name) (f : t.Entity) → Has ns n → entity_named all n.text ≡ Some f → one f ≡ other f) → of_each one all ns ≡ of_each other all ns
 same_each one other all [] h = refl
@@ -94,7 +94,7 @@ same_each one other all (n ∷ ns) h =
     by None e = refl
     by (Some f) e = h n f (0, refl) e
 
--- A chain with one `is` more.
+-- A chain with one more `is`.
 longer : (file : t.File) {a b c : ℕ} → chain.Leads file a b → chain.Names file b c → chain.Leads file a c
 longer file (chain.one h) l = chain.more h (chain.one l)
 longer file (chain.more h r) l = chain.more h (longer file r l)
@@ -144,7 +144,7 @@ module _ (file : t.File) (above : List (List ℕ)) (c : Collects file above) (cl
   alone a zero (suc j) x g h = absurd (none-some x h)
   alone a (suc i) j x g h = absurd (none-some x g)
 
-  -- From the count of the entities on, one step more makes no difference.
+  -- From the number of the entities on, one more step makes no difference.
   pub one_more : (k a : ℕ) (e : t.Entity) → slice_get all a ≡ Some e → length all ≤ k → trait_methods (suc k) all e ≡ trait_methods k all e
   one_more k a e h l =
       stays k a e (a ∷ []) h (alone a) (λ b g. subst (λ x. x < length all) (sym (is_first b g)) (get_below all a e h)) (λ b g. inl (is_first b g)) (omega (arith, l))
@@ -192,7 +192,7 @@ named_there (e ∷ es) f i h = by (λ j g. named_there es f j g) (bytes_eq e.nam
     by rest false d zero g = absurd (true_false (sym (ap (λ (x : t.Entity). bytes_eq x.name.text f.name.text) (same_Some e f g) ∙ same_text f.name.text) ∙ d))
     by rest false d (suc i) g = rest i g
 
--- A chain begins at an entity of the file.
+-- A chain starts at an entity of the file.
 begins : (file : t.File) (p q : ℕ) → chain.Leads file p q → (a : ℕ) × (e : t.Entity) × (p ≡ first_own + a) × (slice_get file.entities a ≡ Some e)
 begins file p q (chain.one h) = let o = entity_own file p h.0 h.1 in (o.0, h.0, o.1, o.2)
 begins file p q (chain.more h r) = let o = entity_own file p h.0 h.1 in (o.0, h.0, o.1, o.2)
@@ -201,7 +201,7 @@ module _ (file : t.File) (above : List (List ℕ)) (c : Collects file above) (cl
   abbrev methods : t.Entity → List t.Method
   methods = trait_methods (length file.entities) file.entities
 
-  -- What is in the entity or in one that it names is there, by its name.
+  -- What is in the entity or in one that it names is found by its name.
   turn : (a : ℕ) (e : t.Entity) (x : Text) → slice_get file.entities a ≡ Some e → Has (method_texts (e.methods ++ of_each methods file.entities e.provides)) x → Has (method_texts (methods e)) x
   turn a e x h g = elim (firsts_named [] (e.methods ++ of_each methods file.entities e.provides) x g) [
     | inl n ↦ absurd (none-some x n.1)

@@ -1,4 +1,4 @@
--- What holds of a file whose names have no fault.
+-- Properties of a file whose names have no fault.
 use Rattle.std.proofs.Common.{◌≡◌, ℕ, zero, suc, ◌+◌, ◌<◌, ◌≤◌, ◌&&◌, ◌||◌, List, [], ◌∷◌, ◌++◌, length, Option, Some, None, Bool, true, false, not, sym, ◌∙◌, subst, arith, append-nil}
 use Rattle.std.specs.Prelude.{nat_lt, codes, drop}
 use Rattle.std.proofs.lemmas.Bool.{ltb-true, not-false}
@@ -31,7 +31,7 @@ use Rattle.pc_lists.proofs.Cuts.{nil_left, nil_right}
 
 -- ---- one entity
 
--- A type of the file's is an entity's.
+-- A type of the file is that of an entity.
 abbrev pub IsType : List Text → TypeRef → Type 0
 IsType entities ty = Has entities ty.name.text
 

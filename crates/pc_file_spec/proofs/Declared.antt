@@ -1,4 +1,4 @@
--- What a member declares fits.
+-- The declaration of a member fits.
 use Rattle.std.proofs.Common.{◌≡◌, ℕ, ◌+◌, ◌<◌, List, [], ◌++◌, length, Option, Some, None, Bool, true, false, refl, sym, ap, ◌∙◌, subst, arith, inl, inr, append-nil}
 use Rattle.std.specs.Prelude.{◌⊎◌, is_some, IsSome}
 use Rattle.std.proofs.lemmas.Option.{none-some}
@@ -38,7 +38,7 @@ use Rattle.pc_file_spec.proofs.Origins.{Origin, Comes, as_declared, as_own, as_t
 use Rattle.pc_file_spec.proofs.Types.{type_below}
 use Rattle.pc_file_spec.proofs.Definitions.{MemberOrder}
 
--- ---- where methods stand
+-- ---- where methods are allowed
 
 -- A member of a trait has no body, and one of another entity has one.
 abbrev BodyFor : Bool → Option t.Seq → Type 0
@@ -123,7 +123,7 @@ comes_ordered file e origin source x o p he ho hs (as_taken d f k h) =
     let places : body_places origin.fields source ≡ body_places e.fields source = same_places origin.kind origin.fields e.fields source f ((p origin ho).1 source hs).0 in
     subst (λ y. MemberOrder e (written y)) h (subst Ascends places ((o origin ho).1 source hs))
 
--- The names in a member's body stand in the order of the text.
+-- The names in a member's body are in the order of the text.
 pub member_order : (file : t.File) (e : t.Entity) (m : Member) → InOrder file → InPlace file → Has file.entities e → Sort file e m → MemberOrder e m
 member_order file e added o p he h = (o e he).0
 member_order file e (written x) o p he s = comes_ordered file e s.origin s.source x o p he s.is_entity s.is_method s.comes

@@ -27,7 +27,7 @@ use Rattle.pc_members.specs.Members.{Member, written, added}
 use Rattle.pc_file_spec.specs.Signatures.{locals_of, placed_of}
 use Rattle.pc_file_spec.proofs.Steps.{member_faults, member_rose}
 
--- A slot that is not from the first of these numbers up to the second.
+-- A slot outside the range from the first of these numbers up to the second.
 abbrev outside : ℕ → ℕ → ℕ → ℕ → Bool
 outside low high n d = nat_lt n low || not (nat_lt n high)
 
@@ -57,7 +57,7 @@ one_zero : (b : Bool) → one_if b ≡ 0 → b ≡ false
 one_zero true h = absurd (omega (arith, h))
 one_zero false h = refl
 
--- Where no node passes the test, no definition does.
+-- If no node passes the test, no definition does.
 none_passes : (z : ℕ → ℕ → Bool) (xs : List Node) → node_times z xs ≡ 0 → (k : ℕ) (w : Node) (s : ℕ) → slice_get xs k ≡ Some w → w.kind ≡ node.Define s → z s w.depth ≡ false
 none_passes z [] e k w s g d = absurd (none-some w g)
 none_passes z (x ∷ xs) e zero w s g d =
@@ -72,7 +72,7 @@ abbrev pub param_count : Member → ℕ
 param_count (written x) = length x.params
 param_count added = 0
 
--- The names in a member's body stand in the order of the text.
+-- The names in a member's body are in the order of the text.
 abbrev pub MemberOrder : t.Entity → Member → Type 0
 MemberOrder e (written x) = Ascends (body_places e.fields x)
 MemberOrder e added = Ascends (initial_places e.fields)

@@ -60,7 +60,7 @@ position_get x xs b h =
     let p = position-Some (bytes_eq x) xs b [] h in
     slice_get-get_or xs b [] p.0 ∙ ap (λ y. Some y) (sym (equal_texts x _ p.1))
 
--- ---- the entities of the language
+-- ---- the built-in entities
 
 six : (P : ℕ → EntityDef → Type 0) → P 0 (built_in_value (codes "None")) → P 1 (built_in_value (codes "U64")) → P 2 (built_in_value (codes "Bool")) → P 3 (built_in_value (codes "String"))
     → P 4 (built_in kind.Class cap.Val (codes "Env") (out_field 0 ∷ []) 0) → P 5 (built_in kind.Actor cap.Tag (codes "OutStream") [] 1) → (n : ℕ) (x : EntityDef) → slice_get built_ins n ≡ Some x → P n x
@@ -129,7 +129,7 @@ module _ (file : t.File) (above : List (List ℕ)) (q : Parts) (s : Setting file
   leads_of {a} {b} (one h) = chain.one (names_of a b h)
   leads_of {a} (more {b = d} h r) = chain.more (names_of a d h) (leads_of r)
 
-  -- ---- the entities of the language
+  -- ---- the built-in entities
 
   no_lead : (n b : ℕ) (x : EntityDef) → slice_get built_ins n ≡ Some x → Leads core n b → ⊥
   no_lead n b x h (one y) =

@@ -86,7 +86,7 @@ module _ (file : t.File) (above : List (List ℕ)) (q : Parts) (s : Setting file
         nodes = nodes_fit file above q s;
       }
 
--- The parts of a core that stands.
+-- The parts of the core of a file.
 pub stands_with : (file : t.File) (above : List (List ℕ)) (core : CoreData) → core_of above file ≡ Ok core → (q : Parts) × (parts_of file ≡ Ok q) × (core_with file above q ≡ core)
 stands_with file above core h = by (parts_of file) refl h
   where

@@ -39,7 +39,7 @@ use Rattle.pc_file_spec.proofs.Definitions.{MemberOrder, param_count}
 use Rattle.pc_file_spec.proofs.Orders.{one_parent, children_above}
 use Rattle.pc_file_spec.proofs.Ranges.{range_middle}
 
--- ---- what a member's body may name
+-- ---- what a member's body may refer to
 
 abbrev pub visible_of : Member → List ℕ
 visible_of (written x) = slots (params_scope x.params)

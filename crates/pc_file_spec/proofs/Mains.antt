@@ -1,4 +1,4 @@
--- The actor with which a file's program begins.
+-- The actor with which a file's program starts.
 use Rattle.std.proofs.Common.{◌≡◌, ℕ, suc, ◌+◌, ◌&&◌, ◌||◌, List, [], ◌∷◌, map, Option, Some, None, Bool, true, false, refl, sym, ap, ◌∙◌, subst, if◌then◌else◌}
 use Rattle.std.specs.Prelude.{slice_get, codes}
 use Rattle.std.specs.List.{list_any}
@@ -38,7 +38,7 @@ use Rattle.pc_file_spec.proofs.Settings.{Setting, all_members, entity_get, metho
 use Rattle.pc_file_spec.proofs.Entities.{text_there}
 use Rattle.std.proofs.lemmas.Bool.{and_parts}
 
--- ---- what the tests say
+-- ---- what the tests mean
 
 abbrev IsNone : {T : Type 0} → List T → Type 0
 IsNone [] = Unit {0}
@@ -90,7 +90,7 @@ new_is word.New h = refl
 new_is word.Fun h = absurd (true_false (sym h))
 new_is word.Be h = absurd (true_false (sym h))
 
--- The members of an actor begin with its own methods.
+-- The members of an actor start with its own methods.
 actor_members : (all : List t.Entity) (e : t.Entity) → e.kind ≡ kind.Actor → members all e ≡ concrete_members all e
 actor_members all e h = ap (λ k. if is_abstract k then abstract_members all e else concrete_members all e) h
 

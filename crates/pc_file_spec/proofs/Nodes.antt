@@ -42,7 +42,7 @@ use Rattle.pc_file_spec.proofs.Definitions.{param_count, defined_within}
 use Rattle.pc_file_spec.proofs.Locals.{Bodied, all_nodes, node_in, own_method, used, child_own, visible_within, params_count}
 use Rattle.pc_file_spec.proofs.Methods.{ordered}
 
--- ---- entities that are known
+-- ---- known entities
 
 no_constructors : (n : ℕ) (x : Known) (y : Constructor) → slice_get built_in_known n ≡ Some x → Has x.constructors y → ⊥
 no_constructors zero x y h g = none-some y (ap (λ (z : Known). slice_get z.constructors g.0) (same_Some _ x h) ∙ g.1)
@@ -98,7 +98,7 @@ module _ (file : t.File) (above : List (List ℕ)) (q : Parts) (s : Setting file
         (method_at file q (1 + (starts file.entities file.entities i + y.0)) o a, get_at core.methods m (1 + (starts file.entities file.entities i + y.0)) (method_at file q (1 + (starts file.entities file.entities i + y.0)) o a) number (at_get file q (1 + (starts file.entities file.entities i + y.0)) o a), constructs e.0.kind y.1 y.3 ∙ ap constructor_kind (sym e.2 ∙ h.3))
   ]
 
-  -- ---- what a node names
+  -- ---- what a node refers to
 
   names_fit : (c : Context) (m : ℕ) (k : NodeKind) → c.entities ≡ known_of file → length c.texts ≡ length core.names → Names c k → ((i : ℕ) → Uses i k → NamesSlot core m i) → ((i : ℕ) → k ≡ node.Define i → NamesLocal core m i) → NamesFit core m k
   names_fit c m (node.Prim e) same texts h uses defines = primitive_there c e same h

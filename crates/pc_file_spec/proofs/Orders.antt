@@ -8,14 +8,14 @@ use Rattle.pc_lists.specs.Places.{Each, Has, Differ}
 use Rattle.pc_core.specs.Methods.{PostOrder}
 use Rattle.pc_lists.proofs.Elements.{below_next}
 
--- What waits before a node.
+-- The nodes without a parent before a node.
 waited : (waiting rest : List ℕ) (x y : Node) (c : ℕ) → waiting ≡ rest ++ x.children → x ≡ y → Has y.children c → (k : ℕ) × (slice_get waiting (length rest + k) ≡ Some c)
 waited waiting rest x y c e s h = (h.0, ap (λ ws. slice_get ws (length rest + h.0)) e ∙ get_append rest x.children h.0 ∙ ap (λ (z : Node). slice_get z.children h.0) s ∙ h.1)
 
 kept : (waiting rest children : List ℕ) (k c : ℕ) → waiting ≡ rest ++ children → slice_get rest k ≡ Some c → slice_get waiting k ≡ Some c
 kept waiting rest children k c e h = ap (λ ws. slice_get ws k) e ∙ get_front rest children k c h
 
--- What does not wait and comes before these nodes is a child of none of them.
+-- A node that has a parent already and comes before these nodes is a child of none of them.
 gone : (n : ℕ) (xs : List Node) (waiting last : List ℕ) → PostOrder n xs waiting last → (c : ℕ) → c < n → (Has waiting c → ⊥) → (i : ℕ) (y : Node) → slice_get xs i ≡ Some y → Has y.children c → ⊥
 gone n [] waiting last p c l absent i y e h = none-some y e
 gone n (x ∷ xs) waiting last p c l absent zero y e h =
@@ -40,7 +40,7 @@ differ_next n rest b d i j c g h = elim (get_push rest n i c g) [
   ]
 ]
 
--- Children of the first node of some are children of none behind it.
+-- Children of the first of these nodes are children of no later one.
 later_none : (n : ℕ) (x : Node) (xs : List Node) (waiting last : List ℕ) → PostOrder n (x ∷ xs) waiting last → Differ waiting → Each (λ i c. c < n) waiting → (y z : Node) (j c : ℕ) → x ≡ y → slice_get xs j ≡ Some z → Has y.children c → Has z.children c → ⊥
 later_none n x xs waiting last p d b y z j c s e g h =
     let w = waited waiting p.0 x y c p.1 s g in
@@ -64,7 +64,7 @@ one_parent n (x ∷ xs) waiting last p d b (suc i) (suc j) y z c e f g h =
     let apart : Differ p.0 = λ k m v r t. d k m v (kept waiting p.0 x.children k v p.1 r) (kept waiting p.0 x.children m v p.1 t) in
     ap suc (one_parent (n + 1) xs (p.0 ++ n ∷ []) last p.2 (differ_next n p.0 front apart) (below_next n p.0 front) i j y z c e f g h)
 
--- Children stand no lower than what waits, and than the first node.
+-- Children are no lower than the nodes without a parent, and than the first node.
 pub children_above : (low n : ℕ) (xs : List Node) (waiting last : List ℕ) → PostOrder n xs waiting last → low ≤ n → Each (λ i c. low ≤ c) waiting → (i : ℕ) (y : Node) (c : ℕ) → slice_get xs i ≡ Some y → Has y.children c → low ≤ c
 children_above low n [] waiting last p l b i y c e h = absurd (none-some y e)
 children_above low n (x ∷ xs) waiting last p l b zero y c e h =

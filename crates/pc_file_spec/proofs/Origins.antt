@@ -25,7 +25,7 @@ use Rattle.pc_lists.proofs.Elements.{has_on, has_either, differ_none}
 use Rattle.pc_names.proofs.Founded.{Adds, adds_differ}
 use Rattle.pc_file_spec.proofs.Collects.{Collects}
 
--- ---- the first of each name
+-- ---- the first with each name
 
 pub firsts_has : (known : List Text) (ms : List t.Method) (x : t.Method) → Has (firsts known ms) x → Has ms x
 firsts_has known [] x h = h
@@ -118,14 +118,14 @@ taken_from file above e x c he h =
 
 -- ---- the methods of entities
 
--- A method x of an entity comes from a source in another or in itself: a trait has it without its body, and another entity has
--- its own methods and those that it takes over from traits.
+-- A method x of an entity comes from a source in another or in itself: a trait has it without its body, and another
+-- entity has its own methods and those that it takes over from traits.
 pub data Comes (e origin : t.Entity) (source x : t.Method) : Type 0 where
   as_declared : is_abstract e.kind ≡ true → is_abstract origin.kind ≡ true → without_body source ≡ x → Comes e origin source x
   as_own : is_abstract e.kind ≡ false → origin ≡ e → source ≡ x → Comes e origin source x
   as_taken : is_abstract e.kind ≡ false → is_abstract origin.kind ≡ true → is_takable e.kind x ≡ true → source ≡ x → Comes e origin source x
 
--- Where a method of an entity is written. Nothing but its body may differ there.
+-- Where a method of an entity is written. Only its body may differ there.
 pub record Origin (file : t.File) (e : t.Entity) (x : t.Method) : Type 0 where
   pub origin : t.Entity
   pub is_entity : Has file.entities origin
@@ -208,7 +208,7 @@ concrete_texts all e d =
 pub fieldless : (k : EntityKind) (fs : List t.Field) → is_abstract k ≡ true → MayHaveFields k fs → fs ≡ []
 fieldless k fs h m = subst (λ b. FieldsIf b fs) (no_fields k h) m
 
--- Where `create` is added there are no traits.
+-- Traits get no added `create`.
 pub added_kind : (e : t.Entity) → has_added e ≡ true → (e.kind ≡ kind.Class) ⊎ (e.kind ≡ kind.Actor)
 added_kind e h = by (has_constructor e) h
   where
@@ -220,7 +220,7 @@ trait_differ : (k : ℕ) (all : List t.Entity) (e : t.Entity) → Differ (method
 trait_differ zero all e = differ_none
 trait_differ (suc k) all e = adds_differ [] (method_texts (firsts [] (e.methods ++ of_each (trait_methods k all) all e.provides))) differ_none (firsts_add [] (e.methods ++ of_each (trait_methods k all) all e.provides))
 
--- The names that an entity has itself differ,
+-- An entity's own names differ,
 own_differ : (file : t.File) (above : List (List ℕ)) (e : t.Entity) → Collects file above → Has file.entities e → Differ (own_texts e)
 own_differ file above e c he = by (has_added e) refl
   where

@@ -71,7 +71,7 @@ own_member all (x ∷ es) n (suc i) j e m h g =
     let k : suc n + i ≡ n + suc i = omega arith in
     ap (slice_get (members_from all n (x ∷ es))) z ∙ get_append (map (owned n x) (members all x)) (members_from all (suc n) es) (starts all es i + j) ∙ own_member all es (suc n) i j e m h g ∙ ap (λ y. Some (owned y e m)) k
 
--- Where a member of these entities stands.
+-- The place of a member of these entities.
 pub record Owner (all es : List t.Entity) (n k : ℕ) (o : Owned) : Type 0 where
   pub entity : ℕ
   pub place : ℕ
@@ -95,7 +95,7 @@ owner_of all (e ∷ es) n k o h = elim (append_get (map (owned n e) (members all
       record { entity = suc r.entity; place = r.place; is_owner = r.is_owner; number = omega (arith, number); is_member = r.is_member; is_place = omega (arith, place, own, low) }
 ]
 
--- ---- what is known of entities
+-- ---- what is known about entities
 
 pub known_at : (all es : List t.Entity) (at i : ℕ) (x : Known) → slice_get (known_from all at es) i ≡ Some x
     → (e : t.Entity) × (slice_get es i ≡ Some e) × (x.kind ≡ e.kind) × (x.constructors ≡ constructors_from (at + starts all es i) (members all e))

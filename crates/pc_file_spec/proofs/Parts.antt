@@ -24,9 +24,9 @@ use Rattle.pc_file_spec.specs.Parts.{Parts, outcome, joined, with_outcome, and_m
 use Rattle.pc_file_spec.proofs.Tables.{language_kept}
 use Rattle.pc_file_spec.proofs.Steps.{IsOk, same_ok, Made, made, Behind, behind, slots_count, member_names}
 
--- ---- more parts
+-- ---- extended parts
 
--- The second has the first as its front, and all its other nodes are of later methods.
+-- The second has the first as a prefix, and all its other nodes belong to later methods.
 pub record Extends (p q : Parts) : Type 0 where
   pub methods : List Method
   pub slots : List Slot
@@ -55,7 +55,7 @@ extends_on p q r a b =
       ];
     }
 
--- ---- what holds of the parts after each member
+-- ---- invariants of the parts after each member
 
 abbrev pub slots_run : Method → ℕ × ℕ
 slots_run x = (x.first_slot, x.slots)
@@ -74,13 +74,13 @@ pub record Good (p : Parts) : Type 0 where
 pub first_good : Good built_in_parts
 first_good = record { slots = omega arith; nodes = omega arith; earlier = λ i y h. absurd (none-some y h); slots_follow = (refl, refl); nodes_follow = (refl, refl) }
 
--- ---- one member more
+-- ---- one more member
 
 module _ (file : t.File) where
   some_text : 0 < length (texts_of file)
   some_text = get_below (texts_of file) 0 _ (language_kept file 0 _ refl)
 
-  -- A member and what became of it.
+  -- A member and its outcome.
   pub record Turn (p : Parts) (o : Owned) (q : Parts) : Type 0 where
     pub result : Option ℕ × List Node
     pub step : outcome (context_of file o) (length p.methods) o.owner o.member p.nodes ≡ Ok result
@@ -96,7 +96,7 @@ module _ (file : t.File) where
   pub made_of : (p : Parts) (o : Owned) (r : Option ℕ × List Node) → outcome (context_of file o) (length p.methods) o.owner o.member p.nodes ≡ Ok r → Made (context_of file o) (length p.methods) o.owner o.member p.nodes r
   made_of p o r h = made (context_of file o) (length p.methods) o.owner o.member p.nodes r some_text h
 
--- Its parts, behind those before it.
+-- Its parts, after those before it.
 module _ (c : Context) (p : Parts) (o : Owned) (r : Option ℕ × List Node) (m : Made c (length p.methods) o.owner o.member p.nodes r) where
   abbrev new_slots : List Slot
   new_slots = slots_from c (length p.methods) o
@@ -158,7 +158,7 @@ module _ (c : Context) (p : Parts) (o : Owned) (r : Option ℕ × List Node) (m 
 
 -- ---- all members
 
--- A member that is method m, with the parts before it and what became of it.
+-- A member that is method m, with the parts before it and its outcome.
 pub record At (file : t.File) (q : Parts) (m : ℕ) (o : Owned) : Type 0 where
   pub before : Parts
   pub number : length before.methods ≡ m
@@ -167,7 +167,7 @@ pub record At (file : t.File) (q : Parts) (m : ℕ) (o : Owned) : Type 0 where
   pub made : Made (context_of file o) (length before.methods) o.owner o.member before.nodes result
   pub extends : Extends (joined (context_of file o) before o result) q
 
--- All of these members, behind some parts.
+-- All of these members, after some parts.
 pub record AllAt (file : t.File) (p : Parts) (os : List Owned) (q : Parts) : Type 0 where
   pub good : Good q
   pub extends : Extends p q

@@ -36,7 +36,7 @@ entities_length file above q = let n = entities_count file above file.entities f
 pub entity_get : (file : t.File) (above : List (List ℕ)) (q : Parts) (i : ℕ) (e : t.Entity) → slice_get file.entities i ≡ Some e → slice_get (core_with file above q).entities (first_own + i) ≡ Some (entity_of file above (first_own + i) (1 + starts file.entities file.entities i) e)
 entity_get file above q i e h = get_append built_ins (entities_from file above first_own 1 file.entities) i ∙ entity_at file above file.entities first_own 1 i e h
 
--- An entity is built in, or the file's.
+-- An entity is built in, or of the file.
 pub record OfFile (file : t.File) (above : List (List ℕ)) (n : ℕ) (x : EntityDef) : Type 0 where
   pub place : ℕ
   pub entity : t.Entity

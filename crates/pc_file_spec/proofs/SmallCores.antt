@@ -1,4 +1,5 @@
--- The small files have names without a fault, and their trees are as texts spell them; so their cores stand and are formed.
+-- The small files have names without a fault, and their trees are as texts spell them; so they have these cores, which
+-- are formed.
 use Rattle.std.proofs.Common.{◌≡◌, ℕ, zero, suc, ◌<◌, ◌^◌, List, [], ◌∷◌, length, Some, Bool, true, false, refl, sym, subst, arith, if◌then◌else◌}
 use Rattle.std.specs.Prelude.{slice_get, nat_lt, Ok}
 use Rattle.std.proofs.lemmas.Bool.{ltb-true}
@@ -96,7 +97,7 @@ fourth_placed : InPlace fourth_file
 fourth_placed = all_has Placed fourth_file.entities
     (placed trait_with_bodies refl ((refl, tt), ((refl, tt), tt)), (placed trait_above refl ((refl, tt), ((refl, tt), tt)), (placed class_with_field tt ((refl, tt), tt), (placed fourth_main tt ((refl, tt), tt), tt))))
 
--- ---- cores that stand
+-- ---- their cores
 
 abbrev above_of : t.File → List (List ℕ)
 above_of file = above_all (edges_of file)

@@ -1,4 +1,4 @@
--- What becomes of one member.
+-- The outcome of one member.
 use Rattle.std.proofs.Common.{◌≡◌, ℕ, suc, ◌+◌, ◌<◌, ◌≤◌, List, [], ◌∷◌, ◌++◌, length, map, Option, Some, None, refl, sym, ap, ◌∙◌, subst, inl, inr, arith, append-nil}
 use Rattle.std.specs.Prelude.{slice_get, ◌⊎◌, Result, Ok, Err}
 use Rattle.std.proofs.lemmas.Bool.{cases_lt}
@@ -82,9 +82,9 @@ passed [] names rest r h = by (slice_get names 63) refl h
     by None e g = record { no_fault = refl; few = few_names names e; rest_is = g }
     by (Some x) e g = absurd (subst IsOk (sym g) tt)
 
--- ---- the body, where there is one
+-- ---- the body, if there is one
 
--- The body of a member that is method m stands behind these nodes.
+-- The body of a member that is method m comes after these nodes.
 pub record Built (c : Context) (m : ℕ) (e : t.Entity) (x : Member) (before : List Node) (n : ℕ) (after : List Node) : Type 0 where
   pub rose : Rose
   pub is_rose : member_rose c e x ≡ Some rose
@@ -127,7 +127,7 @@ made c m e x before r some_text h =
 
 -- ---- its slots and nodes
 
--- It has as many slots as names, and that of `this`.
+-- It has one slot for each name, and that of `this`.
 pub names_count : (c : Context) (e : t.Entity) (x : Member) → length (member_names e x) ≡ length (params_of c.entities x) + length (locals_of e x)
 names_count c e (written x) =
     let all = length-append (param_names x.params) (local_names (method_locals e.fields x)) in
@@ -150,7 +150,7 @@ slots_count c m o =
     let whole : length (slots_from c m o) ≡ suc (length (map (param_slot m) ps ++ map (local_slot c m) ls)) = refl in
     omega (arith, whole, all, first, last, names)
 
--- Its nodes come behind those before it, all of its own.
+-- Its nodes come after those before it, and all belong to it.
 pub record Behind (m : ℕ) (before after : List Node) : Type 0 where
   pub own : List Node
   pub is_behind : after ≡ before ++ own

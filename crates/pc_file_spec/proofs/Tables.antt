@@ -38,7 +38,7 @@ pub members_kept : (es : List t.Entity) (names : List Text) (i : ℕ) (y : Text)
 members_kept [] names i y h = h
 members_kept (e ∷ es) names i y h = members_kept es (with_names names (field_texts e.fields ++ method_texts e.methods)) i y (names_kept (field_texts e.fields ++ method_texts e.methods) names i y h)
 
--- What is put in is there.
+-- What is added is there.
 name_there : (names : List Text) (x : Text) → Has (with_name names x) x
 name_there names x = by (is_among x names) refl
   where
@@ -103,6 +103,6 @@ text_found xs x h = let r = text_at 0 xs x h.0 h.1 in let s = r.1 in let e : tex
 pub text_below : (xs : List Text) (x : Text) → Has xs x → text_from 0 xs x < length xs
 text_below xs x h = get_below xs (text_from 0 xs x) x (text_found xs x h)
 
--- Texts that are there and have one number are one.
+-- Texts of the list with the same number are the same.
 pub one_text : (xs : List Text) (x y : Text) → Has xs x → Has xs y → text_from 0 xs x ≡ text_from 0 xs y → x ≡ y
 one_text xs x y h g e = same_Some x y (sym (text_found xs x h) ∙ ap (slice_get xs) e ∙ text_found xs y g)

@@ -27,7 +27,7 @@ use Rattle.pc_file_spec.proofs.Bounds.{each_there, named_there}
 
 -- ---- names that are taken over
 
--- Texts that are added to others are none of these.
+-- Texts that are added to others are none of them.
 adds_apart : (base xs : List Text) (x : Text) → Adds base xs → Has xs x → Has base x → ⊥
 adds_apart base [] x a h g = none-some x h.1
 adds_apart base (y ∷ xs) x a (zero, h) g = no_both (is_among x base) (has_among x base g) (subst (λ z. is_among z base ≡ false) (same_Some y x h) a.0)
@@ -41,7 +41,7 @@ left_false : (a b : Bool) → a ≡ true → (a && b) ≡ false → b ≡ false
 left_false true b e f = f
 left_false false b e f = absurd (true_false (sym e))
 
--- A method that may be taken over is, or its name is known.
+-- A method that may be taken over is taken over, or its name is known.
 taken_named : (k : EntityKind) (known : List Text) (ms : List t.Method) (x : t.Method) → is_takable k x ≡ true → Has ms x → Has known x.name.text ⊎ Has (method_texts (taken k known ms)) x.name.text
 taken_named k known [] x able h = absurd (none-some x h.1)
 taken_named k known (m ∷ ms) x able h = by (λ l g. taken_named k l ms x able g) (is_takable k m && not (is_among m.name.text known)) refl h

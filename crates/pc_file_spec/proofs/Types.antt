@@ -38,7 +38,7 @@ type_found at (x ∷ xs) ty i h = by (λ j g. type_found (suc at) xs ty j g) (by
     by rest false e zero g = absurd (true_false (sym (ap (λ y. bytes_eq y ty.name.text) (same_Some x.name ty.name.text g) ∙ same_text ty.name.text) ∙ e))
     by rest false e (suc i) g = let l = rest i g in omega (arith, l)
 
--- A type that is an entity's has the number of an entity.
+-- A type that names an entity has the number of an entity.
 pub type_below : (file : t.File) (ty : TypeRef) → IsType (entity_names file) ty → (type_in (known_of file) ty).0 < first_own + length file.entities
 type_below file ty h =
     let there : slice_get (map known_name (known_of file)) h.0 ≡ Some ty.name.text = ap (λ xs. slice_get xs h.0) (all_names file) ∙ h.1 in
@@ -46,7 +46,7 @@ type_below file ty h =
     let n = all_count file in
     omega (arith, l, n)
 
--- So it is with a type that is found.
+-- The same for a type that is found.
 pub written_below : (at : ℕ) (xs : List Known) (ty : TypeRef) (p : ℕ × Cap) → type_of at xs ty ≡ Some p → p.0 < at + length xs
 written_below at [] ty p h = absurd (none-some p h)
 written_below at (x ∷ xs) ty p h = by (λ g. written_below (suc at) xs ty p g) (bytes_eq x.name ty.name.text) h

@@ -1,4 +1,4 @@
--- Which core stands for a file.
+-- The core of a file.
 use Rattle.std.specs.Prelude.{◌≡◌, ℕ, suc, ◌+◌, ◌<◌, ◌^◌, List, [], ◌∷◌, ◌++◌, map, length, Result, Ok, Err, codes, slice_get}
 use Rattle.pc_caps.specs.declared.capability.Cap.TheVariants as cap
 use Rattle.pc_tree.specs.declared.kinds.EntityKind.TheVariants as kind
@@ -21,7 +21,7 @@ use Rattle.pc_file_spec.specs.Parts.{Parts, if_ok, parts_of}
 
 -- ---- entities
 
--- The entities of the language, with OutStream's method. The name of Env's field is text 0.
+-- The built-in entities, with OutStream's method. The name of Env's field is text 0.
 abbrev pub built_ins : List EntityDef
 built_ins =
     built_in_value (codes "None") ∷ built_in_value (codes "U64") ∷ built_in_value (codes "Bool") ∷ built_in_value (codes "String")
@@ -31,7 +31,7 @@ built_ins =
 abbrev pub field_of : List Text → List Known → t.Field → FieldInfo
 field_of texts entities f = record { name = text_from 0 texts f.name.text; fixed = f.fixed; entity = (type_in entities f.ty).0; cap = (type_in entities f.ty).1 }
 
--- Entity number n of the file, whose methods begin with this number.
+-- Entity number n of the file, whose methods start with this number.
 abbrev pub entity_of : t.File → List (List ℕ) → (number first_method : ℕ) → t.Entity → EntityDef
 entity_of file above n first_method e = record {
   kind = e.kind;
@@ -61,11 +61,11 @@ core_with file above p = record {
   names = texts_of file;
 }
 
--- The core of a file, with what is above each of its entities, or the first fault of its members.
+-- The core of a file, given what is above each of its entities, or the first fault of its members.
 abbrev pub core_of : List (List ℕ) → t.File → Result CoreData NameFault
 core_of above file = if_ok (parts_of file) (λ p. Ok (core_with file above p))
 
--- The names of the file have no fault, and this is its core. It has fewer texts than a number of 32 bits counts.
+-- The names of the file have no fault, and this is its core. The number of its texts fits in 32 bits.
 abbrev pub Stands : t.File → CoreData → Type 0
 Stands file core = (names : NamesData) × Collected file names × (core_of names.above file ≡ Ok core) × (length (texts_of file) < 2 ^ 32)
 

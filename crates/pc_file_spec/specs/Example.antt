@@ -43,7 +43,7 @@ sort text s = record { name = name text s; cap = None; hat = false }
 abbrev value : List ℕ → EntityDef
 value text = record { kind = kind.Primitive; cap = cap.Val; name = text; span = at 0 0; provides = []; above = []; fields = []; first_method = 0; methods = 0 }
 
--- The entities and the method of the language, whose names are texts 0 and 1.
+-- The built-in entities and method; their names are texts 0 and 1.
 abbrev language : List EntityDef
 language =
     value (codes "None") ∷ value (codes "U64") ∷ value (codes "Bool") ∷ value (codes "String")
@@ -59,18 +59,19 @@ entity k c text s provides above fields first count = record { kind = k; cap = c
 abbrev param : ℕ → Cap → Span → ParamInfo
 param e c s = record { entity = e; cap = c; span = s }
 
--- A method of an entity and a text, and its first slot and how many it has; where its nodes begin, and its body.
+-- A method of an entity, with a text as its name, its first slot and number of slots, the start of its nodes, and its
+-- body.
 abbrev method_of : (entity text : ℕ) → MethodKind → Cap → List ParamInfo → ℕ × Form → (first slots first_node : ℕ) → Option ℕ → Span → Method
 method_of e text k receiver params result first slots first_node body s = record { entity = e; name = text; kind = k; receiver = receiver; params = params; result = result; first_slot = first; slots = slots; first_node = first_node; body = body; span = s }
 
--- A slot of a method, and the type that is written for it.
+-- A slot of a method, with the type that is written for it.
 abbrev slot_of : ℕ → SlotKind → ℕ → Cap → Slot
 slot_of m k e c = record { method = m; kind = k; depth = 0; written = Some (e, c) }
 
 abbrev node_of : ℕ → NodeKind → List ℕ → Span → Node
 node_of m k children s = record { kind = k; children = children; depth = 0; method = m; span = s }
 
--- ---- Traits that inherit, and an added `create` with an initial value that has a local:
+-- ---- Traits that take over methods, and an added `create` with an initial value that has a local:
 --
 --     trait A
 --       fun a(): U64
@@ -110,7 +111,7 @@ main = record { kind = kind.Actor; cap = None; name = (name (codes "Main") (at 1
 abbrev pub first_file : t.File
 first_file = record { entities = trait_a ∷ trait_b ∷ trait_t ∷ trait_u ∷ class_c ∷ main ∷ [] }
 
--- Trait T takes `a` and `m` from A, and `b` alone from B; U takes all of these from T.
+-- Trait T takes `a` and `m` from A, and only `b` from B; U takes all of these from T.
 abbrev pub first_core : CoreData
 first_core = record {
   entities = language ++
@@ -254,7 +255,7 @@ third_file = record { entities = class_d ∷ second_main ∷ [] }
 abbrev pub ThirdIsRefused : Type 0
 ThirdIsRefused = IsElabFault third_file (fault.Unknown (at 187 188))
 
--- ---- Bodies in traits, each of which stands once in each class or actor that takes it over:
+-- ---- Bodies in traits, each of which is in the core once for each class or actor that takes it over:
 --
 --     trait T
 --       fun a(): U64
@@ -283,8 +284,8 @@ fourth_main = record { kind = kind.Actor; cap = None; name = (name (codes "Main"
 abbrev pub fourth_file : t.File
 fourth_file = record { entities = trait_with_bodies ∷ trait_above ∷ class_with_field ∷ fourth_main ∷ [] }
 
--- C has `a` and an added `create`, and takes over `m`, in which `n` is the parameter and no field; Main takes over all three
--- methods of U, of which `m` is that of T.
+-- C has `a` and an added `create`, and takes over `m`, in which `n` is the parameter and not the field; Main takes over
+-- all three methods of U, of which `m` is that of T.
 abbrev pub fourth_core : CoreData
 fourth_core = record {
   entities = language ++

@@ -1,4 +1,4 @@
--- What the bodies of a file see of its entities and texts.
+-- What the bodies of a file know of its entities and texts.
 use Rattle.std.specs.Prelude.{ℕ, suc, ◌+◌, List, [], ◌∷◌, ◌++◌, length, Option, codes, if◌then◌else◌}
 use Rattle.pc_caps.specs.declared.capability.Cap.{Cap}
 use Rattle.pc_caps.specs.declared.capability.Cap.TheVariants as cap
@@ -16,14 +16,14 @@ use Rattle.pc_members.specs.MemberLists.{members}
 
 -- ---- texts
 
--- The texts of a file, each once, in the order in which they first appear: those of the language, then the names of the fields
--- and methods, entity by entity, and then the names behind a `.`.
+-- The texts of a file, each once, in the order in which they first appear: the built-in ones, then the names of the
+-- fields and methods, entity by entity, and then the names after a `.`.
 abbrev pub texts_of : t.File → List Text
 texts_of file = with_names (with_members (with_names [] (built_in_texts ++ codes "apply" ∷ [])) file.entities) (entities_texts file.entities)
 
 -- ---- entities
 
--- The capability of an entity's type where none is written: that of its declaration, for classes, traits and interfaces.
+-- The capability of an entity's type if none is written: that of its declaration, for classes, traits and interfaces.
 abbrev pub default_cap : EntityKind → Option Cap → Cap
 default_cap kind.Class k = cap_or k cap.Ref
 default_cap kind.Trait k = cap_or k cap.Ref
@@ -36,7 +36,7 @@ abbrev pub constructors_from : ℕ → List Member → List Constructor
 constructors_from at [] = []
 constructors_from at (m ∷ ms) = if is_constructor m then record { name = member_text m; method = at } ∷ constructors_from (suc at) ms else constructors_from (suc at) ms
 
--- Entities whose methods begin with this number.
+-- Entities whose methods start with this number.
 abbrev pub known_from : List t.Entity → ℕ → List t.Entity → List Known
 known_from all at [] = []
 known_from all at (e ∷ es) =
@@ -46,7 +46,7 @@ known_from all at (e ∷ es) =
 abbrev pub known_value : Text → Known
 known_value text = record { name = text; kind = kind.Primitive; cap = cap.Val; constructors = [] }
 
--- The entities of the language.
+-- The built-in entities.
 abbrev pub built_in_known : List Known
 built_in_known =
     known_value (codes "None") ∷ known_value (codes "U64") ∷ known_value (codes "Bool") ∷ known_value (codes "String")

@@ -13,7 +13,7 @@ pub record Owned : Type 0 where
 abbrev pub owned : ℕ → t.Entity → Member → Owned
 owned at e m = record { number = at; owner = e; member = m }
 
--- Those of these entities, whose numbers begin with this one.
+-- The members of these entities, whose numbers start with this one.
 abbrev pub members_from : List t.Entity → ℕ → List t.Entity → List Owned
 members_from all at [] = []
 members_from all at (e ∷ es) = map (owned at e) (members all e) ++ members_from all (suc at) es

@@ -21,7 +21,7 @@ pub record Parts : Type 0 where
   pub slots : List Slot
   pub nodes : List Node
 
--- What the fault of a body or method is among those of a file's names.
+-- The fault of a file that corresponds to a fault of a body or method.
 abbrev pub body_fault : Fault → NameFault
 body_fault (unknown s) = fault.Unknown s
 body_fault (double s) = fault.Double s
@@ -32,12 +32,12 @@ name_fault (in_body f) = body_fault f
 name_fault (slots_full s) = fault.TooMany which.Slots s
 name_fault (nodes_full s) = fault.TooMany which.Nodes s
 
--- What becomes of a member that is method m, behind the nodes of the methods before it.
+-- The elaboration of a member that is method m, after the nodes of the methods before it.
 abbrev pub outcome : Context → ℕ → t.Entity → Member → List Node → Outcome
 outcome c m e (written x) before = method_of c m e.fields x before
 outcome c m e added before = added_of c m e.fields e.name.span before
 
--- Behind the parts so far come the member's method, its slots and its nodes.
+-- The parts so far, followed by the member's method, its slots and its nodes.
 abbrev pub joined : Context → Parts → Owned → Option ℕ × List Node → Parts
 joined c p o r = record {
   methods = p.methods ++ declared c o (length p.slots) (length (slots_from c (length p.methods) o)) (length p.nodes) r.0 ∷ [];
@@ -49,11 +49,11 @@ abbrev pub with_outcome : Context → Parts → Owned → Outcome → Result Par
 with_outcome c p o (Ok r) = Ok (joined c p o r)
 with_outcome c p o (Err f) = Err (name_fault f)
 
--- The number of a method is the count of those before it.
+-- The number of a method is the number of methods before it.
 abbrev pub and_member : Context → Parts → Owned → Result Parts NameFault
 and_member c p o = with_outcome c p o (outcome c (length p.methods) o.owner o.member p.nodes)
 
--- The parts with all of these members, or the fault of the first that has one.
+-- The parts with all of these members, or the fault of the first member with one.
 abbrev pub if_ok : {A B : Type 0} → Result A NameFault → (A → Result B NameFault) → Result B NameFault
 if_ok (Ok a) f = f a
 if_ok (Err e) f = Err e
@@ -62,7 +62,7 @@ abbrev pub and_members : t.File → Parts → List Owned → Result Parts NameFa
 and_members file p [] = Ok p
 and_members file p (o ∷ os) = if_ok (and_member (context_of file o) p o) (λ q. and_members file q os)
 
--- Method 0 is `print` of OutStream, whose name is text 1. It has neither slots nor nodes.
+-- Method 0 is `print` of OutStream, whose name is text 1. It has no slots and no nodes.
 abbrev pub built_in_parts : Parts
 built_in_parts = record { methods = print_method 1 ∷ []; slots = []; nodes = [] }
 

@@ -27,7 +27,7 @@ use Rattle.pc_members.specs.MemberLists.{members}
 use Rattle.pc_file_spec.specs.Members.{Owned}
 use Rattle.pc_file_spec.specs.Known.{texts_of, known_of}
 
--- A type among these entities. In a file whose names have no fault each type is there.
+-- A type among these entities. In a file whose names have no fault every type is there.
 abbrev pub or_value : Option (ℕ × Cap) → ℕ × Cap
 or_value None = (none_entity, cap.Val)
 or_value (Some ty) = ty
@@ -48,7 +48,7 @@ abbrev pub kind_of : EntityKind → Member → MethodKind
 kind_of k (written m) = word_kind k m.word
 kind_of k added = constructor_kind k
 
--- `this` is `box` in a function that says nothing else, and `ref` in behaviours and constructors.
+-- `this` is `box` in a function without a written capability, and `ref` in behaviours and constructors.
 abbrev pub word_receiver : MethodWord → Option Cap → Cap
 word_receiver word.Fun k = cap_or k cap.Box
 word_receiver word.Be k = cap.Ref
@@ -58,7 +58,7 @@ abbrev pub receiver_of : Member → Cap
 receiver_of (written m) = word_receiver m.word m.cap
 receiver_of added = cap.Ref
 
--- With `^` the value has no place yet.
+-- With `^` no place holds the value yet.
 abbrev pub result_form : Bool → Cap → Form
 result_form true k = unalias k
 result_form false k = plain k
@@ -67,7 +67,8 @@ abbrev pub written_result : List Known → Option TypeRef → ℕ × Form
 written_result entities None = (none_entity, form.Val)
 written_result entities (Some ty) = ((type_in entities ty).0, result_form ty.hat (type_in entities ty).1)
 
--- A new object of entity e: an actor is a `tag`, and one of a class has the capability that its constructor gives it.
+-- A new object of entity e: an actor is `tag`, and an object of a class has the capability that its constructor gives
+-- it.
 abbrev pub object_of : EntityKind → ℕ → Cap → ℕ × Form
 object_of kind.Class e k = (e, unalias k)
 object_of kind.Actor e k = (e, form.Tag)
@@ -80,7 +81,7 @@ word_result entities k e m word.Fun = written_result entities m.result
 word_result entities k e m word.Be = (none_entity, form.Val)
 word_result entities k e m word.New = object_of k e (cap_or m.cap cap.Ref)
 
--- An object that an added `create` gives is isolated.
+-- The object made by an added `create` is isolated.
 abbrev pub result_of : List Known → EntityKind → ℕ → Member → ℕ × Form
 result_of entities k e (written m) = word_result entities k e m m.word
 result_of entities k e added = object_of k e cap.Iso
@@ -112,7 +113,7 @@ own_this m o = record { method = m; kind = slot.This; depth = 0; written = Some 
 abbrev pub slots_from : Context → ℕ → Owned → List Slot
 slots_from c m o = own_this m o ∷ map (param_slot m) (params_of c.entities o.member) ++ map (local_slot c m) (locals_of o.owner o.member)
 
--- The member as a method, with the places of its slots and nodes.
+-- The member as a method, with its first slot, the number of its slots, its first node and its body.
 abbrev pub declared : Context → Owned → (first_slot slots first_node : ℕ) → (body : Option ℕ) → Method
 declared c o first_slot slots first_node body = record {
   entity = o.number;

@@ -1,4 +1,4 @@
--- The turns of the schedule of a made program, and how many they are.
+-- The turns of the schedule of a generated program, and their number.
 use Rattle.std.proofs.Common.{◌≡◌, ◌≤◌, ℕ, zero, suc, ◌+◌, ◌*◌, List, [], ◌∷◌, ◌++◌, map, refl, sym, ap, ◌∙◌, arith}
 use Rattle.std.specs.List.{range_with_len}
 use Rattle.std.proofs.lemmas.List.FromFn.{map-range_with_len_more}
@@ -20,6 +20,6 @@ few size within =
     let all = total_append (map own_turns (range_with_len 0 (size + 1))) (record { actor = 0; times = size + 1 } ∷ []) in
     omega (arith, within, all, total_own 0 (size + 1))
 
--- Behind the turns up to this number come those of this number.
+-- After the turns up to this number come those with this number.
 pub one_more : (i : ℕ) (ts : List Turn) → ts ≡ map own_turns (range_with_len 0 i) → ts ++ own_turns i ∷ [] ≡ map own_turns (range_with_len 0 (i + 1))
 one_more i ts same = ap (λ (l : List Turn). l ++ own_turns i ∷ []) same ∙ sym (map-range_with_len_more own_turns 0 i i (omega arith))

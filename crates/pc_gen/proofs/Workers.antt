@@ -1,4 +1,4 @@
--- One worker more, and the two draws that it takes.
+-- One more worker, and the two draws that it takes.
 use Rattle.std.proofs.Common.{◌≡◌, ℕ, suc, ◌+◌, ◌*◌, List, [], ◌∷◌, ◌++◌, map, sym, ap, ap₂, ◌∙◌, arith, append_assoc}
 use Rattle.std.specs.List.{range_with_len}
 use Rattle.std.proofs.lemmas.List.FromFn.{map-range_with_len_more}
@@ -11,11 +11,11 @@ two_draws seed i s e =
     let twice : (i + 1) * 2 ≡ suc (suc (i * 2)) = omega arith in
     ap (λ x. next (next x)) e ∙ sym (ap (state seed) twice)
 
--- the worker that the next two draws give
+-- the worker made by the next two draws
 pub drawn : (seed size i s : ℕ) → s ≡ state seed (i * 2) → work size i (task_of (high (next s) 4)) (high (next (next s)) 1000) ≡ worker seed size i
 drawn seed size i s e = ap (λ x. work size i (task_of (high (next x) 4)) (high (next (next x)) 1000)) e
 
--- Behind the workers up to this number comes the one of this number.
+-- After the workers up to this number comes the one with this number.
 pub one_more : (seed size i : ℕ) (before all : List t.Entity) (e : t.Entity)
     → all ≡ before ++ map (worker seed size) (range_with_len 0 i) → e ≡ worker seed size i
     → all ++ e ∷ [] ≡ before ++ map (worker seed size) (range_with_len 0 (i + 1))

@@ -1,4 +1,5 @@
--- Parts of a made tree, each named as it is written. A made tree stands in no text: each of its spans is empty and at 0.
+-- Parts of a generated tree, each named as it is written. A generated tree is in no text: all its spans are empty and
+-- at 0.
 use Rattle.std.specs.Prelude.{ℕ, Bool, false, List, [], ◌∷◌, Option, Some, None, codes}
 use Rattle.pc_caps.specs.declared.span.Span.{Span}
 use Rattle.pc_caps.specs.declared.capability.Cap.{Cap}

@@ -1,4 +1,4 @@
--- The program that a seed and a size make.
+-- The program generated from a seed and a size.
 --
 --   class Cell
 --     var _n: U64 = 0
@@ -7,7 +7,7 @@
 --     fun value(): U64 =>
 --       _n
 --
--- Behind it stand `actor Work0` and so on, as many as the size says, each with a task that is drawn for it, and then `Main`.
+-- After it come `actor Work0` and so on, `size` of them, each with a task drawn for it, and then `Main`.
 use Rattle.std.specs.Prelude.{ℕ, suc, ◌+◌, ◌*◌, ◌==◌, true, false, if◌then◌else◌, List, [], ◌∷◌, ◌++◌, map, Some, None, codes}
 use Rattle.std.specs.List.{range_with_len}
 use Rattle.std.specs.Fmt.{decimal}
@@ -81,7 +81,7 @@ repeat_items k = local false (codes "t") numbers (number 0) ∷ t.plain (repeat 
 abbrev pub frozen_items : List t.Item
 frozen_items = local true (codes "d") (type_of (codes "Cell") (Some cap.Val)) freeze ∷ t.plain (tell (codes "d")) ∷ []
 
--- `c.add(k)`, `let v: U64 = c.value()`, and a copy of what is held, frozen
+-- `c.add(k)`, `let v: U64 = c.value()`, and a frozen copy of the cell's content
 abbrev pub freeze_items : ℕ → List t.Item
 freeze_items k = t.plain (add (codes "c") (number k)) ∷ local true (codes "v") numbers (value (codes "c")) ∷ frozen_items
 
@@ -91,7 +91,7 @@ task_items task.Compare k = t.plain (compare k) ∷ []
 task_items task.Repeat k = repeat_items k
 task_items task.Freeze k = freeze_items k
 
--- the task that a draw below 4 gives
+-- the task chosen by a draw below 4
 abbrev pub task_of : ℕ → Task
 task_of n = if n == 0 then task.Add else (if n == 1 then task.Compare else (if n == 2 then task.Repeat else task.Freeze))
 
@@ -109,18 +109,18 @@ take_cell = local true (codes "c") (type_of (codes "Cell") (Some cap.Iso)) (cons
 abbrev pub worker_params : List ParamDef
 worker_params = param (codes "out") (type_of (codes "OutStream") None) ∷ param (codes "cell") (type_of (codes "Cell") (Some cap.Iso)) ∷ []
 
--- Each worker but the last hands the cell on, and the last one prints what it holds.
+-- Each worker but the last passes the cell on, and the last one prints its content.
 abbrev pub hand_on : (size number : ℕ) → t.Expr
 hand_on size i = if i + 1 == size then tell (codes "c") else construct (worker_name (i + 1)) (variable (codes "out") ∷ consumed (codes "c") ∷ [])
 
 abbrev pub work_items : (size number : ℕ) → Task → (drawn : ℕ) → List t.Item
 work_items size i task k = take_cell ∷ (task_items task k ++ t.plain (hand_on size i) ∷ [])
 
--- the worker of this number, with this task and this number for it
+-- the worker with this number, with this task and the number drawn for it
 abbrev pub work : (size number : ℕ) → Task → (drawn : ℕ) → t.Entity
 work size i task k = actor (worker_name i) (create worker_params (sequence (work_items size i task k)))
 
--- Two numbers are drawn for each worker, first for its task and then the number for it.
+-- Two numbers are drawn for each worker, the first for its task and the second as the task's number.
 abbrev pub worker : (seed size number : ℕ) → t.Entity
 worker seed size i = work size i (task_of (draw seed (i * 2) 4)) (draw seed (suc (i * 2)) 1000)
 

@@ -120,14 +120,14 @@ fn repeat(alloc: Global, addend: u64) -> Result<Expr, AllocError>
     turns(alloc, cond, sequence(items))
 }
 
-/// An expression behind other items.
+/// An expression after other items.
 pub fn push_plain(items: &mut List<Item>, expression: Expr) -> Result<(), AllocError>
     ensures { OnOk result (map item_view items.new ≡ map item_view items.old ++ t.plain (expr_view expression) ∷ []) }
 {
     items.push(Item::Plain(expression))
 }
 
-// `let x: T = e` behind other items, or `var` in place of `let`
+// `let x: T = e` after other items, or `var` in place of `let`
 fn push_local(
     items: &mut List<Item>,
     fixed: bool,
@@ -147,7 +147,7 @@ fn add_held(alloc: Global) -> Result<Expr, AllocError>
     add(alloc, b"e", amount)
 }
 
-// `let e: Cell ref = Cell; e.add(v)`, behind other items
+// `let e: Cell ref = Cell; e.add(v)`, after other items
 fn push_copy(alloc: Global, items: &mut List<Item>) -> Result<(), AllocError>
     ensures { OnOk result (map item_view items.new ≡ map item_view items.old ++ part.local true (codes "e") (part.type_of (codes "Cell") (Some cap.Ref)) (part.entity (codes "Cell")) ∷ t.plain (spec.add (codes "e") (part.variable (codes "v"))) ∷ []) }
 {
@@ -190,7 +190,7 @@ fn push_frozen(alloc: Global, items: &mut List<Item>) -> Result<(), AllocError>
     push_plain(items, told)
 }
 
-// `c.add(k)`, `let v: U64 = c.value()`, and a copy of what is held, frozen
+// `c.add(k)`, `let v: U64 = c.value()`, and a frozen copy of the cell's content
 fn push_freeze(alloc: Global, items: &mut List<Item>, addend: u64) -> Result<(), AllocError>
     ensures { OnOk result (map item_view items.new ≡ map item_view items.old ++ spec.freeze_items addend) }
 {

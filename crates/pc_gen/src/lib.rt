@@ -1,10 +1,10 @@
-//! A program from a number: a chain of actors that hand one object on, each with a task that is drawn.
+//! A program generated from a number: a chain of actors that pass one object on, each with a task drawn at random.
 //!
-//! `docs/generator.md` says what the program is, `specs/Program.antt` defines it.
+//! `docs/generator.md` describes the program, `specs/Program.antt` defines it.
 //!
-//! Proved: `make` gives the tree of the program of a seed and a size, as it is defined from the draws of the seed.
-//! `schedule_of` gives the turns by which it is run, which are not too many. That these programs are accepted is not
-//! proved.
+//! Proved: `make` returns the tree of the program of a seed and a size, as defined by the draws from the seed.
+//! `schedule_of` returns the turns by which it is run, within the limit. It is not proved that these programs are
+//! accepted.
 #![tactic(auto)]
 
 mod bodies;

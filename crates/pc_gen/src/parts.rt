@@ -1,4 +1,4 @@
-//! Parts of a made tree, each named as it is written.
+//! Parts of a generated tree, each named as it is written.
 ghost use Rattle.std.specs.Prelude.{◌≡◌, [], ◌∷◌, map, Some, IfOk};
 ghost use Rattle.pc_tree.specs.View.{expr_view, suffix_view, item_view, arm_view, seq_view, method_view, entity_view};
 ghost use Rattle.pc_tree.specs.Tree as t;
@@ -11,7 +11,7 @@ use pc_tree::{
 };
 use std::alloc::{AllocError, Global};
 
-/// A made tree stands in no text.
+/// The span of all parts of a generated tree, which is in no text.
 pub const NOWHERE: Span = Span { start: 0, end: 0 };
 
 /// A name.
@@ -126,7 +126,7 @@ pub fn arguments(args: List<Expr>) -> Suffix
     }
 }
 
-/// A chain of suffixes behind an expression.
+/// An expression followed by a chain of suffixes.
 #[tactic(auto, using(pc_tree::proofs::Views::view_chain))]
 pub fn chained(alloc: Global, head: Expr, suffixes: List<Suffix>) -> Result<Expr, AllocError>
     ensures { IfOk result (λ e. expr_view e ≡ spec.chained (expr_view head) (map suffix_view suffixes)) }

@@ -1,4 +1,4 @@
-//! The made program.
+//! The generated program.
 ghost use Rattle.std.specs.Prelude.{◌≡◌, ◌++◌, [], ◌∷◌, ◌<◌, ◌≤◌, ◌+◌, map, codes, IfOk, OnOk};
 ghost use Rattle.pc_tree.specs.View.{expr_view, item_view, field_view, method_view, entity_view, file_view};
 ghost use Rattle.pc_tree.specs.declared.kinds.Op.TheVariants as op;
@@ -137,7 +137,7 @@ fn handed(alloc: Global) -> Result<List<Expr>, AllocError>
     Ok(args)
 }
 
-// What a worker does last: the last one of all prints what the cell holds, each other hands the cell on.
+// What a worker does last: the last worker prints the cell's content, each other passes the cell on.
 fn hand_on(alloc: Global, size: u32, index: u32) -> Result<Expr, AllocError>
     requires { index < size }
     ensures { IfOk result (λ e. expr_view e ≡ spec.hand_on size index) }
@@ -169,7 +169,7 @@ fn work_items(
     Ok(items)
 }
 
-// The constructor of the worker of this number.
+// The constructor of the worker with this number.
 fn work_create(
     alloc: Global,
     size: u32,
@@ -185,7 +185,7 @@ fn work_create(
     create(alloc, params, sequence(items))
 }
 
-// The worker of this number.
+// The worker with this number.
 fn work(alloc: Global, size: u32, index: u32, task: Task, addend: u64) -> Result<Entity, AllocError>
     requires { index < size }
     ensures { IfOk result (λ e. entity_view e ≡ spec.work size index task addend) }
@@ -195,7 +195,7 @@ fn work(alloc: Global, size: u32, index: u32, task: Task, addend: u64) -> Result
     actor(alloc, name.as_slice(), creates)
 }
 
-// The worker of this number, by the next two draws.
+// The worker with this number, from the next two draws.
 fn next_worker(
     alloc: Global,
     draws: &mut Draws,

@@ -1,4 +1,4 @@
-//! The schedule by which a made program is run.
+//! The schedule by which a generated program is run.
 ghost use Rattle.std.specs.Prelude.{◌≡◌, ◌≤◌, IfOk};
 ghost use Rattle.pc_gen.specs.Schedule as spec;
 ghost use Rattle.pc_sched.specs.Limits.{turn_limit};
@@ -11,8 +11,8 @@ use std::alloc::{AllocError, Global};
 /// How many turns each actor of a program takes.
 const OWN_TURNS: u32 = 400;
 
-/// The schedule of a program of this size: `Main` and the workers take 400 turns each, one after the other, and then the
-/// output stream takes one for each of them.
+/// The schedule of a program of this size: `Main` and the workers take 400 turns each, one after the other, and then
+/// the output stream takes one turn for each of these.
 pub fn schedule_of(alloc: Global, size: u32) -> Result<List<Turn>, AllocError>
     requires { size ≤ 900 }
     ensures turns { IfOk result (λ turns. turns ≡ spec.schedule size) }

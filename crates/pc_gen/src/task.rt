@@ -7,15 +7,15 @@ ghost use Rattle.pc_gen.specs.Program as spec;
 pub enum Task {
     /// Add the number.
     Add,
-    /// Look whether the cell holds more than the number, and add one or the other.
+    /// Check whether the cell holds more than the number, and add one or the number.
     Compare,
-    /// Add to it three times.
+    /// Add to the cell three times.
     Repeat,
-    /// Put what it holds into a cell that no one writes any more, and print it.
+    /// Copy the content into a cell that no one writes any more, and print it.
     Freeze,
 }
 
-/// The task that a draw below 4 gives.
+/// The task chosen by a draw below 4.
 pub fn task_of(draw: u32) -> Task
     ensures { result ≡ spec.task_of draw }
 {

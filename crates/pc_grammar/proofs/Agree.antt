@@ -1,4 +1,4 @@
--- With more levels left the answer is the same, but where a level was one too many.
+-- With more levels left the result is the same, except if a level was one too many.
 use Rattle.std.proofs.Common.{◌≡◌, ℕ, zero, suc, ◌<◌, ◌≤◌, Bool, true, false, List, ◌∷◌, length, Option, Some, None, Ok, Err, refl, ap, subst, arith, cond, ◌⊎◌, inl, inr}
 use Rattle.pc_tree.specs.Tree as t
 use Rattle.pc_tree.specs.declared.kinds.Op.{Op}

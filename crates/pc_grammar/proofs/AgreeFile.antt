@@ -1,4 +1,4 @@
--- With more levels left a file is read in the same way, but where a level was one too many.
+-- With more levels left a file is read in the same way, except if a level was one too many.
 use Rattle.std.proofs.Common.{ℕ, ◌≤◌, Bool}
 use Rattle.pc_tree.specs.declared.kinds.EntityKind.{EntityKind}
 use Rattle.pc_tree.specs.declared.kinds.EntityKind.TheVariants as kind

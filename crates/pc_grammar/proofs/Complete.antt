@@ -1,4 +1,4 @@
--- What is spelled is read, where what follows does not go on with it.
+-- What is spelled is read, if what follows does not continue it.
 use Rattle.std.proofs.Common.{◌≡◌, ℕ, zero, suc, ◌-◌, ◌<◌, ◌≤◌, true, false, List, [], ◌∷◌, ◌++◌, length, Option, Some, Ok, refl, sym, ap, ap₂, ◌∙◌, subst, arith, append_assoc, length-append}
 use Rattle.pc_caps.specs.declared.span.Span.{Span}
 use Rattle.pc_tree.specs.Tree as t
@@ -133,7 +133,7 @@ module _ (n : ℕ) (ts : List Token) (y : Token) (more : List Token) where
   as_place (t.infix_ o es sp) a s h = cc
   as_place (t.assign l r sp) a s h = cc
 
--- ---- the token behind a part, in front of others of its kind
+-- ---- the token after a part, before others of its kind
 
 abbrev NoElseif : Token → Type 0
 NoElseif z = Stops_seq z × (is_word w.ElseifWord z ≡ false)
@@ -175,7 +175,7 @@ next_begins [] (x ∷ a) zs h f = next_first x (a ++ zs) (let e : f.0 ≡ x = cc
 next_begins (x ∷ []) a zs h f = next_semicolon x (a ++ zs) h
 next_begins (x ∷ z ∷ n) a zs h f = absurd h
 
--- ---- what is built of the parts
+-- ---- what is built from the parts
 
 infix_made : (o : Op) (es : t.Exprs) (sp : Span) (ts : List Token) → SpellsTerms es o ts → sp ≡ over ts → infix_of o (list_of es) ≡ t.infix_ o es sp
 unfolding infix_of
@@ -190,7 +190,7 @@ unfolding chain_of
 chain_made e t.no_suffixes sp some h = absurd some
 chain_made e (t.suffix x ss) sp some h = rw (suffixes_back ss, h)
 
--- enough turns are those of the whole list
+-- any sufficient number of repetitions gives the same as that for the whole list
 pub all_enough : {A : Type 0} (next : List Token → Option (List Token)) (p : Parser A) (ts : List Token) (r : List A × List Token) → many next p (length ts) ts ≡ Ok r → all next p ts ≡ Ok r
 unfolding all
 all_enough next p ts r h = h

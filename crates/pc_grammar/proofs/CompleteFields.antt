@@ -19,7 +19,7 @@ use Rattle.pc_grammar.proofs.Steps.{name_read, one_more}
 use Rattle.pc_grammar.proofs.Complete.{complete, as_infix, two_parts, all_enough}
 use Rattle.pc_grammar.proofs.CompleteParams.{NoDoc, NoCap, NoSign, doc_reads, type_reads}
 
--- what no header, no type and no value goes on with
+-- no header, no type and no value continues with it
 pub record Quiet (y : Token) : Type 0 where
   pub suffix : begins_suffix y ≡ false
   pub op : op_of y ≡ None

@@ -106,7 +106,7 @@ provides_reads (m ∷ ms) a rest h f =
     let step : and_then (take_if (is_word w.IsWord) (h.0 ∷ inside)) (λ _. provided) ≡ Ok (m ∷ ms, rest) = rw (h.3, provided_reads (m ∷ ms) h.1 rest h.4) in
     ap (λ l. provides (l ++ rest)) h.2 ∙ rw h.3 step
 
--- ---- what stands behind an entity
+-- ---- what comes after an entity
 
 pub record Next (y : Token) : Type 0 where
   pub outer : Outer y
@@ -249,6 +249,6 @@ module _ (n : ℕ) where
       let step : file n (h.0 ++ l1) ≡ Ok (record { entities = e ∷ es }, more) = rw (doc_reads h.0 l1 h.4 first, one, two, end_is h.2 h.6) in
       ap (file n) here ∙ step
 
-  -- A file that is spelled within the levels is read, whatever stands behind its end.
+  -- A file that is spelled within the levels is read, whatever comes after its end.
   pub file_reads : (f : t.File) (ts more : List Token) → SpellsFile f ts → file_depth f ≤ suc n → file n (ts ++ more) ≡ Ok (f, more)
   file_reads f ts more h d = file_by f.entities ts more h d

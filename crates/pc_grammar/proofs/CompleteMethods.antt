@@ -27,7 +27,7 @@ use Rattle.pc_grammar.proofs.Complete.{complete_seq, two_parts, all_enough}
 use Rattle.pc_grammar.proofs.CompleteParams.{NoCap, doc_reads, cap_reads, returns_reads, params_reads}
 use Rattle.pc_grammar.proofs.CompleteFields.{Quiet, Calm, to_cap, to_sign, to_quiet, to_doc, doc_first}
 
--- what stands behind a method: another one, an entity, or the end
+-- what comes after a method: another one, an entity, or the end
 pub record Outer (y : Token) : Type 0 where
   pub calm : Calm y
   pub stops : Stops_seq y
@@ -126,7 +126,7 @@ module _ (n : ℕ) where
   body_first None a rest h f = (f.0, f.1, ap (λ l. l ++ rest) h ∙ f.2, f.3)
   body_first (Some b) a rest h f = (h.0, (h.1 ++ h.2) ++ rest, ap (λ l. l ++ rest) h.3, arrow_calm h.0 (kind_of_sign s.Arrow h.0 h.4))
 
-  -- ---- what stands before a body
+  -- ---- what comes before a body
 
   no_cap : (c : Option Cap) (a rest : List Token) → SpellsCap c a → c ≡ None → pure None (a ++ rest) ≡ Ok (c, rest)
   no_cap None a rest h e = ap (λ l. Ok (None, l ++ rest)) h

@@ -1,5 +1,6 @@
--- What is read is spelled, and what is refused can be completed up to where it is refused. Both are told twice: of trees
--- within the levels, and of trees of any depth; a token that opens a level too many belongs only to what the latter begin.
+-- What is read is spelled, and what is refused can be completed up to where it is refused. Both are stated twice: for
+-- trees within the levels, and for trees of any depth; a token that opens a level too many belongs only to beginnings
+-- of the latter.
 use Rattle.std.proofs.Common.{◌≡◌, ℕ, zero, suc, ◌-◌, ◌<◌, ◌≤◌, max, Bool, true, false, List, [], ◌∷◌, ◌++◌, length, Option, Some, None, Ok, Err, refl, sym, ap, ◌∙◌, subst, arith, cond, append_assoc, append-nil}
 use Rattle.pc_token.specs.declared.kinds.Token.{Token}
 use Rattle.pc_grammar.specs.Reading.{Fault, unexpected, too_deep, Outcome, Parser, and_then, pure, refuse, ◌>>=◌, take_if, many, many_step, all, deeper}
@@ -17,7 +18,7 @@ pub fits_max : (u : Bool) (n d e : ℕ) → Fits u n d → Fits u n e → Fits u
 fits_max true n d e a b = omega (arith, a, b)
 fits_max false n d e a b = tt
 
--- room for one level more
+-- room for one more level
 pub fits_suc : (u : Bool) (n d : ℕ) → Fits u n 1 → Fits u (n - 1) d → Fits u n (suc d)
 fits_suc true n d a b = omega (arith, a, b)
 fits_suc false n d a b = tt
@@ -26,7 +27,7 @@ pub fits_some : (u : Bool) (n : ℕ) → 0 < n → Fits u n 1
 fits_some true n h = omega (arith, h)
 fits_some false n h = tt
 
--- the tokens of a fault that belong to what begins
+-- the tokens of a fault that belong to a beginning
 abbrev pub shown : Fault → Bool → List Token → List Token
 shown unexpected u ts = []
 shown too_deep true ts = []
@@ -97,8 +98,8 @@ unfolding take_if
 explained_take u test y is [] = ([], y ∷ [], y, refl, (refl, is), tt)
 explained_take u test y is (x ∷ ts) = take_by u test y is x ts (test x) refl
 
--- The level is opened, or it is one too many: then nothing is begun within the levels, and what begins with its token can
--- be completed with more.
+-- The level is opened, or it is one too many: then nothing is begun within the levels, and what begins with its token
+-- can be completed with more tokens.
 pub explained_deeper : (u : Bool) {A : Type 0} (M : A → List Token → Type 0) (n : ℕ) (p : Parser A) (x : Token) (ts : List Token) → Inhabited M → (Fits u n 1 → (more : List Token) × (v : A) × M v (x ∷ more)) → (0 < n → Explained u M (x ∷ ts) (p (x ∷ ts)))
     → Explained u M (x ∷ ts) (deeper n p (x ∷ ts))
 unfolding deeper
@@ -106,7 +107,7 @@ explained_deeper true M zero p x ts some deep h = ([], some.0, some.1, refl, som
 explained_deeper false M zero p x ts some deep h = let d = deep tt in ([], d.0, d.1, refl, d.2, tt)
 explained_deeper u M (suc n) p x ts some deep h = h (omega arith)
 
--- each of the list, with what stands before it
+-- each element of the list, with what comes before it
 abbrev pub Listed : {A : Type 0} → (A → List Token → Type 0) → List A → List Token → Type 0
 Listed E [] ts = ts ≡ []
 Listed E (x ∷ xs) ts = (a b : List Token) × (ts ≡ a ++ b) × E x a × Listed E xs b

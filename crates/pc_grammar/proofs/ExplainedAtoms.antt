@@ -1,4 +1,4 @@
--- Atoms are explained, where the sequences inside are.
+-- Atoms are explained if the sequences inside are.
 use Rattle.std.proofs.Common.{◌≡◌, ℕ, ◌-◌, ◌<◌, max, Bool, true, false, List, [], ◌∷◌, ◌++◌, Option, Some, None, refl, sym, ap, ap₂, ◌∙◌, subst, cond, append_assoc}
 use Rattle.pc_caps.specs.declared.span.Span.{Span}
 use Rattle.pc_caps.specs.declared.capability.Cap.{Cap}
@@ -17,7 +17,7 @@ use Rattle.pc_grammar.proofs.Spans.{over_closed, over_two, over_three, over_arm,
 use Rattle.pc_grammar.proofs.Explained.{Fits, fits_zero, fits_max, fits_suc, fits_some, Explained, Then, Tok, Only, Listed, Inhabited, some_only, some_then, explained_bind, explained_weaker, explained_only, explained_refuse, explained_take, explained_deeper, explained_all}
 use Rattle.pc_grammar.proofs.ExplainedParts.{explained_cons, taken, opened, ends_nil, joined, begins_one, of_kind, word_is, sign_is, a_word, a_sign, some_word, AtomIn, ArmIn, OtherIn, SeqIn, NameAt, TypeNameAt, some_atom, some_seq, some_other, explained_name, explained_type_name, explained_cap}
 
--- behind a token at which the list goes on
+-- after a token at which the list continues
 at_by : (test : Token → Bool) (x : Token) (ts begin : List Token) (b : Bool) → test x ≡ b → ◌≡◌ {A = Option (List Token)} (cond b (Some (x ∷ ts)) None) (Some begin) → (begin ≡ x ∷ ts) × (test x ≡ true)
 at_by test x ts begin true e h = let f : x ∷ ts ≡ begin = cc in (sym f, e)
 at_by test x ts begin false e h = absurd (cc)

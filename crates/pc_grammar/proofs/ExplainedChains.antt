@@ -1,4 +1,4 @@
--- Arguments, suffixes and chains of them are explained, where the expressions inside are.
+-- Arguments, suffixes and chains of them are explained if the expressions inside are.
 use Rattle.std.proofs.Common.{◌≡◌, ℕ, ◌-◌, ◌<◌, Bool, true, false, not, ◌&&◌, List, [], ◌∷◌, ◌++◌, Option, Some, None, refl, sym, ap, ◌∙◌, subst, cond}
 use Rattle.pc_tree.specs.Tree as t
 use Rattle.pc_tree.specs.Depths.{depth, exprs_depth, suffix_depth, suffixes_depth}
@@ -14,7 +14,7 @@ use Rattle.pc_grammar.proofs.Explained.{Fits, fits_zero, fits_max, fits_suc, fit
 use Rattle.pc_grammar.proofs.ExplainedParts.{explained_cons, taken, opened, ends_nil, joined, begins_one, of_kind, a_sign, AtomIn, TermIn, ExprIn, SuffixIn, ArgsIn, SeqIn, NameAt, some_args, some_suffix, explained_name}
 use Rattle.pc_grammar.proofs.ExplainedAtoms.{Closes, some_close, explained_close, closed, at_is, at_nil, explained_atom}
 
--- ---- where lists go on
+-- ---- where lists continue
 
 open_by : (x : Token) (a b : Bool) → is_sign s.OpenParen x ≡ a → x.first ≡ b → (a && not b) ≡ true → (is_sign s.OpenParen x ≡ true) × (x.first ≡ false)
 open_by x true false e f h = (e, f)

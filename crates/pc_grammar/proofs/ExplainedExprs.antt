@@ -1,4 +1,4 @@
--- Terms, operators and assignments are explained, where what stands inside is.
+-- Terms, operators and assignments are explained if what is inside is.
 use Rattle.std.proofs.Common.{◌≡◌, ℕ, suc, ◌-◌, ◌<◌, Bool, true, false, ◌&&◌, List, [], ◌∷◌, ◌++◌, length, Option, Some, None, refl, sym, ap, ◌∙◌, subst, arith, cond, rules, ◌⊎◌, inl, inr}
 use denote.Enum.Bare.{same_true}
 use Rattle.pc_tree.specs.contracts.kinds.Op.{the_type as op_type}
@@ -20,11 +20,11 @@ use Rattle.pc_grammar.proofs.Explained.{Fits, fits_zero, fits_max, fits_suc, fit
 use Rattle.pc_grammar.proofs.ExplainedParts.{explained_cons, taken, opened, ends_nil, joined, begins_one, TermIn, InfixIn, ExprIn, SeqIn, NameAt, some_term, some_expr, explained_name}
 use Rattle.pc_grammar.proofs.ExplainedChains.{after_is, explained_postfix}
 
--- what may stand inside is explained
+-- what may come inside is explained
 abbrev pub InnerAt : Bool → ℕ → Inner → Type 0
 InnerAt u m i = ((ts : List Token) → Explained u (SeqIn u m) ts (i.seq ts)) × ((ts : List Token) → Explained u (ExprIn u m) ts (i.expr ts)) × ((ts : List Token) → Explained u (TermIn u m) ts (i.term ts))
 
--- the same with a level less
+-- the same with one level less
 abbrev pub ExplainedInner : Bool → ℕ → Inner → Type 0
 ExplainedInner u n i = 0 < n → InnerAt u (n - 1) i
 

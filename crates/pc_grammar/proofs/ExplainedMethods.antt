@@ -25,7 +25,7 @@ use Rattle.pc_grammar.proofs.ExplainedSeqs.{explained_seq, explained_inner}
 use Rattle.pc_grammar.proofs.ExplainedParams.{DocAt, some_doc, explained_doc, explained_returns, some_params, explained_params}
 use Rattle.pc_grammar.proofs.ExplainedFields.{fits_up}
 
--- [Cap], where one may stand
+-- [Cap], if one is allowed
 abbrev pub CapAt : Bool → Option Cap → List Token → Type 0
 CapAt b c ts = SpellsCap c ts × CapIf b c
 

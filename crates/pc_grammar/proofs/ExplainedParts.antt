@@ -34,7 +34,7 @@ pub opened : (u : Bool) {A : Type 0} (M N : A → List Token → Type 0) (test :
     → Explained u M (x ∷ ts) (and_then (take_if test (x ∷ ts)) f)
 opened u M N test x ts f h g e = subst (λ o. Explained u M (x ∷ ts) (and_then o f)) (sym (taken test x ts h)) (explained_cons u M N x ts g (f x ts) e)
 
--- ---- how parts of a list are put together
+-- ---- how parts of a list are combined
 
 pub ends_nil : (b c d : List Token) → b ≡ c ++ d → d ≡ [] → b ≡ c
 ends_nil b c d e f = e ∙ ap (λ l. c ++ l) f ∙ append-nil c

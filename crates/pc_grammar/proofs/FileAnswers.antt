@@ -1,4 +1,4 @@
--- Of a whole list of tokens at most one answer holds, and reading it says which.
+-- For a whole list of tokens at most one answer holds, and reading gives it.
 use Rattle.std.proofs.Common.{◌≡◌, ◌≤◌, List, [], ◌∷◌, ◌++◌, Ok, Err, refl, sym, ap, ◌∙◌, subst, append_assoc, append-nil}
 use Rattle.pc_tree.specs.Tree as t
 use Rattle.pc_tree.specs.Depths.{file_depth}
@@ -13,7 +13,7 @@ use Rattle.pc_grammar.specs.Laws.{AnswersFor, FileIsAnswered}
 use Rattle.pc_grammar.proofs.OneAnswer.{Front, of_deep, meet, stopped_deep}
 use Rattle.pc_grammar.proofs.FileRight.{file_is_read, file_is_refused, file_is_too_deep, file_is_one}
 
--- ---- reading says which
+-- ---- reading gives it
 
 answered : (ts : List Token) (o : Outcome t.File) → file 199 ts ≡ o → AnswersFor ts o
 answered ts (Ok (f, [])) e =
@@ -42,7 +42,7 @@ stops ts rest h x more e begins =
 of_unexpected : (ts rest : List Token) (h : IsUnexpected ts rest) → Front SpellsFile file_depth level_limit ts h.0 rest
 of_unexpected ts rest h = (h.4, h.5, λ x more e w. stops ts rest h x more e (w.0, w.1, w.2))
 
--- a file that is spelled goes on with each of its tokens
+-- a file that is spelled continues with each of its tokens
 goes_on : (ts pre rest more : List Token) (x : Token) (f : t.File) → SpellsFile f ts → ts ≡ pre ++ rest → rest ≡ x ∷ more → SpellsFile f ((pre ++ x ∷ []) ++ more)
 goes_on ts pre rest more x f spelled cuts first =
     let P : List Token → Type 0 = λ l. SpellsFile f l in

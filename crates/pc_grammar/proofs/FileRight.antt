@@ -1,4 +1,4 @@
--- What reading a file answers is right.
+-- The result of reading a file is right.
 use Rattle.std.proofs.Common.{◌≡◌, ℕ, suc, ◌≤◌, max, true, false, List, [], ◌∷◌, ◌++◌, length, Ok, Err, sym, ap, ◌∙◌, subst, arith, inl, inr, append_assoc, append-nil}
 use Rattle.pc_tree.specs.Tree as t
 use Rattle.pc_tree.specs.Depths.{file_depth}
@@ -16,7 +16,7 @@ use Rattle.pc_grammar.proofs.ExplainedFiles.{FileIn, explained_file}
 use Rattle.pc_grammar.proofs.CompleteFiles.{file_reads}
 use Rattle.pc_grammar.proofs.Right.{rest_with, ok_apart, fault_apart, deep_by}
 
--- a token at which the reading stops goes on with no file within the levels
+-- a token at which reading stops continues no file within the levels
 not_within : (n : ℕ) (pre : List Token) (x : Token) (more others : List Token) (f : t.File) → rest_of (file n (pre ++ x ∷ more)) ≡ x ∷ more → SpellsFile f (pre ++ x ∷ others) → file_depth f ≤ suc n → ⊥
 not_within n pre x more others f ends spelled fits =
     let list = pre ++ x ∷ others in
@@ -25,7 +25,7 @@ not_within n pre x more others f ends spelled fits =
     let left : [] ≡ x ∷ others = ap rest_of (sym whole ∙ here) ∙ rest_with (x ∷ others) (file n (pre ++ x ∷ more)) in
     omega (arith, ap length left)
 
--- and with none of any depth, where no level was too many
+-- and no file of any depth, if no level was too many
 nothing_begins : (n : ℕ) (pre : List Token) (x : Token) (more : List Token) → rest_of (file n (pre ++ x ∷ more)) ≡ x ∷ more → ((r : List Token) → file n (pre ++ x ∷ more) ≡ Err (too_deep, r) → ⊥) → Begins SpellsFile (pre ++ x ∷ []) → ⊥
 nothing_begins n pre x more ends apart begins =
     let f = begins.1 in
@@ -36,7 +36,7 @@ nothing_begins n pre x more ends apart begins =
       | inr g ↦ apart g.0 g.1
     ]
 
--- What is read is spelled, within the levels, and goes no further.
+-- What is read is spelled, within the levels, and the next token does not continue it.
 pub file_is_read : (n : ℕ) (ts rest : List Token) (f : t.File) → file n ts ≡ Ok (f, rest) → IsRead SpellsFile file_depth (suc n) ts f rest
 file_is_read n ts rest f e =
     let h = subst (λ o. Explained true (FileIn true n) ts o) e (explained_file true n ts) in (
@@ -49,7 +49,7 @@ file_is_read n ts rest f e =
           nothing_begins n h.0 x more (ap rest_of read ∙ eq) (λ r g. ok_apart f rest r (sym read ∙ g)) begins,
     )
 
--- a file whose tokens are read no further than the front of a list is not spelled by that front
+-- if reading stops at the end of a prefix, the prefix spells no file
 is_none : (n : ℕ) (pre : List Token) (x : Token) (more : List Token) → file n (pre ++ x ∷ more) ≡ Err (unexpected, x ∷ more) → SpellsNone SpellsFile pre
 is_none n pre x more e f spelled =
     let m = max n (file_depth f) in
@@ -59,7 +59,7 @@ is_none n pre x more e f spelled =
       | inr g ↦ fault_apart (x ∷ more) g.0 (sym e ∙ g.1)
     ]
 
--- Where a token is unexpected, those before begin a file within the levels and are none, and with it nothing begins.
+-- If a token is unexpected, those before it begin a file within the levels but spell none, and with it none begins.
 pub file_is_refused : (n : ℕ) (ts : List Token) (x : Token) (rest : List Token) → file n ts ≡ Err (unexpected, x ∷ rest) → IsRefused SpellsFile file_depth (suc n) ts (x ∷ rest)
 file_is_refused n ts x rest e =
     let h = subst (λ o. Explained true (FileIn true n) ts o) e (explained_file true n ts) in
@@ -73,7 +73,8 @@ file_is_refused n ts x rest e =
           nothing_begins n h.0 y more (ap rest_of there ∙ eq) (λ r g. fault_apart (x ∷ rest) r (sym there ∙ g)) begins,
     )
 
--- Where a token opens a level too many, those before begin a file within the levels, and with it only deeper ones begin.
+-- If a token opens a level too many, those before it begin a file within the levels, and with it only deeper ones
+-- begin.
 pub file_is_too_deep : FileDeepRight
 file_is_too_deep n ts rest e =
     deep_by SpellsFile file_depth (suc n) ts rest (subst (λ o. Explained true (FileIn true n) ts o) e (explained_file true n ts)) (subst (λ o. Explained false (FileIn false n) ts o) e (explained_file false n ts))

@@ -11,7 +11,7 @@ use Rattle.pc_grammar.specs.Spells.{Spells, SpellsSuffix, SpellsArm, SpellsItem,
 use Rattle.pc_grammar.specs.Reading.{begins_item, begins_suffix}
 use Rattle.pc_grammar.proofs.Follow.{Leads, kind_of_sign, kind_of_word, name_leads, type_name_leads, number_leads, text_leads, open_leads, this_leads, truth_leads, if_leads, while_leads, recover_leads, not_leads, consume_leads, local_item, dot_suffix, open_suffix}
 
--- the first of these tokens is so
+-- the first of these tokens has this property
 abbrev pub First : (Token → Type 0) → List Token → Type 0
 First Q ts = (x : Token) × (xs : List Token) × (ts ≡ x ∷ xs) × Q x
 

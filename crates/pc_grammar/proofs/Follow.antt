@@ -34,7 +34,7 @@ pub kind_of_word : (w : Word) (x : Token) → is_word w x ≡ true → x.kind �
 unfolding is_word
 kind_of_word w x h = word_kind w x.kind h
 
--- what each of the parts does not go on with
+-- what does not continue any of the parts
 pub record Stops_chain (y : Token) : Type 0 where
   pub suffix : begins_suffix y ≡ false
 
@@ -223,7 +223,7 @@ pub next_none : (x : Token) (ts : List Token) → Stops_seq x → next_item (x �
 unfolding next_item
 next_none x ts h = rw (h.semicolon, h.item, and_false x.first)
 
--- An expression may begin with it: an item, and no local.
+-- An expression may begin with it: an item that is not a local.
 pub record Leads (x : Token) : Type 0 where
   pub item : begins_item x ≡ true
   pub fixed : is_word w.LetWord x ≡ false

@@ -15,7 +15,7 @@ unfolding many
 many_none next p zero ts e = refl
 many_none next p (suc n) ts e = ap (many_step p (many next p n) ts) e
 
--- nothing more is read where `next` says that nothing begins
+-- nothing more is read if `next` says that nothing begins
 pub none_more : {A : Type 0} (next : List Token → Option (List Token)) (p : Parser A) (ts : List Token) → next ts ≡ None → all next p ts ≡ Ok ([], ts)
 unfolding all many
 none_more next p ts e = many_none next p (length ts) ts e
@@ -45,7 +45,7 @@ bind_ok (Ok q) f r e = (q, refl, e)
 bind_ok (Err q) f r e = absurd (cc)
 
 module _ (n : ℕ) (p : Parser t.Seq) (r : t.Expr × List Token) where
-  -- what begins as an atom has no `not` and no `consume` in front
+  -- what begins as an atom does not begin with `not` or `consume`
   no_not : (x : Token) (ts : List Token) → atom n p (x ∷ ts) ≡ Ok r → (b : Bool) → is_word w.NotWord x ≡ b → is_word w.NotWord x ≡ false
   unfolding atom peek
   no_not x ts h false e = e

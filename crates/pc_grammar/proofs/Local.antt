@@ -1,4 +1,4 @@
--- A parser's answer depends on the tokens up to the first that it leaves, and on no other.
+-- A parser's result depends on the tokens up to and including the first that it leaves, and on no others.
 use Rattle.std.proofs.Common.{◌≡◌, ℕ, zero, suc, ◌<◌, Bool, true, false, List, [], ◌∷◌, ◌++◌, length, Ok, Err, refl, sym, ap, ap₂, ◌∙◌, arith, cond, append_assoc, length-append}
 use Rattle.pc_token.specs.declared.kinds.Token.{Token}
 use Rattle.pc_grammar.specs.Reading.{unexpected, too_deep, Outcome, Parser, and_then, pure, refuse, ◌>>=◌, peek, take_if, deeper}
@@ -15,7 +15,7 @@ pub record Local {A : Type 0} (p : Parser A) : Type 0 where
   pub suffix : (ts : List Token) → (pre : List Token) × (ts ≡ pre ++ rest_of (p ts))
   pub local : (pre : List Token) (x : Token) (more others : List Token) → rest_of (p (pre ++ x ∷ more)) ≡ x ∷ more → p (pre ++ x ∷ others) ≡ with_rest (x ∷ others) (p (pre ++ x ∷ more))
 
--- an answer that is no value comes with fewer tokens left
+-- a result without a value leaves fewer tokens
 abbrev pub Takes : {A : Type 0} → Parser A → Type 0
 Takes {A} p = (ts rest : List Token) (x : A) → p ts ≡ Ok (x, rest) → length rest < length ts
 

@@ -1,4 +1,4 @@
--- Each rule of files looks one token ahead.
+-- Each rule of files has one token of lookahead.
 use Rattle.std.proofs.Common.{ℕ, Bool}
 use Rattle.pc_tree.specs.declared.kinds.EntityKind.{EntityKind}
 use Rattle.pc_tree.specs.declared.kinds.EntityKind.TheVariants as kind

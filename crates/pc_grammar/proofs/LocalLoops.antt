@@ -1,4 +1,4 @@
--- The same of loops.
+-- The same for repetitions.
 use Rattle.std.proofs.Common.{◌≡◌, ℕ, zero, suc, ◌+◌, ◌<◌, ◌≤◌, Bool, true, false, ◌&&◌, List, [], ◌∷◌, ◌++◌, length, Option, Some, None, Ok, Err, refl, sym, ap, ◌∙◌, arith, cond, length-append, ◌⊎◌, inl, inr}
 use Rattle.pc_token.specs.declared.kinds.Token.{Token}
 use Rattle.pc_token.specs.declared.signs.Sign.TheVariants as s
@@ -9,7 +9,7 @@ use Rattle.pc_grammar.proofs.Local.{rest_of, with_rest, Local, Takes, local_bind
 abbrev Next : Type 0
 Next = List Token → Option (List Token)
 
--- what `next` says depends on the first token alone
+-- `next` depends on the first token alone
 pub record OneAhead (next : List Token → Option (List Token)) : Type 0 where
   pub none : next [] ≡ None
   pub some : (x : Token) → ((ts : List Token) → next (x ∷ ts) ≡ None) ⊎ (((ts : List Token) → next (x ∷ ts) ≡ Some ts) ⊎ ((ts : List Token) → next (x ∷ ts) ≡ Some (x ∷ ts)))

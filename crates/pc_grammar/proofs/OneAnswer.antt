@@ -1,4 +1,4 @@
--- Of a list of tokens at most one answer holds.
+-- For a list of tokens at most one answer holds.
 use Rattle.std.proofs.Common.{◌≡◌, ℕ, List, [], ◌∷◌, ◌++◌, refl, sym, ap, ap₂, ◌∙◌, subst, append_assoc, append-nil}
 use Rattle.std.proofs.lemmas.List.{append_cancel_left}
 use Rattle.pc_tree.specs.Depths.{depth, seq_depth}
@@ -12,7 +12,7 @@ use Rattle.pc_grammar.proofs.Right.{seq_one, expr_one}
 abbrev StopsAt : (List Token → Type 0) → List Token → List Token → Type 0
 StopsAt W pre rest = (x : Token) (more : List Token) → rest ≡ x ∷ more → W (pre ++ x ∷ []) → ⊥
 
--- The longest front for which something holds is one, if it holds of the shorter ones too.
+-- The longest prefix with a property is unique, if shorter ones have the property too.
 same_front : (W : List Token → Type 0) → ((l m : List Token) (x : Token) → W (l ++ x ∷ m) → W (l ++ x ∷ [])) → (p q r s : List Token) → p ++ r ≡ q ++ s → W p → W q → StopsAt W p r → StopsAt W q s → p ≡ q
 same_front W shorter [] [] r s e a b stop other = refl
 same_front W shorter [] (y ∷ q) r s e a b stop other = absurd (stop y (q ++ s) e (shorter [] q y b))
@@ -50,7 +50,7 @@ module _ {A : Type 0} (spells : A → List Token → Type 0) (depth_of : A → �
       let P : Token → Type 0 = λ v. Within (h.0 ++ v ∷ []) in
       (h.4, h.5, λ x more e w. let same : x ≡ h.2 = cc (sym e ∙ h.3) in h.7 (subst P same w))
 
-  -- two fronts are one, and so is what stands behind them
+  -- two prefixes are the same, and so is what comes after them
   pub meet : (ts p q r s : List Token) → Front ts p r → Front ts q s → (p ≡ q) × (r ≡ s)
   meet ts p q r s h k =
       let same = same_front Within shorter p q r s (sym h.0 ∙ k.0) h.1 k.1 h.2 k.2 in

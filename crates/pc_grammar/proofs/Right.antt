@@ -1,5 +1,5 @@
--- What a reading answers is right, where it is complete, looks one token ahead, is explained, and agrees with itself at more
--- levels.
+-- The result of reading is right if it is complete, has one token of lookahead, is explained, and agrees with reading
+-- with more levels.
 use Rattle.std.proofs.Common.{◌≡◌, ℕ, ◌≤◌, max, Bool, true, false, List, [], ◌∷◌, ◌++◌, length, Ok, Err, refl, sym, ap, ◌∙◌, subst, arith, inl, inr, append_assoc, length-append}
 use Rattle.pc_tree.specs.Tree as t
 use Rattle.pc_tree.specs.Depths.{depth, seq_depth}
@@ -34,7 +34,7 @@ module _ {A : Type 0} (spells : A → List Token → Type 0) (depth_of : A → �
   abbrev pub In : Bool → ℕ → A → List Token → Type 0
   In u n tree ts = spells tree ts × Fits u n (depth_of tree)
 
-  -- a level too many, where no tree within the levels goes on with its token
+  -- a level too many, if no tree within the levels continues with its token
   pub deep_by : (n : ℕ) (ts rest : List Token) → Explained true (In true n) ts (Err (too_deep, rest)) → Explained false (In false n) ts (Err (too_deep, rest))
       → ((pre : List Token) (x : Token) (more others : List Token) (b : A) → ts ≡ pre ++ x ∷ more → rest ≡ x ∷ more → spells b (pre ++ x ∷ others) → depth_of b ≤ n → ⊥) → IsTooDeep spells depth_of n ts rest
   deep_by n ts [] h g none = absurd h.5

@@ -1,5 +1,5 @@
--- A token that nothing goes on with is as good as any other: where an answer is left at some token, and no level is too deep,
--- the same answer is left at the end of a text.
+-- A token that continues nothing is as good as any other: if a result leaves some token, and no level is too deep, the
+-- same result is left at the end of a text.
 use Rattle.std.proofs.Common.{◌≡◌, ℕ, zero, suc, ◌+◌, ◌<◌, Bool, true, false, List, [], ◌∷◌, ◌++◌, length, Option, Some, None, Ok, Err, refl, sym, ap, ◌∙◌, subst, arith, cond, append_assoc, length-append, inl, inr}
 use Rattle.pc_token.specs.declared.kinds.Token.{Token}
 use Rattle.pc_token.specs.declared.kinds.TokenKind.TheVariants as k
@@ -24,7 +24,7 @@ Plain (Err e) = Usual e.0
 pub record Steady {A : Type 0} (p : Parser A) : Type 0 where
   pub steady : (pre : List Token) (x : Token) (more others : List Token) → rest_of (p (pre ++ x ∷ more)) ≡ x ∷ more → Plain (p (pre ++ x ∷ more)) → p (pre ++ the_end ∷ others) ≡ with_rest (the_end ∷ others) (p (pre ++ x ∷ more))
 
--- the parser takes this token, if it stands first
+-- the parser takes this token if it comes first
 pub record Enters {A : Type 0} (p : Parser A) (x : Token) : Type 0 where
   pub never : (more : List Token) → rest_of (p (x ∷ more)) ≡ x ∷ more → Plain (p (x ∷ more)) → ⊥
 
@@ -117,7 +117,7 @@ unfolding deeper
 enters_deeper zero p x e = record { never = λ more ends plain. plain }
 enters_deeper (suc n) p x e = e
 
--- one token ahead: what it leads to at the end is what it leads to at the token where the answer is left
+-- one token of lookahead: the result at the end is the result at the token that is left
 abbrev pub Ends : {A : Type 0} → (Token → Parser A) → Type 0
 Ends g = (x : Token) (more others : List Token) → rest_of (g x (x ∷ more)) ≡ x ∷ more → Plain (g x (x ∷ more)) → g the_end (the_end ∷ others) ≡ with_rest (the_end ∷ others) (g x (x ∷ more))
 
@@ -134,13 +134,13 @@ pub enters_peek : {A : Type 0} (g : Token → Parser A) (x : Token) → Enters (
 unfolding peek
 enters_peek g x e = record { never = λ more ends plain. e.never more ends plain }
 
--- where the token decides: it is taken, or what is read without it comes to the same at the end
+-- if the token decides: it is taken, or what is read without it has the same result at the end
 pub ends_cond : {A : Type 0} (p q : Parser A) (x : Token) (more others : List Token) (end : Outcome A) (b : Bool) → (b ≡ true → Enters p x) → (rest_of (q (x ∷ more)) ≡ x ∷ more → Plain (q (x ∷ more)) → end ≡ with_rest (the_end ∷ others) (q (x ∷ more)))
     → rest_of (cond b p q (x ∷ more)) ≡ x ∷ more → Plain (cond b p q (x ∷ more)) → end ≡ with_rest (the_end ∷ others) (cond b p q (x ∷ more))
 ends_cond p q x more others end true enters same ends plain = absurd ((enters refl).never more ends plain)
 ends_cond p q x more others end false enters same ends plain = same ends plain
 
--- what always takes a token, where the end is refused
+-- what always takes a token, if the end is refused
 refused : {A : Type 0} (x : Token) (more others : List Token) (o : Outcome A) → ((r : A × List Token) → o ≡ Ok r → length r.1 < length (x ∷ more)) → rest_of o ≡ x ∷ more → Plain o → Err (unexpected, the_end ∷ others) ≡ with_rest (the_end ∷ others) o
 refused x more others (Ok r) takes ends plain = absurd (omega (arith, takes r refl, ap length ends))
 refused x more others (Err (unexpected, r)) takes ends plain = refl
@@ -149,7 +149,7 @@ refused x more others (Err (too_deep, r)) takes ends plain = absurd plain
 pub ends_refuse : {A : Type 0} (p : Parser A) → Takes p → (x : Token) (more others : List Token) → rest_of (p (x ∷ more)) ≡ x ∷ more → Plain (p (x ∷ more)) → Err (unexpected, the_end ∷ others) ≡ with_rest (the_end ∷ others) (p (x ∷ more))
 ends_refuse p takes x more others ends plain = refused x more others (p (x ∷ more)) (λ r e. takes (x ∷ more) r.1 r.0 e) ends plain
 
--- ---- loops
+-- ---- repetitions
 
 module _ {A : Type 0} (next : List Token → Option (List Token)) (p : Parser A) (ahead : OneAhead next) (lp : Local p) (takes : Takes p) (sp : Steady p) (none : (ts : List Token) → next (the_end ∷ ts) ≡ None) (enters : (x : Token) (more : List Token) → next (x ∷ more) ≡ Some (x ∷ more) → Enters p x) where
   abbrev behind : ℕ → A → Parser (List A)
@@ -158,7 +158,7 @@ module _ {A : Type 0} (next : List Token → Option (List Token)) (p : Parser A)
   local_behind : (n : ℕ) (v : A) → Local (behind n v)
   local_behind n v = local_bind (many next p n) (λ xs. pure (v ∷ xs)) (local_many next p ahead lp n) (λ xs. local_pure (v ∷ xs))
 
-  -- a turn takes its first token
+  -- a repetition takes its first token
   turn_enters : (n : ℕ) (x : Token) (more begin : List Token) → next (x ∷ more) ≡ Some begin → rest_of ((p >>= behind n) begin) ≡ x ∷ more → Plain ((p >>= behind n) begin) → ⊥
   turn_enters n x more begin e ends plain = elim (ahead.some x) [
     | inl f ↦ (let g : None ≡ Some begin = sym (f more) ∙ e in absurd (cc))
@@ -214,7 +214,7 @@ module _ {A : Type 0} (next : List Token → Option (List Token)) (p : Parser A)
         b ∙ many_steady m pre x more others (ap rest_of (sym a) ∙ ends) (subst P a plain) ∙ ap (with_rest (the_end ∷ others)) (sym a);
   }
 
-  -- where one more begins, its first token is taken
+  -- if one more begins, its first token is taken
   pub all_enters : (x : Token) (more begin : List Token) → next (x ∷ more) ≡ Some begin → rest_of (all next p (x ∷ more)) ≡ x ∷ more → Plain (all next p (x ∷ more)) → ⊥
   unfolding all many
   all_enters x more begin e ends plain =

@@ -1,4 +1,4 @@
--- The same of each rule.
+-- The same for each rule.
 use Rattle.std.proofs.Common.{◌≡◌, ℕ, zero, suc, Bool, true, false, ◌&&◌, List, [], ◌∷◌, ◌++◌, length, Option, Some, None, Ok, Err, refl, sym, ap, ◌∙◌, subst, arith, cond}
 use Rattle.pc_caps.specs.declared.span.Span.{Span}
 use Rattle.pc_caps.specs.declared.capability.Cap.{Cap}
@@ -116,7 +116,7 @@ fine_written_type : Fine written_type
 unfolding written_type
 fine_written_type = fine_bind _ _ fine_type_name (λ m. fine_bind _ _ fine_maybe_cap (λ c. fine_pure _))
 
--- a token and a parser behind it, then a value
+-- a token followed by a parser, then a value
 fine_behind : {A B : Type 0} (test : Token → Bool) (p : Parser A) (f : A → B) → Fine (take_if test) → Fine p → Fine (take_if test >> p >>= λ v. pure (f v))
 fine_behind test p f a b = fine_bind _ _ (fine_bind _ _ a (λ _. b)) (λ v. fine_pure _)
 

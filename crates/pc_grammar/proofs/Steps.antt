@@ -1,4 +1,4 @@
--- One rule is read, where its parts are.
+-- A rule is read if its parts are.
 use Rattle.std.proofs.Common.{◌≡◌, ℕ, suc, ◌<◌, Bool, true, false, List, ◌∷◌, ◌++◌, Option, Some, None, Ok, refl, sym, ap, ◌∙◌}
 use Rattle.pc_caps.specs.declared.span.Span.{Span}
 use Rattle.pc_caps.specs.declared.capability.Cap.{Cap}
@@ -112,7 +112,7 @@ module _ (p : Parser t.Seq) where
   unfolding other peek
   no_other_read x rest else = rw else
 
--- ---- suffixes, terms and what is built of them
+-- ---- suffixes, terms and what is built from them
 
 module _ (n : ℕ) (p : Parser t.Expr) where
   pub negation_read : (x : Token) (inside rest : List Token) (e : t.Expr) → 0 < n → is_word w.NotWord x ≡ true → p inside ≡ Ok (e, rest)

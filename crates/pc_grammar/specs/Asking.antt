@@ -1,4 +1,4 @@
--- What a token is to the grammar.
+-- What a token means to the grammar.
 use Rattle.std.specs.Prelude.{Bool, true, false, Option, Some, None, if◌then◌else◌}
 use denote.Enum.Bare.{sameb}
 use Rattle.pc_caps.specs.declared.capability.Cap.{Cap}
@@ -35,7 +35,7 @@ kind_op first (k.Word w.IsWord) = Some o.Is
 kind_op first (k.Word w.IsntWord) = Some o.Isnt
 kind_op first _ = None
 
--- The infix operator that a token is. A `-` that is first on its line is none.
+-- The infix operator that a token is. A `-` that is first on its line is no operator.
 unfoldable pub op_of : Token → Option Op
 op_of t = kind_op t.first t.kind
 
@@ -48,11 +48,11 @@ kind_cap (k.Word w.BoxWord) = Some c.Box
 kind_cap (k.Word w.TagWord) = Some c.Tag
 kind_cap _ = None
 
--- the capability that a token names
+-- the capability named by a token
 unfoldable pub cap_of : Token → Option Cap
 cap_of t = kind_cap t.kind
 
--- the word before a local or a field that is fixed, or is not
+-- the keyword of a local or a field, `let` if it is fixed
 abbrev pub local_word : Bool → Word
 local_word true = w.LetWord
 local_word false = w.VarWord

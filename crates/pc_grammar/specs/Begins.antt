@@ -1,21 +1,21 @@
--- How far a list of tokens is the beginning of something, for any kind of tree: `spells` says which tokens spell which
--- tree, and `depth` how many levels a tree opens.
+-- How far a list of tokens begins something, for trees of any kind: `spells` says which tokens spell which tree, and
+-- `depth` how many levels a tree opens.
 use Rattle.std.specs.Prelude.{◌≡◌, ℕ, ◌≤◌, List, [], ◌∷◌, ◌++◌}
 use Rattle.pc_token.specs.declared.kinds.Token.{Token}
 
--- what may be said of a list of tokens: a tree and the tokens behind it, or the tokens from one on that is unexpected, or
--- that opens a level too many
+-- the answers for a list of tokens: a tree and the tokens after it, or the tokens from the first unexpected one on, or
+-- from the first one on that opens a level too many
 pub data Answer (A : Type 0) : Type 0 where
   read : A → List Token → Answer A
   refused : List Token → Answer A
   deep : List Token → Answer A
 
 module _ {A : Type 0} (spells : A → List Token → Type 0) where
-  -- some list with this front spells some tree, of any depth
+  -- some list with this prefix spells some tree, of any depth
   abbrev pub Begins : List Token → Type 0
   Begins ts = (more : List Token) × (tree : A) × spells tree (ts ++ more)
 
-  -- with the first of these tokens behind `pre`, nothing begins
+  -- after `pre` and the first of these tokens, nothing begins
   abbrev pub IsStopped : List Token → List Token → Type 0
   IsStopped pre rest = (x : Token) (more : List Token) → rest ≡ x ∷ more → Begins (pre ++ x ∷ []) → ⊥
 
@@ -28,19 +28,20 @@ module _ {A : Type 0} (spells : A → List Token → Type 0) where
   IsOne = (ts : List Token) (one other : A) → spells one ts → spells other ts → one ≡ other
 
   module _ (depth : A → ℕ) (n : ℕ) where
-    -- some list with this front spells some tree that opens at most n levels
+    -- some list with this prefix spells some tree that opens at most n levels
     abbrev pub BeginsWithin : List Token → Type 0
     BeginsWithin ts = (more : List Token) × (tree : A) × spells tree (ts ++ more) × (depth tree ≤ n)
 
-    -- The tokens up to `rest` spell the tree, within the levels, and the next one does not go on with it.
+    -- The tokens up to `rest` spell the tree, within the levels, and the next token does not continue it.
     abbrev pub IsRead : List Token → A → List Token → Type 0
     IsRead ts tree rest = (pre : List Token) × (ts ≡ pre ++ rest) × spells tree pre × (depth tree ≤ n) × IsStopped pre rest
 
-    -- The tokens up to `rest` begin a tree within the levels and are none, and with the next one nothing begins.
+    -- The tokens up to `rest` begin a tree within the levels but spell none, and with the next token none begins.
     abbrev pub IsRefused : List Token → List Token → Type 0
     IsRefused ts rest = (pre : List Token) × (ts ≡ pre ++ rest) × BeginsWithin pre × SpellsNone pre × IsStopped pre rest
 
-    -- The tokens up to `rest` begin a tree within the levels; with the next one a tree begins, but none within the levels.
+    -- The tokens up to `rest` begin a tree within the levels; with the next token a tree begins, but none within the
+    -- levels.
     abbrev pub IsTooDeep : List Token → List Token → Type 0
     IsTooDeep ts rest = (pre more : List Token) × (x : Token) × (rest ≡ x ∷ more) × (ts ≡ pre ++ rest) × BeginsWithin pre × Begins (pre ++ x ∷ []) × (BeginsWithin (pre ++ x ∷ []) → ⊥)
 

@@ -1,4 +1,4 @@
--- What the reading says of the tokens, and that nothing is spelled in two ways.
+-- The reading of tokens is right, and nothing is spelled in two ways.
 use Rattle.std.specs.Prelude.{◌≡◌, ℕ, suc, List, [], ◌∷◌, Ok, Err}
 use Rattle.pc_tree.specs.Depths.{depth, seq_depth, file_depth}
 use Rattle.pc_tree.specs.Tree as t
@@ -12,15 +12,16 @@ use Rattle.pc_grammar.specs.FileAnswers.{IsFileAnswer, inner_levels}
 use Rattle.pc_grammar.specs.Reading.{Outcome, Parser, unexpected, too_deep, seq, expr, infix_}
 
 module _ {A : Type 0} (spells : A → List Token → Type 0) (depth_of : A → ℕ) (reading : ℕ → Parser A) where
-  -- What is read is spelled, within the levels, and goes no further.
+  -- What is read is what the tokens spell, within the levels, and the next token does not continue it.
   abbrev pub ReadsRight : Type 0
   ReadsRight = (n : ℕ) (ts rest : List Token) (tree : A) → reading n ts ≡ Ok (tree, rest) → IsRead spells depth_of n ts tree rest
 
-  -- Where a token is unexpected, those before begin a tree within the levels and are none, and with it nothing begins.
+  -- If a token is unexpected, those before it begin a tree within the levels but spell none, and with it none begins.
   abbrev pub RefusesRight : Type 0
   RefusesRight = (n : ℕ) (ts : List Token) (x : Token) (rest : List Token) → reading n ts ≡ Err (unexpected, x ∷ rest) → IsRefused spells depth_of n ts (x ∷ rest)
 
-  -- Where a token opens a level too many, those before begin a tree within the levels, and with it only deeper ones begin.
+  -- If a token opens a level too many, those before it begin a tree within the levels, and with it only deeper trees
+  -- begin.
   abbrev pub DeepRight : Type 0
   DeepRight = (n : ℕ) (ts rest : List Token) → reading n ts ≡ Err (too_deep, rest) → IsTooDeep spells depth_of n ts rest
 
@@ -66,7 +67,7 @@ ExprOneAnswer = (n : ℕ) → IsOneAnswer Spells depth n
 abbrev pub InfixOneAnswer : Type 0
 InfixOneAnswer = (n : ℕ) → IsOneAnswer SpellsInfix depth n
 
--- of files, with n levels in a body or a value: a body stands at level 1
+-- for files, with n levels in a body or a value: a body is at level 1
 abbrev pub FileReadsRight : Type 0
 FileReadsRight = (n : ℕ) (ts rest : List Token) (f : t.File) → file n ts ≡ Ok (f, rest) → IsRead SpellsFile file_depth (suc n) ts f rest
 
@@ -79,7 +80,8 @@ FileDeepRight = (n : ℕ) (ts rest : List Token) → file n ts ≡ Err (too_deep
 abbrev pub FileIsOne : Type 0
 FileIsOne = IsOne SpellsFile
 
--- What reading says of the whole list. Where the list ends before its file does, no token is at fault, and nothing is said.
+-- The answer of reading for the whole list. If the list ends before its file does, no token is at fault, and nothing is
+-- claimed.
 abbrev pub AnswersFor : List Token → Outcome t.File → Type 0
 AnswersFor ts (Ok (f, [])) = IsFileAnswer ts (answer.spelled f)
 AnswersFor ts (Ok (f, x ∷ rest)) = IsFileAnswer ts (answer.unexpected (x ∷ rest))
@@ -87,6 +89,6 @@ AnswersFor ts (Err (unexpected, [])) = Unit {0}
 AnswersFor ts (Err (unexpected, x ∷ rest)) = IsFileAnswer ts (answer.unexpected (x ∷ rest))
 AnswersFor ts (Err (too_deep, rest)) = IsFileAnswer ts (answer.too_deep rest)
 
--- A body and a value stand at level 1.
+-- A body and a value are at level 1.
 abbrev pub FileIsAnswered : Type 0
 FileIsAnswered = (ts : List Token) → AnswersFor ts (file inner_levels ts)

@@ -1,4 +1,4 @@
--- How the grammar is read from the left, with one token ahead.
+-- How the grammar is read from the left, with one token of lookahead.
 use Rattle.std.specs.Prelude.{ℕ, zero, suc, Bool, true, false, not, ◌&&◌, ◌||◌, List, [], ◌∷◌, length, Option, Some, None, Result, Ok, Err, if◌then◌else◌}
 use Rattle.pc_caps.specs.declared.span.Span.{Span}
 use Rattle.pc_caps.specs.declared.capability.Cap.{Cap}
@@ -16,88 +16,89 @@ use Rattle.pc_token.specs.Asking.{is_sign, is_word}
 use Rattle.pc_grammar.specs.Asking.{op_of, cap_of, same_op, local_word}
 use Rattle.pc_grammar.specs.Spells.{no_span, join, is_place}
 
--- Why a text is not read further: no rule goes on with the next token, or it would stand below the last level.
+-- Why reading stops: no rule continues with the next token, or it would open a level too many.
 pub data Fault : Type 0 where
   unexpected : Fault
   too_deep : Fault
 
--- How a rule ends: with what it has read and the tokens behind that, or with a fault and the tokens from it on,
+-- The outcome of a rule: what it has read and the tokens after that, or a fault and the tokens from the faulty one on.
 abbrev pub Outcome : Type 0 → Type 0
 Outcome A = Result (A × List Token) (Fault × List Token)
 
--- and so a rule is that end for any tokens.
+-- A rule gives an outcome for any tokens.
 abbrev pub Parser : Type 0 → Type 0
 Parser A = List Token → Outcome A
 
--- ---- one token. The end of a text is a token too, so that in the tokens of a text there is always one.
+-- ---- one token. The end of a text is a token too, so the tokens of a text are never empty.
 
--- The next token is looked at, and is still there for the rule behind.
+-- Looks at the next token, and leaves it for the next rule.
 unfoldable pub peek : Parser Token
 peek [] = Err (unexpected, [])
 peek (x ∷ ts) = Ok (x, x ∷ ts)
 
--- It is read if it passes a test; if not, the fault is there.
+-- Reads the next token if it passes a test; if not, the fault is at this token.
 unfoldable pub take_if : (Token → Bool) → Parser Token
 take_if test [] = Err (unexpected, [])
 take_if test (x ∷ ts) = if test x then Ok (x, ts) else Err (unexpected, x ∷ ts)
 
--- It is read, whichever it is.
+-- Reads the next token, whatever it is.
 abbrev pub take_any : Parser Token
 take_any = take_if (λ _. true)
 
--- No rule begins with it.
+-- No rule begins with the next token.
 abbrev pub refuse : {A : Type 0} → Parser A
 refuse ts = Err (unexpected, ts)
 
--- ---- one rule behind another
+-- ---- one rule after another
 
--- This value, and no token is read.
+-- This value, without reading a token.
 abbrev pub pure : {A : Type 0} → A → Parser A
 pure x ts = Ok (x, ts)
 
--- What was read says which rule is next, and that one reads the tokens behind. A fault of the first ends both,
+-- What was read determines the next rule, which reads the tokens after it. A fault of the first rule is the fault of
+-- both.
 abbrev pub and_then : {A B : Type 0} → Outcome A → (A → Parser B) → Outcome B
 and_then (Err fault) next = Err fault
 and_then (Ok read) next = next read.0 read.1
 
--- as an operator on the two rules,
+-- The same as an operator on two rules.
 infixl 10 ◌>>=◌
 abbrev pub ◌>>=◌ : {A B : Type 0} → Parser A → (A → Parser B) → Parser B
 p >>= f = λ ts. and_then (p ts) f
 
--- and as one where the second does not ask what the first has read.
+-- The same if the second rule does not depend on what the first has read.
 infixl 10 ◌>>◌
 abbrev pub ◌>>◌ : {A B : Type 0} → Parser A → Parser B → Parser B
 p >> q = p >>= λ _. q
 
--- A rule that is read one level further inside, of which a number are left.
+-- A rule that is read one level further inside, with this number of levels left.
 unfoldable pub deeper : {A : Type 0} → ℕ → Parser A → Parser A
 deeper zero p ts = Err (too_deep, ts)
 deeper (suc n) p ts = p ts
 
--- ---- one rule again and again. The next token alone says whether there is one more, and where it begins:
+-- ---- one rule repeatedly. The next token alone decides whether there is one more, and where it begins:
 
 -- at that token,
 unfoldable pub at : (Token → Bool) → List Token → Option (List Token)
 at test [] = None
 at test (x ∷ ts) = if test x then Some (x ∷ ts) else None
 
--- or behind it, where it stands between the two.
+-- or after it, if that token separates the two.
 unfoldable pub after : (Token → Bool) → List Token → Option (List Token)
 after test [] = None
 after test (x ∷ ts) = if test x then Some ts else None
 
--- One turn: there is no more, or one is read from where it begins, and the rest after it.
+-- One repetition: there is no more, or one is read from where it begins, and then the rest.
 abbrev pub many_step : {A : Type 0} → Parser A → Parser (List A) → List Token → Option (List Token) → Outcome (List A)
 many_step p more ts None = Ok ([], ts)
 many_step p more ts (Some begin) = and_then (p begin) (λ x. more >>= λ xs. pure (x ∷ xs))
 
--- All turns, but no more of them than a number,
+-- All repetitions, but at most this number of them.
 unfoldable pub many : {A : Type 0} → (List Token → Option (List Token)) → Parser A → ℕ → Parser (List A)
 many next p zero ts = Ok ([], ts)
 many next p (suc n) ts = many_step p (many next p n) ts (next ts)
 
--- and the number of the tokens is always enough: each turn reads at least one.
+-- The number of tokens is always enough, since each repetition reads at least one.
 unfoldable pub all : {A : Type 0} → (List Token → Option (List Token)) → Parser A → Parser (List A)
 all next p ts = many next p (length ts) ts
 
@@ -119,7 +120,7 @@ kind_begins (k.Word w.LetWord) = true
 kind_begins (k.Word w.VarWord) = true
 kind_begins _ = false
 
--- an item may begin with it
+-- an item may begin with this token
 unfoldable pub begins_item : Token → Bool
 begins_item x = kind_begins x.kind
 
@@ -174,7 +175,7 @@ maybe_type = peek >>= typed_at
 
 -- ---- the rules, with n levels left
 
--- what may stand inside, with a number of levels left
+-- what may come inside, with a number of levels left
 pub record Inner : Type 0 where
   pub seq : Parser t.Seq
   pub expr : Parser t.Expr
@@ -237,7 +238,7 @@ suffix n e = peek >>= suffix_at n e
 unfoldable pub group : ℕ → Parser t.Seq → Parser t.Expr
 group n body = deeper n (take_if (is_sign s.OpenParen) >>= λ opener. body >>= λ b. take_if (is_sign s.CloseParen) >>= λ close. pure (t.group b (join opener.span close.span)))
 
--- "if" Seq "then" Seq, or the same with another word
+-- "if" Seq "then" Seq, or the same with another keyword
 unfoldable pub arm : Word → Parser t.Seq → Parser t.Arm
 arm word body = take_if (is_word word) >>= λ opener. body >>= λ c. take_if (is_word w.ThenWord) >> body >>= λ b. pure (t.arm_of c b (join opener.span (t.seq_span b)))
 

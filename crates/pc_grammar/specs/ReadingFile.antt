@@ -1,4 +1,4 @@
--- How a file is read from the left, with one token ahead.
+-- How a file is read from the left, with one token of lookahead.
 use Rattle.std.specs.Prelude.{ℕ, Bool, true, false, ◌||◌, List, [], ◌∷◌, Option, Some, None, if◌then◌else◌}
 use Rattle.pc_caps.specs.declared.capability.Cap.{Cap}
 use Rattle.pc_tree.specs.Tree as t
@@ -65,7 +65,7 @@ params = take_if (is_sign s.OpenParen) >> param_list >>= λ ps. take_if (is_sign
 unfoldable pub value : ℕ → Parser (Option t.Expr)
 value n = peek >>= λ x. if is_sign s.Assign x then (take_if (is_sign s.Assign) >> infix_ n >>= λ e. pure (Some e)) else pure None
 
--- Name ":" Type ["=" Infix] [doc], behind `let` or `var`
+-- Name ":" Type ["=" Infix] [doc], after `let` or `var`
 unfoldable pub field : ℕ → Bool → Parser t.Field
 field n f = take_if (is_word (local_word f)) >> name >>= λ m. take_if (is_sign s.Colon) >> written_type >>= λ r. value n >>= λ e. maybe_doc >> pure (record { fixed = f; name = m; ty = r; value = e })
 
@@ -75,7 +75,7 @@ begins_field x = is_word w.LetWord x || is_word w.VarWord x
 unfoldable pub some_field : ℕ → Parser t.Field
 some_field n = peek >>= λ x. field n (is_word w.LetWord x)
 
--- {Field}, where fields may stand
+-- {Field}, in an entity that may have fields
 abbrev pub fields : ℕ → EntityKind → Parser (List t.Field)
 fields n e = if may_have_fields e then all (at begins_field) (some_field n) else pure []
 
@@ -91,7 +91,7 @@ maybe_body n = peek >>= λ x. if is_sign s.Arrow x then written_body n else pure
 abbrev pub body : ℕ → EntityKind → Parser (Option t.Seq)
 body n e = if is_abstract e then maybe_body n else written_body n
 
--- [Cap], where one may stand
+-- [Cap], if one is allowed
 abbrev pub cap_if : Bool → Parser (Option Cap)
 cap_if b = if b then maybe_cap else pure None
 
@@ -108,7 +108,7 @@ method_of n e m =
     take_if (is_word (method_word m)) >> method_cap e m >>= λ c. name >>= λ i. params >>= λ ps. method_result m >>= λ r. maybe_doc >> body n e >>= λ b.
     pure (record { word = m; cap = c; name = i; params = ps; result = r; body = b })
 
--- the word of a method that may stand in such an entity
+-- the keyword of a method that may be in such an entity
 abbrev pub word_in : EntityKind → MethodWord → Token → Bool
 word_in e m x = if may_stand e m then is_word (method_word m) x else false
 

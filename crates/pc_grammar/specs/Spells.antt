@@ -25,7 +25,7 @@ use Rattle.pc_token.specs.declared.signs.Sign.TheVariants as s
 use Rattle.pc_token.specs.Asking.{is_sign, is_word}
 use Rattle.pc_grammar.specs.Asking.{op_of, cap_of, local_word, truth_word}
 
--- ---- where the tokens lie
+-- ---- the spans of tokens
 
 abbrev pub no_span : Span
 no_span = record { start = 0; end = 0 }
@@ -38,7 +38,7 @@ abbrev pub last_span : Span → List Token → Span
 last_span s [] = s
 last_span s (x ∷ ts) = last_span x.span ts
 
--- from the beginning of one to the end of another
+-- from the start of one to the end of another
 abbrev pub join : Span → Span → Span
 join a b = record { start = a.start; end = b.end }
 
@@ -130,7 +130,7 @@ abbrev pub ends_in_dot : Bool → t.Suffixes → Bool
 ends_in_dot b t.no_suffixes = b
 ends_in_dot b (t.suffix x ss) = ends_in_dot (is_dot x) ss
 
--- What may stand before an `=`: a name, or what ends in `.` and a name.
+-- What may come before an `=`: a name, or something that ends in `.` and a name.
 abbrev pub is_place : t.Expr → Bool
 is_place (t.number n sp) = false
 is_place (t.truth b sp) = false
@@ -148,7 +148,7 @@ is_place (t.while_ c b sp) = false
 is_place (t.recover c b sp) = false
 is_place (t.assign l r sp) = false
 
--- some stand in the list
+-- the list is not empty
 abbrev pub IsMore : t.Exprs → Type 0
 IsMore t.no_exprs = ⊥
 IsMore (t.expr e es) = Unit {0}
@@ -157,7 +157,7 @@ abbrev pub IsSome : t.Suffixes → Type 0
 IsSome t.no_suffixes = ⊥
 IsSome (t.suffix e es) = Unit {0}
 
--- What stands before an item that is not the first: a `;`, or nothing where the item's first token is first on its line.
+-- What comes before an item other than the first: a `;`, or nothing if the item's first token is first on its line.
 abbrev pub IsNext : List Token → List Token → Type 0
 IsNext [] [] = ⊥
 IsNext [] (x ∷ item) = x.first ≡ true
@@ -185,7 +185,7 @@ abbrev mutual
   Spells (t.recover c b sp) ts = (x z : Token) × (d a : List Token) × (ts ≡ x ∷ (d ++ (a ++ z ∷ []))) × (is_word w.RecoverWord x ≡ true) × SpellsCap c d × SpellsSeq b a × (is_word w.EndWord z ≡ true) × (sp ≡ over ts)
   Spells (t.assign l r sp) ts = (x : Token) × (a b : List Token) × (ts ≡ a ++ x ∷ b) × (is_place l ≡ true) × Spells l a × (is_sign s.Assign x ≡ true) × Spells r b × (sp ≡ over ts)
 
-  -- Term {Op Term}, two terms at least, all with one operator between them
+  -- Term {Op Term}, at least two terms, all with the same operator between them
   pub SpellsTerms : t.Exprs → Op → List Token → Type 0
   SpellsTerms t.no_exprs o ts = ⊥
   SpellsTerms (t.expr e es) o ts = (a b : List Token) × (ts ≡ a ++ b) × (is_term e ≡ true) × Spells e a × IsMore es × SpellsMoreTerms es o b
@@ -195,7 +195,7 @@ abbrev mutual
   SpellsMoreTerms t.no_exprs o ts = ts ≡ []
   SpellsMoreTerms (t.expr e es) o ts = (x : Token) × (a b : List Token) × (ts ≡ x ∷ (a ++ b)) × (op_of x ≡ Some o) × (is_term e ≡ true) × Spells e a × SpellsMoreTerms es o b
 
-  -- The name alone is the place of a suffix `.name`. The `(` of arguments is not first on its line.
+  -- The span of a suffix `.name` is that of the name alone. The `(` of arguments is not first on its line.
   pub SpellsSuffix : t.Suffix → List Token → Type 0
   SpellsSuffix (t.dot m) ts = (x y : Token) × (ts ≡ x ∷ y ∷ []) × (is_sign s.Dot x ≡ true) × IsName y m
   SpellsSuffix (t.args es sp) ts = (x y : Token) × (a : List Token) × (ts ≡ x ∷ (a ++ y ∷ [])) × (is_sign s.OpenParen x ≡ true) × (x.first ≡ false) × SpellsArgs es a × (is_sign s.CloseParen y ≡ true) × (sp ≡ over ts)
@@ -214,7 +214,7 @@ abbrev mutual
   SpellsMoreArgs t.no_exprs ts = ts ≡ []
   SpellsMoreArgs (t.expr e es) ts = (x : Token) × (a b : List Token) × (ts ≡ x ∷ (a ++ b)) × (is_sign s.Comma x ≡ true) × Spells e a × SpellsMoreArgs es b
 
-  -- "if" Seq "then" Seq, or the same with another word
+  -- "if" Seq "then" Seq, or the same with another keyword
   pub SpellsArm : t.Arm → Word → List Token → Type 0
   SpellsArm (t.arm_of c b sp) word ts = (x y : Token) × (a d : List Token) × (ts ≡ x ∷ (a ++ y ∷ d)) × (is_word word x ≡ true) × SpellsSeq c a × (is_word w.ThenWord y ≡ true) × SpellsSeq b d × (sp ≡ over ts)
 

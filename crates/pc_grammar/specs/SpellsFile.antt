@@ -11,9 +11,9 @@
 --   Params  = "(" [Name ":" Type {"," Name ":" Type}] ")"
 --   Result  = TypeName [Cap] ["^"]
 --
--- Fields stand in classes and actors, `be` in actors, traits and interfaces, `new` in classes and actors, and a capability
--- after `new` in classes. In a trait and in an interface a method may have a body, elsewhere each has one. That is the table
--- of the kinds of entities in `pc_tree`.
+-- Classes and actors have fields and `new`, actors, traits and interfaces have `be`, and only in classes may a
+-- capability follow `new`. In a trait or an interface a body is optional, elsewhere every method has one. This is the
+-- table of the kinds of entities in `pc_tree`.
 use Rattle.std.specs.Prelude.{◌≡◌, Bool, true, false, List, [], ◌∷◌, ◌++◌, Option, Some, None, ◌⊎◌}
 use Rattle.pc_tree.specs.Tree as t
 use Rattle.pc_tree.specs.declared.names.Name.{Name}
@@ -33,7 +33,7 @@ use Rattle.pc_token.specs.Asking.{is_sign, is_word}
 use Rattle.pc_grammar.specs.Asking.{local_word}
 use Rattle.pc_grammar.specs.Spells.{IsName, IsTypeName, SpellsCap, SpellsType, SpellsInfix, SpellsSeq}
 
--- [doc], which no tree keeps
+-- [doc], which is not kept in the tree
 abbrev pub IsDoc : List Token → Type 0
 IsDoc [] = Unit {0}
 IsDoc (x ∷ []) = x.kind ≡ k.Doc

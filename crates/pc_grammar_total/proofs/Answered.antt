@@ -24,14 +24,14 @@ use Rattle.pc_grammar_total.proofs.LeftRules.{leaves_seq, leaves_expr, leaves_in
 use Rattle.pc_grammar_total.proofs.LeftFile.{Named, names_file}
 use Rattle.pc_grammar_total.proofs.Openers.{an_open, with_body, deep_in, seq_deep_in, infix_deep_in, file_deep_in}
 
--- ---- a list that is given an `End`
+-- ---- a list to which an `End` is appended
 
 closed_ends : (ts : List Token) → EndsWithEnd (ts ++ the_end ∷ [])
 closed_ends [] = refl
 closed_ends (x ∷ []) = refl
 closed_ends (x ∷ y ∷ ts) = closed_ends (y ∷ ts)
 
--- what is too deep stays so with more tokens behind it
+-- what is too deep stays so with more tokens after it
 deep_closed : {A : Type 0} (spells : A → List Token → Type 0) (depth_of : A → ℕ) (n : ℕ) (ts rest : List Token) → IsTooDeep spells depth_of n ts rest → IsTooDeep spells depth_of n (ts ++ the_end ∷ []) (rest ++ the_end ∷ [])
 deep_closed spells depth_of n ts rest h =
     let tail = the_end ∷ [] in

@@ -1,5 +1,5 @@
--- No rule takes the `End` of a list: what it leaves ends with `End` too, and where a level is too deep, it leaves the token
--- that opens it.
+-- No rule takes the `End` of a list: what it leaves ends with `End` too, and if a level is too deep, what it leaves
+-- begins with the token that opens it.
 use Rattle.std.proofs.Common.{◌≡◌, ◌≢◌, ℕ, zero, suc, Bool, true, false, List, [], ◌∷◌, length, Option, Some, None, Ok, Err, refl, sym, subst, cond}
 use Rattle.pc_token.specs.declared.kinds.Token.{Token}
 use Rattle.pc_token.specs.declared.kinds.TokenKind.TheVariants as k
@@ -14,11 +14,11 @@ Left (Ok r) = EndsWithEnd r.1
 Left (Err (unexpected, rest)) = EndsWithEnd rest
 Left (Err (too_deep, rest)) = EndsWithEnd rest × OpensLevel rest
 
--- of all lists
+-- for all lists
 pub record Leaves {A : Type 0} (p : Parser A) : Type 0 where
   pub leaves : (ts : List Token) → EndsWithEnd ts → Left (p ts)
 
--- of those that begin with a token
+-- for lists that begin with this token
 pub record LeavesAt {A : Type 0} (x : Token) (p : Parser A) : Type 0 where
   pub leaves_at : (more : List Token) → EndsWithEnd (x ∷ more) → Left (p (x ∷ more))
 
@@ -31,7 +31,7 @@ leaves_pure v = record { leaves = λ ts ends. ends }
 pub leaves_refuse : {A : Type 0} → Leaves (refuse {A = A})
 leaves_refuse = record { leaves = λ ts ends. ends }
 
--- ---- one rule behind another
+-- ---- one rule after another
 
 left_then : {A B : Type 0} (o : Outcome A) (f : A → Parser B) → Left o → ((v : A) → Leaves (f v)) → Left (and_then o f)
 left_then (Ok r) f h b = (b r.0).leaves r.1 h
@@ -87,7 +87,7 @@ pub at_any : (x : Token) → x.kind ≢ k.End → LeavesAt x take_any
 unfolding take_if
 at_any x apart = record { leaves_at = λ more ends. behind x more apart ends }
 
--- a level is opened by the token that stands there
+-- a level is opened by the token that is there
 pub at_deeper : {A : Type 0} (x : Token) (n : ℕ) (p : Parser A) → opens_level x ≡ true → LeavesAt x p → LeavesAt x (deeper n p)
 unfolding deeper
 at_deeper x zero p opens a = record { leaves_at = λ more ends. (ends, (x, more, refl, opens)) }
@@ -95,7 +95,7 @@ at_deeper x (suc n) p opens a = a
 
 -- ---- loops
 
--- where one more begins, it leaves the end
+-- if one more begins, it leaves the end
 abbrev pub Turns : {A : Type 0} → (List Token → Option (List Token)) → Parser A → Type 0
 Turns next p = (ts begin : List Token) → EndsWithEnd ts → next ts ≡ Some begin → Left (p begin)
 
@@ -129,6 +129,6 @@ after_turns test p apart a ts begin ends e =
     let f = after_is test ts begin e in
     a.leaves begin (behind f.0 begin (apart f.0 f.2) (subst EndsWithEnd f.1 ends))
 
--- or behind it
+-- or after it
 pub leaves_all_after : {A : Type 0} (test : Token → Bool) (p : Parser A) → NotEnd test → Leaves p → Leaves (all (after test) p)
 leaves_all_after test p apart a = leaves_all (after test) p (after_turns test p apart a)

@@ -1,4 +1,4 @@
--- The same of each rule of files, but for the file's own `End`.
+-- The same for each rule of files, except for the file's own `End`.
 use Rattle.std.proofs.Common.{◌≡◌, ◌≢◌, ℕ, Bool, true, false, List, [], ◌∷◌, Ok, Err, cond}
 use Rattle.pc_tree.specs.declared.kinds.EntityKind.{EntityKind}
 use Rattle.pc_tree.specs.declared.kinds.EntityKind.TheVariants as kind
@@ -125,7 +125,7 @@ leaves_entity n =
     let of = leaves_entity_of n in
     leaves_peek _ (λ x. anywhere x _ (leaves_cond (is_word w.ClassWord x) _ _ (of kind.Class) (leaves_cond (is_word w.ActorWord x) _ _ (of kind.Actor) (leaves_cond (is_word w.PrimitiveWord x) _ _ (of kind.Primitive) (leaves_cond (is_word w.TraitWord x) _ _ (of kind.Trait) (leaves_cond (is_word w.InterfaceWord x) _ _ (of kind.Interface) leaves_refuse))))))
 
--- ---- a file takes the `End`, and a fault is named before it or at it
+-- ---- a file takes the `End`, and a fault is before it or at it
 
 abbrev pub Named : {A : Type 0} → Outcome A → Type 0
 Named (Ok r) = Unit {0}

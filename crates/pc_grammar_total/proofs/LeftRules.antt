@@ -1,4 +1,4 @@
--- The same of each rule of sequences and expressions.
+-- The same for each rule of sequences and expressions.
 use Rattle.std.proofs.Common.{◌≡◌, ◌≢◌, ℕ, zero, suc, Bool, true, false, ◌&&◌, List, [], ◌∷◌, Option, Some, None, refl, subst, ap, sym, ◌∙◌, cond}
 use Rattle.pc_caps.specs.declared.span.Span.{Span}
 use Rattle.pc_caps.specs.declared.capability.Cap.{Cap}

@@ -1,4 +1,4 @@
--- Each token that opens a level is too deep in some list: behind as many `(` as there are levels.
+-- Each token that opens a level is too deep in some list: after as many `(` as there are levels.
 use Rattle.std.proofs.Common.{◌≡◌, ℕ, zero, suc, true, false, List, [], ◌∷◌, Err, refl}
 use Rattle.pc_token.specs.declared.kinds.Token.{Token}
 use Rattle.pc_token.specs.declared.kinds.TokenKind.{TokenKind}

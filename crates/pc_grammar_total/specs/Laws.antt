@@ -1,4 +1,4 @@
--- The grammar always answers, and what is too deep is one of the tokens that open a level.
+-- The grammar always has an answer, and only tokens that open a level are ever too deep.
 use Rattle.std.specs.Prelude.{◌≡◌, ℕ, suc, true, List, ◌∷◌}
 use Rattle.pc_tree.specs.Depths.{depth, seq_depth, file_depth}
 use Rattle.pc_token.specs.declared.kinds.Token.{Token}
@@ -9,20 +9,20 @@ use Rattle.pc_grammar.specs.FileAnswers.{FileAnswer, IsFileAnswer, level_limit}
 use Rattle.pc_expr.specs.Gives.{EndsWithEnd}
 use Rattle.pc_grammar_total.specs.Levels.{opens_level, OpensLevel}
 
--- the tokens from the one on at which an answer ends
+-- the tokens from the place on at which an answer ends
 abbrev pub left : {A : Type 0} → Answer A → List Token
 left (read tree rest) = rest
 left (refused rest) = rest
 left (deep rest) = rest
 
 module _ {A : Type 0} (spells : A → List Token → Type 0) (depth_of : A → ℕ) (n : ℕ) where
-  -- Of a list of tokens that ends with `End` one answer holds, and no other, and it ends at the `End` or before.
+  -- For a list of tokens that ends with `End`, exactly one answer holds, and it ends at the `End` or before.
   abbrev pub HasOneAnswer : Type 0
   HasOneAnswer =
       (ts : List Token) → EndsWithEnd ts → (one : Answer A) × EndsWithEnd (left one) × IsAnswer spells depth_of n ts one
       × ((other : Answer A) → IsAnswer spells depth_of n ts other → other ≡ one)
 
-  -- What is too deep is a token that opens a level. The list may end with any token.
+  -- A token that is too deep opens a level. The list may end with any token.
   abbrev pub DeepOpens : Type 0
   DeepOpens = (ts rest : List Token) → IsTooDeep spells depth_of n ts rest → OpensLevel rest
 
@@ -30,7 +30,7 @@ module _ {A : Type 0} (spells : A → List Token → Type 0) (depth_of : A → �
   abbrev pub OpenersGoDeep : Type 0
   OpenersGoDeep = (x : Token) → opens_level x ≡ true → (ts more : List Token) × IsTooDeep spells depth_of n ts (x ∷ more)
 
--- However many levels may be opened:
+-- Whatever number of levels may be opened:
 abbrev pub SeqHasOneAnswer : Type 0
 SeqHasOneAnswer = (n : ℕ) → HasOneAnswer SpellsSeq seq_depth n
 
@@ -55,11 +55,11 @@ InfixHasOneAnswer = (n : ℕ) → HasOneAnswer SpellsInfix depth n
 abbrev pub InfixDeepOpens : Type 0
 InfixDeepOpens = (n : ℕ) → DeepOpens SpellsInfix depth n
 
--- An `=` stands only inside of a level there.
+-- Here an `=` occurs only inside another level.
 abbrev pub InfixOpenersGoDeep : Type 0
 InfixOpenersGoDeep = (n : ℕ) → OpenersGoDeep SpellsInfix depth (suc n)
 
--- Of files, within 200 levels:
+-- For files, within 200 levels:
 abbrev pub FileHasOneAnswer : Type 0
 FileHasOneAnswer =
     (ts : List Token) → EndsWithEnd ts → (one : FileAnswer) × IsFileAnswer ts one

@@ -15,11 +15,11 @@ kind_opens (k.Word w.RecoverWord) = true
 kind_opens (k.Word w.NotWord) = true
 kind_opens _ = false
 
--- The `(` of a group or of arguments, `if`, `while`, `recover`, `not`, and the `=` of an assignment: what stands behind such a
--- token may stand one level further inside.
+-- The `(` of a group or of arguments, `if`, `while`, `recover`, `not`, and the `=` of an assignment: what comes after
+-- such a token may be one level further inside.
 unfoldable pub opens_level : Token → Bool
 opens_level x = kind_opens x.kind
 
--- The first of these tokens is one.
+-- The first of these tokens opens a level.
 abbrev pub OpensLevel : List Token → Type 0
 OpensLevel ts = (x : Token) × (more : List Token) × (ts ≡ x ∷ more) × (opens_level x ≡ true)

@@ -1,8 +1,8 @@
-//! The grammar always answers.
+//! The grammar always has an answer.
 //!
-//! Proved: Of every list of tokens that ends with `End`, exactly one of the grammar's answers holds; and the tokens that may
-//! be too deep are exactly those that open a level. So it is for sequences, expressions, expressions without `=`
-//! (`sequences_are_answered`, `expressions_are_answered`, `infixes_are_answered`) and files (`files_are_answered`).
+//! Proved: for every list of tokens that ends with `End`, exactly one of the grammar's answers holds, and the tokens
+//! that can be too deep are exactly those that open a level. This holds for sequences, expressions, expressions without
+//! `=` (`sequences_are_answered`, `expressions_are_answered`, `infixes_are_answered`) and files (`files_are_answered`).
 #![tactic(auto)]
 
 mod laws;

@@ -9,7 +9,7 @@ use Rattle.pc_lists.proofs.Bools.{true_false}
 use Rattle.std.specs.List.{concat}
 use Rattle.std.specs.Str.{bytes_eq}
 
--- What of the second list is behind the first, if it begins so.
+-- What follows the first list in the second, if the second begins with the first.
 abbrev pub stripped : List ℕ → List ℕ → Option (List ℕ)
 stripped [] ys = Some ys
 stripped (x ∷ xs) [] = None
@@ -35,7 +35,7 @@ strip_other (n ∷ one) (m ∷ two) xs ys long other = go (nat_eq n m) other (st
     go true e less = less e
     go false e less = refl
 
--- What is found behind a front stands behind it.
+-- What is found after a front follows it.
 pub behind_front : (front ys rest : List ℕ) → stripped front ys ≡ Some rest → ys ≡ front ++ rest
 behind_front [] ys rest e = same_Some ys rest e
 behind_front (n ∷ front) [] rest e = absurd (none-some rest e)
@@ -46,7 +46,7 @@ behind_front (n ∷ front) (m ∷ ys) rest e = go (nat_eq n m) refl e (behind_fr
     go true is f less = λ i. sym ((Decides-eqb n m).0 is) i ∷ less f i
     go false is f less = absurd (none-some rest f)
 
--- Where nothing is found, no list begins with the front.
+-- If nothing is found, no list begins with the front.
 pub no_front : (front ys after : List ℕ) → stripped front ys ≡ None → ys ≡ front ++ after → ⊥
 no_front front ys after none is = none-some after (sym none ∙ ap (stripped front) is ∙ found front after)
   where
@@ -54,7 +54,7 @@ no_front front ys after none is = none-some after (sym none ∙ ap (stripped fro
     found [] after = refl
     found (n ∷ front) after = ap (λ b. if b then stripped front (front ++ after) else None) (same_number n) ∙ found front after
 
--- A front is compared first, and then what is behind it.
+-- A front is compared first, and then what follows it.
 pub equal_behind : (front xs ys zs : List ℕ) → ys ≡ front ++ zs → bytes_eq (front ++ xs) ys ≡ bytes_eq xs zs
 equal_behind front xs ys zs is = ap (bytes_eq (front ++ xs)) is ∙ go front
   where
@@ -78,7 +78,7 @@ met front last first behind made all left right is whole split other =
     ∙ sym (ap (λ xs. xs ++ (first ++ concat behind)) (one_more front last))
     ∙ sym (ap₂ (λ xs ys. concat xs ++ concat ys) split other)
 
--- What `is_empty` says.
+-- The meaning of `is_empty`.
 pub none_there : {X : Type 0} (b : Bool) (xs : List X) → b ≡ (length xs == 0) → b ≡ true → length xs ≡ 0
 none_there b xs says is = (Decides-eqb (length xs) 0).0 (sym says ∙ is)
 
@@ -100,7 +100,7 @@ nothing_there [] [] none no_lists = refl
 nothing_there [] (x ∷ lists) none no_lists = absurd (omega (arith, no_lists))
 nothing_there (n ∷ piece) lists none no_lists = absurd (omega (arith, none))
 
--- What `!=` says.
+-- The meaning of `!=`.
 pub other_bytes : (b : Bool) (xs ys : List ℕ) → b ≡ not (bytes_eq xs ys) → b ≡ true → bytes_eq xs ys ≡ false
 other_bytes b xs ys says is = go (bytes_eq xs ys) (sym is ∙ says)
   where
@@ -120,7 +120,7 @@ pub ended : (bytes from wanted rest : List ℕ) → stripped bytes from ≡ stri
 ended bytes from [] rest same e = behind_front bytes from rest same
 ended bytes from (w ∷ wanted) rest same e = absurd (omega (arith, e))
 
--- or there are no bytes more,
+-- or there are no more bytes,
 pub fell_short : (bytes from wanted rest : List ℕ) → stripped bytes from ≡ stripped wanted rest → 0 < length wanted → length rest ≡ 0
     → (after : List ℕ) → from ≡ bytes ++ after → ⊥
 fell_short bytes from [] rest same some none = absurd (omega (arith, some))

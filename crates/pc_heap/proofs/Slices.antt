@@ -1,4 +1,4 @@
--- Parts of a list, and single values of it.
+-- Parts of a list, and single values in it.
 use Rattle.std.proofs.Common.{◌≡◌, ℕ, zero, suc, ◌+◌, ◌-◌, ◌<◌, ◌≤◌, List, [], ◌∷◌, ◌++◌, length, take, drop, set, slice_get, Some, None, refl, sym, ap, ◌∙◌, arith, length-append, length-take, length-drop}
 use Rattle.std.proofs.lemmas.List.{take-set-le, drop-set-lt, drop-set-add, take-append-le, drop-append-le}
 use Rattle.std.proofs.lemmas.Option.{slice_get_past}

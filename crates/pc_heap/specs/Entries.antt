@@ -1,4 +1,4 @@
--- Entries of objects, and the objects that they stand for.
+-- Entries of objects, and the objects that they represent.
 use Rattle.std.specs.Prelude.{◌≡◌, ℕ, ◌+◌, List, [], ◌∷◌, map, take, drop, Option, Some, None, slice_get}
 use Rattle.std.specs.FinMap.{from_entries}
 use Rattle.pc_heap.specs.declared.value.Address.{Address}
@@ -30,7 +30,7 @@ at_number es (Some i) = slice_get es i
 abbrev pub entry_found : RowList → List Entry → Address → Option Entry
 entry_found rows es a = at_number es (slice_get (numbers_of rows a.maker) a.serial)
 
--- the fields of the entries stand one after another, from n on and up to the end
+-- the fields of the entries lie one after another, from n to the end
 abbrev pub Laid : ℕ → List Entry → ℕ → Type 0
 Laid n [] end = n ≡ end
 Laid n (e ∷ es) end = (e.first ≡ n) × Laid (n + e.fields) es end

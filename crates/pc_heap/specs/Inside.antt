@@ -1,4 +1,4 @@
--- What holds inside a heap.
+-- The invariant inside a heap.
 use Rattle.std.specs.Prelude.{◌≡◌, ℕ, ◌*◌, ◌<◌, ◌≤◌, List, Option, Some, None, length, slice_get, ⊤}
 use Rattle.std.specs.FinMap.{len}
 use Rattle.pc_heap.specs.declared.value.Address.{Address}
@@ -13,13 +13,13 @@ abbrev pub room_of : Option RoomField → Option Room
 room_of None = None
 room_of (Some room) = Some record { maker = room.maker; fields = room.fields }
 
--- The next object can be made without memory: there is a free place for its entry, as many places for its fields as it
--- has, and a free place in its maker's row.
+-- The next object can be made without allocating: there is a free place for its entry, a free place for each of its
+-- fields, and a free place in its maker's row.
 abbrev pub Ready : (made free spare : ℕ) → RowList → Option Room → Type 0
 Ready made free spare rows None = ⊤
 Ready made free spare rows (Some room) = (0 < free) × (room.fields ≤ spare) × (0 < spare_of rows room.maker) × (made < object_limit) × (room.fields ≤ field_limit)
 
--- The rows name each entry once, by its address; its fields lie in the arena behind those of the entries before it; and
+-- The rows list each entry once, by its address; its fields come in the arena after those of the entries before it; and
 -- the counts are right. There are at most 2^22 entries with at most 2^9 fields each, so each place is below 2^31.
 pub record Sound (made : List Entry) (free : ℕ) (items : Items) (spare : ℕ) (rows : RowList) (room : Option Room) : Type 0 where
   pub found : (a : Address) (i : ℕ) → slice_get (numbers_of rows a.maker) a.serial ≡ Some i → (e : Entry) × (slice_get made i ≡ Some e) × (e.address ≡ a)

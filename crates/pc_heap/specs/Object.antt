@@ -4,8 +4,8 @@ use Rattle.std.specs.Coded.{Coded, code_by, coded×, coded_list, coded_ℕ, code
 use Rattle.pc_heap.specs.declared.value.Value.{Value}
 use Rattle.pc_heap.specs.contracts.value.Value as value
 
--- an object of a class or of an actor: the number of its entity, and what its fields hold, in the entity's order; a
--- field without a value was not set yet
+-- an object of a class or of an actor: the number of its entity, and the contents of its fields, in the entity's order;
+-- a field without a value has not been set yet
 pub record Object : Type 0 where
   pub entity : ℕ
   pub fields : List (Option Value)

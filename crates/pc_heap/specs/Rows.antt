@@ -1,9 +1,9 @@
--- The numbers of the objects that each maker made.
+-- The numbers of the objects that each maker has made.
 use Rattle.std.specs.Prelude.{ℕ, nat_eq, List, [], Option, Some, None, refl}
 use Rattle.std.specs.Map.{lookup}
 use Rattle.std.specs.Coded.{Coded, code_by, coded×, coded_list, coded_ℕ}
 
--- the numbers, the first object's first, and how many more there is room for
+-- the numbers, from the first object's, and how many more there is room for
 pub record RowData : Type 0 where
   pub numbers : List ℕ
   pub spare : ℕ

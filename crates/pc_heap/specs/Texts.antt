@@ -1,4 +1,4 @@
--- Which bytes a text has.
+-- The bytes of a text.
 use Rattle.std.specs.Prelude.{ℕ, List}
 use Rattle.std.specs.List.{concat}
 use Rattle.pc_heap.specs.declared.text.Form.{Form}

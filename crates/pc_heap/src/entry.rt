@@ -1,11 +1,11 @@
-//! Where the field values of an object stand.
+//! Where the field values of an object are kept.
 ghost use Rattle.std.specs.Prelude.{◌≡◌};
 ghost use Rattle.pc_heap.specs.Entries.{entry_found};
 
 use crate::rows::Rows;
 use crate::value::Address;
 
-/// Where an object's field values stand: consecutive places of the arena.
+/// Where an object's field values are kept: consecutive places of the arena.
 #[derive(Clone, Copy, Drop)]
 pub struct Entry {
     /// The object's address.

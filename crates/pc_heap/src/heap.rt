@@ -13,7 +13,7 @@ use std::alloc::{AllocError, Global};
 use std::marker::Model;
 
 /// The objects of a run by their addresses, and room for the next one. The serials of a maker count up from 0. The
-/// values of all fields stand in one arena.
+/// values of all fields are in one arena.
 #[derive(Drop)]
 pub struct Heap {
     made: Vec<Entry>,
@@ -58,7 +58,8 @@ impl Heap {
         self.made.len() as u32
     }
 
-    /// Gets all memory that the next object of a maker will need, with so many fields. A refusal leaves no room.
+    /// Allocates everything that the next object of a maker will need, with this number of fields. If memory runs out,
+    /// there is no room.
     pub fn reserve(&mut self, maker: u32, fields: u32) -> Result<(), AllocError>
         requires few { map.len self.old.objects < object_limit }
         requires small { fields ≤ field_limit }
@@ -88,11 +89,11 @@ impl Heap {
         }
     }
 
-    /// Adds an object without field values in the room that was made for it, and answers its address. It cannot run
+    /// Adds an object without field values in the room that was reserved for it, and returns its address. It cannot run
     /// out of memory.
     pub fn make(&mut self, maker: u32, entity: u32, fields: u32) -> Address
         requires { self.old.room ≡ Some record { maker = maker; fields = fields } }
-        // The serial is the number of objects that the maker had made.
+        // The serial is the number of objects that the maker had made before.
         ensures address { result ≡ next_address self.old.objects maker }
         ensures free { map.get self.old.objects result ≡ None }
         ensures objects { self.new.objects ≡ map.insert self.old.objects result (new_object entity fields) }
@@ -119,15 +120,15 @@ impl Heap {
         address
     }
 
-    /// The number of an object's entity. `None` exactly where there is no object. It cannot run out of memory.
+    /// The number of an object's entity. `None` iff there is no object. It cannot run out of memory.
     pub fn class_of(&self, address: Address) -> Option<u32>
         ensures { result ≡ class_at self.now.objects address }
     {
         Some(find(&self.rows, &self.made, address)?.entity)
     }
 
-    /// The value in a field of an object. `None` exactly where there is no object, no such field or no value in it. It
-    /// cannot run out of memory.
+    /// The value in a field of an object. `None` iff there is no object, no such field or no value in it. It cannot run
+    /// out of memory.
     pub fn get(&self, address: Address, field: u32) -> Option<&Value>
         ensures { option_copied result ≡ value_at self.now.objects address field }
     {
@@ -138,8 +139,8 @@ impl Heap {
         self.values.get(entry.first + field).as_ref()
     }
 
-    /// Puts a value into a field of an object, and answers the one before. Where there is no object or no such field,
-    /// the value comes back. It cannot run out of memory.
+    /// Puts a value into a field of an object, and returns the old one. If there is no object or no such field, the
+    /// value is handed back. It cannot run out of memory.
     pub fn set(
         &mut self,
         address: Address,

@@ -1,4 +1,4 @@
-//! The pieces of a text, one behind the other.
+//! The pieces of a text, one after another.
 ghost use Rattle.std.specs.List.{concat};
 ghost use Rattle.std.specs.Prelude.{◌≡◌, ◌<◌, ◌+◌, ◌++◌, [], ◌∷◌, List as Sequence, ℕ, length, IfOk, OnOk, MatchOption};
 ghost use Rattle.std.specs.Str.{bytes_eq};
@@ -7,19 +7,19 @@ use pc_caps::{List, SharedList};
 use std::alloc::{AllocError, Global};
 use std::cmp;
 
-/// How many bytes two pieces may have that become one.
+/// The greatest number of bytes of two pieces that are merged into one.
 const PIECE: usize = 256;
 
-/// What of a text is still to be looked at.
+/// The part of a text that is still to be looked at.
 #[derive(Clone, Copy, Drop)]
 pub struct Rest<'t> {
-    /// These bytes, as of a piece.
+    /// What is left of the piece at hand.
     pub piece: &'t [u8],
-    /// The pieces behind them.
+    /// The pieces after it.
     pub behind: &'t [SharedList<u8>],
 }
 
-/// How many of so many bytes are left where the pieces take theirs. `None` exactly where they have more.
+/// How many bytes of `room` are left after the bytes of the pieces. `None` iff the pieces have more.
 pub fn room_behind(pieces: &[SharedList<u8>], room: usize) -> Option<usize>
     ensures { MatchOption result (room < length (concat pieces.now)) (λ left. left + length (concat pieces.now) ≡ room) }
 {
@@ -53,12 +53,12 @@ pub fn collected(alloc: Global, pieces: &[SharedList<u8>]) -> Result<Vec<u8>, Al
     }
 }
 
-/// Whether two pieces are to become one where they meet.
+/// Whether two adjacent pieces are to be merged into one.
 pub fn is_small(left: &SharedList<u8>, right: &SharedList<u8>) -> bool {
     left.as_slice().len() + right.as_slice().len() <= PIECE
 }
 
-/// Two pieces in one.
+/// Two pieces merged into one.
 pub fn joined_piece(
     alloc: Global,
     left: &SharedList<u8>,
@@ -73,7 +73,7 @@ pub fn joined_piece(
     SharedList::from_list(alloc, List::from_vec(bytes))
 }
 
-/// Two pieces one behind the other.
+/// Two pieces, the left one first.
 pub fn two(
     alloc: Global,
     left: &SharedList<u8>,
@@ -87,7 +87,7 @@ pub fn two(
     SharedList::from_list(alloc, List::from_vec(pieces))
 }
 
-/// The left pieces and behind them the right ones. Where they meet two may become one.
+/// The left pieces and then the right ones. The two that meet may be merged.
 pub fn joined(
     alloc: Global,
     left: &[SharedList<u8>],
@@ -100,7 +100,7 @@ pub fn joined(
     SharedList::from_list(alloc, List::from_vec(pieces))
 }
 
-// Adds the left pieces and behind them the right ones, of which two may become one.
+// Adds the left pieces and then the right ones. The two that meet may be merged.
 fn add_both(
     alloc: Global,
     pieces: &mut Vec<SharedList<u8>>,
@@ -124,7 +124,7 @@ fn add_both(
     }
 }
 
-// Adds these pieces.
+// Appends these pieces.
 fn add_all(pieces: &mut Vec<SharedList<u8>>, more: &[SharedList<u8>]) -> Result<(), AllocError>
     ensures { OnOk result (pieces.new.items ≡ pieces.old.items ++ more.now) }
 {
@@ -140,7 +140,7 @@ fn add_all(pieces: &mut Vec<SharedList<u8>>, more: &[SharedList<u8>]) -> Result<
     }
 }
 
-// Adds two pieces, which may become one.
+// Appends two pieces, which may be merged into one.
 fn meet(
     alloc: Global,
     pieces: &mut Vec<SharedList<u8>>,
@@ -158,7 +158,7 @@ fn meet(
     Ok(())
 }
 
-/// Whether both have the same bytes, wherever a piece ends.
+/// Whether both have the same bytes, no matter where a piece ends.
 pub fn are_equal(left: &[SharedList<u8>], right: Rest<'_>) -> bool
     ensures { result ≡ bytes_eq (concat left.now) (right.entry.piece.now ++ concat right.entry.behind.now) }
 {
@@ -185,7 +185,7 @@ fn is_used_up(rest: Rest<'_>) -> bool
     rest.piece.is_empty() && room_behind(rest.behind, 0).is_some()
 }
 
-// What is left behind these bytes. `None` exactly where it begins with others.
+// What is left after these bytes. `None` iff it does not begin with them.
 fn strip<'t>(from: Rest<'t>, bytes: &[u8]) -> Option<Rest<'t>>
     ensures { MatchOption result ((after : Sequence ℕ) → from.entry.piece.now ++ concat from.entry.behind.now ≡ bytes.now ++ after → ⊥)
         (λ rest. from.entry.piece.now ++ concat from.entry.behind.now ≡ bytes.now ++ (rest.piece.now ++ concat rest.behind.now)) }

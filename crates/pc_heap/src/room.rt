@@ -1,10 +1,10 @@
-//! Room for the next object, and the fields that it takes.
+//! Room for the next object, and for its fields.
 ghost use Rattle.std.specs.Prelude.{◌≡◌, ◌+◌, ◌≤◌, ◌++◌, None, replicate};
 
 use crate::value::Value;
 use pc_arena::Arena;
 
-/// Room for the next object: whose, and with how many fields.
+/// Room for the next object: its maker, and how many fields it has.
 #[derive(Clone, Copy, Drop)]
 pub struct Room {
     /// The maker.
@@ -13,7 +13,7 @@ pub struct Room {
     pub fields: u32,
 }
 
-/// Adds so many fields without values. It cannot run out of memory.
+/// Appends this number of fields without values. It cannot run out of memory.
 pub fn push_empty(values: &mut Arena<Option<Value>>, fields: u32)
     requires { fields ≤ values.old.spare }
     ensures items { values.new.items ≡ values.old.items ++ replicate fields None }

@@ -1,4 +1,4 @@
-//! The numbers of objects, by makers and serials.
+//! The numbers of objects, by maker and serial.
 ghost use Rattle.std.specs.Prelude.{◌≡◌, ℕ, ◌<◌, [], ◌∷◌, ◌++◌, OnOk, IsSome, slice_get, length, cond, nat_eq};
 ghost use Rattle.pc_heap.specs.Rows.{row_at, numbers_of, spare_of};
 
@@ -62,7 +62,7 @@ impl Row {
     }
 }
 
-/// Which objects each maker made. The row of a maker is found by a hash of the maker.
+/// Which objects each maker has made. A maker's row is looked up by hash.
 #[derive(Drop)]
 pub struct Rows {
     found: HashMap<u32, Row>,
@@ -91,7 +91,7 @@ impl Rows {
         }
     }
 
-    /// How many objects a maker made.
+    /// How many objects a maker has made.
     pub fn count(&self, maker: u32) -> usize
         ensures { result ≡ length (numbers_of self.now maker) }
     {
@@ -111,7 +111,7 @@ impl Rows {
         }
     }
 
-    /// Gives a maker a row, if it has none.
+    /// Gives a maker a row if it has none.
     fn begin(&mut self, maker: u32) -> Result<(), AllocError>
         ensures numbers { (other : ℕ) → numbers_of self.new other ≡ numbers_of self.old other }
         ensures ok { OnOk result (IsSome (row_at self.new maker)) }
@@ -144,7 +144,7 @@ impl Rows {
         self.widen(maker)
     }
 
-    /// Notes one more object of a maker. It cannot run out of memory.
+    /// Records one more object of a maker. It cannot run out of memory.
     pub fn push(&mut self, maker: u32, number: u32)
         requires { 0 < spare_of self.old maker }
         ensures { (other : ℕ) → numbers_of self.new other ≡ cond (nat_eq maker other) (numbers_of self.old maker ++ number ∷ []) (numbers_of self.old other) }

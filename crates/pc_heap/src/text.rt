@@ -10,8 +10,8 @@ use std::alloc::{AllocError, Global};
 use std::marker::Model;
 use std::slice;
 
-/// A text, seen as its bytes, which never change. All copies of a text have its bytes in common; so have a text that was
-/// joined of two others and these, but for a few bytes at the seam.
+/// A text, seen as its bytes, which never change. All copies of a text share its bytes; so does a text joined from two
+/// others with them, except for a few bytes at the seam.
 #[derive(Debug, Drop)]
 pub struct Text {
     form: Form,
@@ -22,7 +22,7 @@ pub struct Text {
 enum Form {
     // In one piece.
     Whole(SharedList<u8>),
-    // In several pieces, one behind the other.
+    // In several pieces, one after another.
     Pieces(SharedList<SharedList<u8>>),
 }
 
@@ -36,7 +36,7 @@ impl Model for Text {
 }
 
 impl Text {
-    /// The text of these bytes. It cannot run out of memory.
+    /// The text with these bytes. It cannot run out of memory.
     pub fn new(bytes: SharedList<u8>) -> Text
         ensures { result ≡ bytes }
     {
@@ -45,8 +45,8 @@ impl Text {
         }
     }
 
-    /// The same text once more. It cannot run out of memory: the `Err` says that the
-    /// text has too many owners to be counted.
+    /// Another owner of the same text. It cannot run out of memory: `Err` means that the text has too many owners to be
+    /// counted.
     pub fn share(&self) -> Result<Text, AllocError>
         ensures { IfOk result (λ copy. copy ≡ self.now) }
     {
@@ -57,10 +57,10 @@ impl Text {
         Ok(Text { form })
     }
 
-    /// Both texts in one, the left one first.
+    /// The left text and then the right one.
     ///
-    /// The pieces share their bytes with the two texts. Two small pieces that meet become one, so that a text that was joined often
-    /// has few pieces; how many it has is neither proved nor tested.
+    /// The pieces share their bytes with the two texts. Two small pieces that meet are merged, so that a text that is
+    /// made by many joins has few pieces; how many it has is neither proved nor tested.
     pub fn join(alloc: Global, left: &Text, right: &Text) -> Result<Text, AllocError>
         ensures { IfOk result (λ text. text ≡ left.now ++ right.now) }
     {
@@ -82,7 +82,7 @@ impl Text {
         Ok(List::from_vec(collected(alloc, self.pieces())?))
     }
 
-    /// How many of so many bytes are left where this text takes its own. `None` exactly where it has more.
+    /// How many bytes of `room` are left after this text. `None` iff it has more bytes.
     pub fn room_behind(&self, room: usize) -> Option<usize>
         ensures { MatchOption result (room < length self.now) (λ left. left + length self.now ≡ room) }
     {
@@ -111,7 +111,7 @@ impl Text {
         are_equal(self.pieces(), other)
     }
 
-    // The pieces, one behind the other.
+    // The pieces, one after another.
     fn pieces(&self) -> &[SharedList<u8>]
         ensures { concat result.now ≡ self.now }
     {
@@ -122,7 +122,7 @@ impl Text {
     }
 }
 
-// Two texts of one piece each in one.
+// Joins two texts of one piece each.
 fn join_whole(
     alloc: Global,
     left: &SharedList<u8>,

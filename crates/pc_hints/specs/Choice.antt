@@ -42,7 +42,7 @@ when b h = if b then Some h else None
 
 -- ---- a form that does not fit a capability
 
--- The form is as it must be.
+-- The form is as required.
 abbrev pub suits : Wanted → Form → Bool
 suits (wanted.Fits k) f = fits f k
 suits (wanted.Below w) f = is_below f w
@@ -50,7 +50,7 @@ suits (wanted.Below w) f = is_below f w
 abbrev pub consume_hint : (receiver : Bool) → ℕ → Cap → Hint
 consume_hint receiver i own = if receiver then hint.ConsumeReceiver i own else hint.Consume i own
 
--- A local of iso or trn is consumed, if what it gives suits.
+-- A local of iso or trn is consumed, if the result suits.
 abbrev pub consume_if : Wanted → (receiver : Bool) → ℕ → Option Cap → Option Hint
 consume_if w receiver i None = None
 consume_if w receiver i (Some own) = when (suits w (unalias own)) (consume_hint receiver i own)
@@ -60,7 +60,7 @@ abbrev pub old_if : ℕ → Cap → Option Form → Option Hint
 old_if i k None = None
 old_if i k (Some f) = when (fits f k) (hint.OldValue i f)
 
--- `this` of box is declared ref, or else val, if that suits.
+-- A box `this` is declared ref, or else val, if that suits.
 abbrev pub declare_if : (box : Bool) → Wanted → Option Hint
 declare_if box w = or_else (when (box && suits w form.Ref) (hint.DeclareFunction cap.Ref)) (when (box && suits w form.Val) (hint.DeclareFunction cap.Val))
 
@@ -78,13 +78,14 @@ is_recovered_cap cap.Iso = true
 is_recovered_cap cap.Val = true
 is_recovered_cap k = false
 
--- A new object is made in a `recover`, and any other of ref or trn too; of what is left it is said where it goes.
+-- A new object is made in a `recover`, and so is any other that is ref or trn; for the rest, the hint says where the
+-- value can go.
 abbrev pub object_hint : ℕ → Node → Form → Cap → Hint
 object_hint i x f k =
     if is_new x.kind && (is_ref_form f && fits form.IsoE k) then hint.RecoverNew i
     else (if is_mutable_form f && is_recovered_cap k then hint.RecoverObject else hint.GoesTo f)
 
--- The first that is one, or else this one.
+-- The first hint if there is one, or else this one.
 abbrev pub or_this : Option Hint → Hint → Hint
 or_this None h = h
 or_this (Some g) h = g
@@ -115,8 +116,8 @@ is_constructor method.New = true
 is_constructor method.Spawn = true
 is_constructor k = false
 
--- Why `this` of a method is a tag: in a recover, if its capability is not sendable; in a constructor, until all fields are set. In a function
--- of tag it is one by its declaration.
+-- Why `this` of a method is a tag: in a recover, because its capability is not sendable; in a constructor, until all
+-- fields are set. In a tag function it is one by declaration.
 abbrev pub tag_hint : (recovered : Bool) → Method → Option Hint
 tag_hint recovered m = if recovered && not (sendable m.receiver) then Some hint.TagInRecover else when (is_constructor m.kind) hint.TagUntilSet
 
@@ -124,7 +125,7 @@ abbrev pub tag_hint_of : (recovered : Bool) → Option Method → Option Hint
 tag_hint_of recovered None = None
 tag_hint_of recovered (Some m) = tag_hint recovered m
 
--- Of a part that is `this`, seen as tag.
+-- For a part that is `this`, seen as tag.
 abbrev pub tag_this : StopData → ℕ → Option Hint
 tag_this st i = if is_tag_this st i then tag_hint_of (nat_lt 0 st.at.depth) (own_method st) else None
 
@@ -185,7 +186,7 @@ abbrev pub is_trait : Option EntityDef → Bool
 is_trait None = false
 is_trait (Some x) = is_trait_kind x.kind
 
--- An entity of the file that may be said to be a trait: not another trait, as it could be one of those above.
+-- An entity of the file that may declare a trait: not a trait itself, as it could be above the other.
 abbrev pub may_say : ℕ → Option EntityDef → Bool
 may_say e None = false
 may_say e (Some x) = nat_le first_own e && not (is_abstract x.kind)
@@ -224,7 +225,7 @@ shows_box st i (Some x) = is_box_this st x (child_form st i)
 abbrev pub writable : StopData → ℕ → Option Hint
 writable st i = or_else (when (shows_box st i (child_node st i)) (hint.DeclareFunction cap.Ref)) (tag_this st i)
 
--- The capability as which a value is written into an origin of this form.
+-- The capability with which a value is written into an origin of this form.
 abbrev pub entered_cap : Form → Cap
 entered_cap form.Trn = cap.Trn
 entered_cap form.TrnE = cap.Trn
@@ -241,7 +242,7 @@ reached assigned = if assigned then hint.GiveOut else hint.MakeInside
 abbrev pub variable : (param : Bool) → ℕ → Hint
 variable param k = if param then hint.CopyFirst else hint.DeclareSlot k
 
--- What to do about a condition, if anything is said.
+-- What to do about a condition, if there is a hint.
 abbrev pub chosen : StopData → Condition → Option Hint
 chosen st (asks.Under i e) = under st i e
 chosen st (asks.Fits i k) = unfit st i k

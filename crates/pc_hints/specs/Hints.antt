@@ -50,7 +50,7 @@ used_up own = codes "it has the form " ++ (form_word (unalias own) ++ codes ", a
 unfoldable pub declare_var : Text → Text
 declare_var name = codes "declare it `var " ++ (piece name ++ codes "`")
 
--- Of a `var` it is said too that it may be assigned again.
+-- For a `var`, the hint adds that it may be assigned again.
 abbrev pub again : Bool → Text → Text → Text
 again var name words = if var then codes ", or assign to " ++ (quoted name ++ words) else []
 
@@ -140,6 +140,6 @@ abbrev pub words_of : StopData → Option Hint → Text
 words_of st None = []
 words_of st (Some h) = words st h
 
--- What to do about a reason, or nothing.
+-- What to do about a reason; empty if there is no hint.
 unfoldable pub hint : StopData → Reason → Text
 hint st r = words_of st (chosen st r.condition)

@@ -1,4 +1,4 @@
--- A hint's form fits what it is proposed for.
+-- The form that a hint promises fits what it is proposed for.
 use Rattle.std.specs.Prelude.{◌≡◌, ℕ, true, Option, Some, None}
 use Rattle.pc_caps.specs.Order.{is_below}
 use Rattle.pc_caps.specs.Tables.{fits, unalias}
@@ -12,7 +12,7 @@ use Rattle.pc_hints.specs.Choice.{chosen, entered_cap}
 use Rattle.pc_hints.specs.declared.hint.Hint.{Hint}
 use Rattle.pc_hints.specs.declared.hint.Hint.TheVariants as hint
 
--- The form that a hint promises of what it proposes, if it promises one.
+-- The form that a hint promises for its proposal, if it promises one.
 abbrev pub promised : Hint → Option Form
 promised (hint.Consume i own) = Some (unalias own)
 promised (hint.ConsumeReceiver i own) = Some (unalias own)
@@ -31,7 +31,7 @@ HintFits = (st : StopData) (i : ℕ) (k : Cap) (h : Hint) (f : Form) → chosen 
 abbrev pub HintIsBelow : Type 0
 HintIsBelow = (st : StopData) (i : ℕ) (w : Form) (h : Hint) (f : Form) → chosen st (asks.Below i w) ≡ Some h → promised h ≡ Some f → is_below f w ≡ true
 
--- If a value may not enter a field, what the hint promises fits the capability as which it is written.
+-- If a value may not enter a field, what the hint promises fits the capability with which it is written.
 abbrev pub HintEnters : Type 0
 HintEnters =
     (st : StopData) (k : Cap) (h : Hint) (f : Form) → chosen st (asks.Enters k) ≡ Some h → promised h ≡ Some f → fits f (entered_cap (child_form st 1)) ≡ true

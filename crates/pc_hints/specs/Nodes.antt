@@ -17,7 +17,7 @@ use Rattle.pc_rules.specs.Calls.{is_function}
 use Rattle.pc_words.specs.Scene.{child, is_this, slot_type, type_of}
 use Rattle.pc_sentences.specs.Stop.{StopData, child_form}
 
--- The node that the child of this index shows.
+-- The node that the child with this index shows.
 unfoldable pub child_node : StopData → ℕ → Option Node
 child_node st i = do
   c ← child st.at i
@@ -52,7 +52,7 @@ abbrev pub gives_box : Option Method → Bool
 gives_box None = false
 gives_box (Some m) = is_function m.kind && is_box_cap m.receiver
 
--- `this` of box in a function of box.
+-- A box `this` in a box function.
 abbrev pub is_box_this : StopData → Node → Form → Bool
 is_box_this st x f = is_this x.kind && (is_box_form f && gives_box (own_method st))
 
@@ -74,7 +74,7 @@ abbrev pub local_by : StopData → Node → NodeKind → Option Cap
 local_by st x (node.Local k) = isolated_cap (slot_type st.scene x.method k)
 local_by st x k = None
 
--- The capability of a local of iso or trn that the node is.
+-- The capability of the node, if it is a local of iso or trn.
 unfoldable pub local_cap : StopData → Node → Option Cap
 local_cap st x = local_by st x x.kind
 

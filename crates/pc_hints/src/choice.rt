@@ -15,7 +15,7 @@ use pc_parts::{Role, child_role};
 use pc_sentences::{Stop, lost_slot};
 use pc_tree::{BOOL_ENTITY, EntityKind, FIRST_OWN, STRING_ENTITY, U64_ENTITY};
 
-/// What the form of a part must be.
+/// What is required of a part's form.
 #[derive(Clone, Copy)]
 pub enum Wanted {
     /// It fits this capability.
@@ -30,7 +30,7 @@ fn when(holds: bool, hint: Hint) -> Option<Hint>
     if holds { Some(hint) } else { None }
 }
 
-// The first, or else the other.
+// The first hint, or else the other.
 fn or_else(first: Option<Hint>, other: Option<Hint>) -> Option<Hint>
     ensures { result ≡ spec.or_else first other }
 {
@@ -40,7 +40,7 @@ fn or_else(first: Option<Hint>, other: Option<Hint>) -> Option<Hint>
     }
 }
 
-// The first, or else this one.
+// The first hint if there is one, or else this one.
 fn or_this(first: Option<Hint>, other: Hint) -> Hint
     ensures { result ≡ spec.or_this first other }
 {
@@ -50,7 +50,7 @@ fn or_this(first: Option<Hint>, other: Hint) -> Hint
     }
 }
 
-// Whether a form is as it must be.
+// Whether a form is as required.
 fn suits(wanted: Wanted, form: Form) -> bool
     ensures { result ≡ spec.suits wanted form }
 {
@@ -71,7 +71,7 @@ fn consume_hint(receiver: bool, index: usize, own: Cap) -> Hint
     }
 }
 
-// A local of iso or trn is consumed, if what it gives suits.
+// A local of iso or trn is consumed, if the result suits.
 fn consume_if(wanted: Wanted, receiver: bool, index: usize, own: Option<Cap>) -> Option<Hint>
     ensures { result ≡ spec.consume_if wanted receiver index own }
 {
@@ -94,7 +94,7 @@ fn old_if(index: usize, cap: Cap, old: Option<Form>) -> Option<Hint>
     }
 }
 
-// `this` of box is declared ref, or else val, if that suits.
+// A box `this` is declared ref, or else val, if that suits.
 fn declare_if(own_box: bool, wanted: Wanted) -> Option<Hint>
     ensures { result ≡ spec.declare_if own_box wanted }
 {
@@ -186,7 +186,7 @@ fn is_constructor(kind: MethodKind) -> bool
     }
 }
 
-// Why `this` of a method is a tag, if it is not one by its declaration.
+// Why `this` of a method is a tag, if it is not one by declaration.
 fn tag_hint(recovered: bool, method: &Method) -> Option<Hint>
     ensures { result ≡ spec.tag_hint recovered method.now }
 {
@@ -197,7 +197,7 @@ fn tag_hint(recovered: bool, method: &Method) -> Option<Hint>
     }
 }
 
-// What to say of a part that is `this`, seen as tag.
+// The hint for a part that is `this`, seen as tag.
 fn tag_this(stop: &Stop, index: usize) -> Option<Hint>
     ensures { result ≡ spec.tag_this stop.now index }
 {
@@ -307,7 +307,7 @@ fn entity_hint(stop: &Stop, index: usize, other: u32) -> Option<Hint>
     )
 }
 
-// Whether the entity of this number is a trait.
+// Whether the entity with this number is a trait.
 fn is_trait(core: &Core, entity: u32) -> bool
     ensures { result ≡ spec.is_trait (slice_get core.now.entities entity) }
 {
@@ -317,7 +317,7 @@ fn is_trait(core: &Core, entity: u32) -> bool
     }
 }
 
-// Whether the entity of this type may be said to be a trait.
+// Whether the entity of this type may declare a trait.
 fn says_is(core: &Core, ty: Option<(u32, Form)>) -> bool
     ensures { result ≡ spec.says_is core.now ty }
 {
@@ -368,7 +368,7 @@ fn entity_in(ty: Option<(u32, Form)>) -> Option<u32>
     }
 }
 
-// The entity of the method of this number.
+// The entity of the method with this number.
 fn entity_by(core: &Core, method: u32) -> Option<u32>
     ensures { result ≡ spec.entity_by (slice_get core.now.methods method) }
 {
@@ -378,7 +378,7 @@ fn entity_by(core: &Core, method: u32) -> Option<u32>
     }
 }
 
-// Whether the child is `this` of box in a function of box.
+// Whether the child is a box `this` in a box function.
 fn shows_box(stop: &Stop, index: usize) -> bool
     ensures { result ≡ spec.shows_box stop.now index (node_is stop.now index) }
 {
@@ -432,7 +432,7 @@ fn variable(param: bool, slot: u32) -> Hint
     }
 }
 
-/// What to do about a condition that does not hold, if anything is said.
+/// What to do about a condition that does not hold, if there is a hint.
 pub fn chosen(stop: &Stop, condition: Condition) -> Option<Hint>
     ensures { result ≡ spec.chosen stop.now condition }
 {

@@ -5,27 +5,27 @@ use pc_caps::{Cap, Form};
 /// What to do about a condition that does not hold. A child is named by its index.
 #[derive(Clone, Copy, Debug, PartialEq, Eq)]
 pub enum Hint {
-    /// Let the child's entity say that it is this trait.
+    /// Let the child's entity declare that it is this trait.
     SayIs(usize, u32),
-    /// Consume the child, a local of this capability.
+    /// Consume the child, which is a local with this capability.
     Consume(usize, Cap),
-    /// Consume the receiver, a local of this capability.
+    /// Consume the receiver, which is a local with this capability.
     ConsumeReceiver(usize, Cap),
     /// Assign to the field that the child reads: the old value has this form.
     OldValue(usize, Form),
-    /// Declare the own function with this capability.
+    /// Declare the node's own function with this capability.
     DeclareFunction(Cap),
     /// Make the child, a new object, in a `recover`, or declare the constructor `new iso`.
     RecoverNew(usize),
     /// Make the object in a `recover`.
     RecoverObject,
-    /// A value of this form goes to other places.
+    /// A value of this form can go to other places.
     GoesTo(Form),
-    /// Declare the method that is called as one of box.
+    /// Declare the called method as box.
     DeclareBox,
-    /// Declare the result as the type of the child.
+    /// Declare the result with the type of the child.
     DeclareResult(usize),
-    /// `=` is no comparison.
+    /// `=` is not a comparison.
     Compare,
     /// `string()` gives a String.
     ToString,
@@ -33,9 +33,9 @@ pub enum Hint {
     CompareObjects,
     /// Use the slot before it is consumed.
     UseBefore(u32),
-    /// Make inside the `recover` what it needs.
+    /// Make what the `recover` needs inside it.
     MakeInside,
-    /// Let the `recover` give the value.
+    /// Let the `recover` return the value.
     GiveOut,
     /// Copy the parameter to a `var`.
     CopyFirst,
@@ -43,21 +43,21 @@ pub enum Hint {
     DeclareSlot(u32),
     /// Declare the field that is written as a `var`.
     DeclareField,
-    /// Declare the own field of this index as a `var`.
+    /// Declare the field with this index of the node's own entity as a `var`.
     DeclareOwnField(u32),
-    /// The field's name is a method's.
+    /// The field's name is the name of a method.
     CallMethod(u32),
-    /// The method's name is a field's.
+    /// The method's name is the name of a field.
     CallValue(u32),
-    /// In a `recover` `this` is a tag.
+    /// In a `recover`, `this` is a tag.
     TagInRecover,
-    /// Until all fields are set `this` is a tag.
+    /// Until all fields are set, `this` is a tag.
     TagUntilSet,
-    /// Set the own field of this index before.
+    /// Set the field with this index of the node's own entity first.
     SetBefore(u32),
     /// Call the constructor by its entity.
     CallConstructor,
-    /// Make the argument in a `recover`, or let the parameter be sendable.
+    /// Make the argument in a `recover`, or make the parameter sendable.
     SendArgument,
     /// Consume the slot after the loop.
     ConsumeAfter(u32),

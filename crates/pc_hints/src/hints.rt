@@ -37,7 +37,7 @@ fn push_shown(alloc: Global, out: &mut Vec<u8>, stop: &Stop, index: usize) -> Re
     push_piece(alloc, out, source_of(stop, index))
 }
 
-// The name of the method of this number.
+// The name of the method with this number.
 fn method_text(core: &Core, method: u32) -> &[u8]
     ensures { result.now ≡ spec.method_text core.now (slice_get core.now.methods method) }
 {
@@ -47,7 +47,7 @@ fn method_text(core: &Core, method: u32) -> &[u8]
     }
 }
 
-// The capability of the receiver of the method of this number.
+// The receiver capability of the method with this number.
 fn receiver_word(core: &Core, method: u32) -> &'static [u8]
     ensures { result.now ≡ spec.receiver_word (slice_get core.now.methods method) }
 {
@@ -57,7 +57,7 @@ fn receiver_word(core: &Core, method: u32) -> &'static [u8]
     }
 }
 
-// Appends what is left of a local of this capability that is consumed.
+// Appends what remains of a local with this capability after it is consumed.
 fn push_used_up(out: &mut Vec<u8>, own: Cap) -> Result<(), AllocError>
     ensures { OnOk result (out.new.items ≡ out.old.items ++ spec.used_up own) }
 {
@@ -160,7 +160,7 @@ fn push_old_value(
     push_bytes(out, form_word(form))
 }
 
-// Appends the name of the own method.
+// Appends the name of the node's own method.
 fn push_own_name(alloc: Global, out: &mut Vec<u8>, stop: &Stop) -> Result<(), AllocError>
     ensures { OnOk result (out.new.items ≡ out.old.items ++ spec.own_name stop.now) }
 {
@@ -407,7 +407,7 @@ fn push_words(alloc: Global, out: &mut Vec<u8>, stop: &Stop, hint: Hint) -> Resu
     }
 }
 
-/// Appends what to do about a reason, if anything is said.
+/// Appends what to do about a reason, if there is a hint.
 #[tactic(auto, unfolding(crate::specs::Hints::hint))]
 pub fn push_hint(
     alloc: Global,

@@ -1,7 +1,8 @@
 //! What to do about a condition that does not hold.
 //!
-//! Proved: `chosen` gives the hint of its definition, and `push_hint` appends exactly its words, or memory ran out. What a hint
-//! promises fits what it is proposed for (`hints_fit`): it promises the condition, and not that the program is accepted then.
+//! Proved: `chosen` returns the hint of its definition, and `push_hint` appends exactly its words, or memory ran out.
+//! What a hint promises fits what it is proposed for (`hints_fit`): it promises that the condition holds, but not that
+//! the program is then accepted.
 #![tactic(auto)]
 
 mod choice;

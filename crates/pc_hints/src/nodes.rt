@@ -10,7 +10,7 @@ use pc_parts::{child_role, field_at, last_value, shown_node};
 use pc_sentences::Stop;
 use pc_words::{child, is_this};
 
-/// The node that the child of this index shows.
+/// The node that the child with this index shows.
 #[tactic(auto, unfolding(crate::specs::Nodes::child_node))]
 pub(crate) fn child_node<'a>(stop: &Stop<'a>, index: usize) -> Option<&'a Node>
     ensures { option_copied result ≡ spec.child_node stop.now index }
@@ -44,7 +44,7 @@ fn is_tag_form(form: Form) -> bool
     matches!(form, Form::Tag)
 }
 
-// Whether the method of this number is a function of box.
+// Whether the method with this number is a box function.
 fn gives_box(core: &Core, method: u32) -> bool
     ensures { result ≡ spec.gives_box (slice_get core.now.methods method) }
 {
@@ -60,7 +60,7 @@ fn is_function(kind: MethodKind) -> bool
     matches!(kind, MethodKind::Fun)
 }
 
-/// Whether the node is `this` of box in a function of box.
+/// Whether the node is a box `this` in a box function.
 pub(crate) fn is_box_this(stop: &Stop, node: &Node, form: Form) -> bool
     ensures { result ≡ spec.is_box_this stop.now node.now form }
 {
@@ -99,7 +99,7 @@ fn isolated_cap(ty: Option<(u32, Cap)>) -> Option<Cap>
     }
 }
 
-/// The capability of a local of iso or trn that the node is.
+/// The capability of the node, if it is a local of iso or trn.
 #[tactic(auto, unfolding(crate::specs::Nodes::local_cap))]
 pub(crate) fn local_cap(stop: &Stop, node: &Node) -> Option<Cap>
     ensures { result ≡ spec.local_cap stop.now node.now }
@@ -206,7 +206,7 @@ fn assigns(kind: &NodeKind) -> bool
     matches!(kind, NodeKind::Assign(_) | NodeKind::SetField(_))
 }
 
-// Whether the node of this number assigns.
+// Whether the node with this number assigns.
 fn node_assigns(core: &Core, node: u32) -> bool
     ensures { result ≡ spec.node_assigns (slice_get core.now.nodes node) }
 {

@@ -38,7 +38,7 @@ short_part bytes from limit = take_short (drop from bytes) limit
     take_short (x ∷ xs) zero = omega arith
     take_short (x ∷ xs) (suc n) = let h = take_short xs n in omega (arith, h)
 
--- what the places give that do not pass the end
+-- for places that do not pass the end
 pub part_is : (bytes : List ℕ) (from limit : ℕ) → slice_range (slice_range bytes (min from (length bytes)) (length bytes)) 0 (min limit (length (slice_range bytes (min from (length bytes)) (length bytes)))) ≡ part_of bytes from limit
 part_is bytes from limit =
     let rest = slice_range bytes (min from (length bytes)) (length bytes) in

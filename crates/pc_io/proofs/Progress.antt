@@ -9,7 +9,7 @@ pub nothing_yet : (old : Option (List ℕ)) (piece : List ℕ) → Appends old o
 nothing_yet None piece = tt
 nothing_yet (Some xs) piece = grind (arith, common_steps)
 
--- a write goes on from a place in the piece
+-- a write continues from a place in the piece
 pub further : (old mid now : Option (List ℕ)) (piece rest : List ℕ) (at count next : ℕ) → rest ≡ drop at piece → next ≡ at + count
     → at ≤ length piece → Appends old mid (take at piece) → count ≤ length rest → Appends mid now (take count rest)
     → (next ≤ length piece) × Appends old now (take next piece)

@@ -1,8 +1,8 @@
--- What became of a sink.
+-- What happened to a sink.
 use Rattle.std.specs.Prelude.{ℕ, List}
 use Rattle.std.specs.declared.option.Option.{Option}
 
--- What a sink told and how often it had failed, before a call and behind it.
+-- What a sink reported as written and how often it had failed, before and after a call.
 pub record Change : Type 0 where
   pub before : Option (List ℕ)
   pub now : Option (List ℕ)

@@ -1,26 +1,26 @@
--- What a read of a file answers.
+-- What reading a file returns.
 use Rattle.std.specs.Prelude.{◌≡◌, ◌<◌, ◌≤◌, ◌+◌, ℕ, List, length, take, drop, IfSome, Result, Ok, Err}
 use Rattle.std.specs.declared.option.Option.{Option}
 use Rattle.pc_io.specs.declared.files.FileFault.{FileFault}
 use Rattle.pc_io.specs.declared.files.FileFault.TheVariants.{TooLong, Memory, Failed}
 use Rattle.pc_io.specs.declared.bytes.Bytes.{Bytes}
 
--- where the bytes are told and the faults of the name did not rise, the bytes are more than the limit
+-- if the bytes are known and no failure of the name was counted, there are more bytes than the limit
 abbrev pub TooLongOnly : (limit : ℕ) → Option (List ℕ) → (before now : ℕ) → Type 0
 TooLongOnly limit bytes before now = now ≡ before → IfSome bytes (λ told. limit < length told)
 
--- a read of these bytes took `taken` of them, and gives them all, or refuses more than the limit
+-- a read of these bytes took `taken` of them, and returns them all, or refuses them as more than the limit
 abbrev pub IsCopy : List ℕ → (limit taken : ℕ) → Result Bytes FileFault → Type 0
 IsCopy bytes limit taken (Ok copy) = (copy ≡ bytes) × (length bytes ≤ limit) × (taken ≡ length bytes)
 IsCopy bytes limit taken (Err TooLong) = (limit < length bytes) × (taken ≡ limit + 1)
 IsCopy bytes limit taken (Err Memory) = (length bytes ≤ limit) × (taken ≡ 0)
 IsCopy bytes limit taken (Err Failed) = ⊥
 
--- the bytes from a place on, as many as there are up to a limit
+-- the bytes from a place on, up to a limit
 abbrev pub part_of : List ℕ → (from limit : ℕ) → List ℕ
 part_of bytes from limit = take limit (drop from bytes)
 
--- a read of a part of these bytes took `taken` of them, and gives the part
+-- a read of a part of these bytes took `taken` of them, and returns the part
 abbrev pub IsPart : List ℕ → (from limit taken : ℕ) → Result Bytes FileFault → Type 0
 IsPart bytes from limit taken (Ok copy) = (copy ≡ part_of bytes from limit) × (taken ≡ length copy)
 IsPart bytes from limit taken (Err TooLong) = ⊥

@@ -1,4 +1,4 @@
--- Real files, of which nothing is told but what readings left.
+-- Real files, of which nothing is known but what earlier reads left.
 use Rattle.std.specs.Prelude.{ℕ, List, [], ◌∷◌, ◌++◌, Result, Ok, Err}
 use Rattle.pc_io.specs.declared.files.FileFault.{FileFault}
 use Rattle.pc_io.specs.declared.files.FileFault.TheVariants.{TooLong, Memory, Failed}
@@ -13,7 +13,7 @@ pub record Readings : Type 0 where
 abbrev pub no_readings : Readings
 no_readings = record { failed = []; taken = 0 }
 
--- the names of failures after a call: a failure is kept under its name
+-- the names of failures after a call: a failure is recorded under its name
 abbrev pub failed_after : List (List ℕ) → List ℕ → Result Bytes FileFault → List (List ℕ)
 failed_after failed name (Ok _) = failed
 failed_after failed name (Err TooLong) = failed

@@ -1,7 +1,7 @@
 -- A sink over a writer of the standard library.
 use Rattle.std.specs.Prelude.{ℕ, List, Option}
 
--- What the writer tells that it holds; how many calls failed.
+-- What the writer reports as written; how many calls failed.
 pub record Told : Type 0 where
   pub written : Option (List ℕ)
   pub faults : ℕ

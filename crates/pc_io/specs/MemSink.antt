@@ -4,23 +4,23 @@ use Rattle.pc_io.specs.declared.sink.SinkFault.{SinkFault}
 use Rattle.pc_io.specs.declared.sink.SinkFault.TheVariants.{Memory, Failed}
 use Rattle.pc_io.specs.Count.{one_more}
 
--- The bytes that were put; the numbers of the calls that fail, each with the number of bytes that it takes before; the
--- number of the next call; how many calls failed.
+-- The bytes written; the numbers of the calls that fail, each with the number of bytes it takes first; the number of
+-- the next call; how many calls failed.
 pub record Tape : Type 0 where
   pub bytes : List ℕ
   pub failing : List (ℕ × ℕ)
   pub next_call : ℕ
   pub faults : ℕ
 
--- nothing was put, and no call was made so far
+-- nothing written, and no calls so far
 abbrev pub new_tape : List (ℕ × ℕ) → Tape
 new_tape failing = record { bytes = []; failing = failing; next_call = 1; faults = 0 }
 
--- where the next call is one that fails, how many bytes it takes before
+-- if the next call is one that fails, how many bytes it takes first
 abbrev pub room_next : Tape → Option ℕ
 room_next tape = option_map (λ f. f.1) (find (λ f. nat_eq f.0 tape.next_call) tape.failing)
 
--- Each answer of the next call, and when it comes. Want of memory is free, but for an empty piece.
+-- Each answer of the next call, and when it comes. Running out of memory is always allowed, except for an empty piece.
 abbrev pub IsAnswerOf : Tape → List ℕ → Result (Unit {0}) SinkFault → Type 0
 IsAnswerOf tape piece (Ok _) = piece ≢ [] → room_next tape ≡ None
 IsAnswerOf tape piece (Err Failed) = (piece ≢ []) × IsSome (room_next tape)

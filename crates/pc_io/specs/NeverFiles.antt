@@ -1,4 +1,4 @@
--- Files in memory, of which no reading fails.
+-- Files in memory, of which no read fails.
 use Rattle.std.specs.Prelude.{ℕ, List, []}
 use Rattle.pc_io.specs.declared.entries.Entry.{Entry}
 
@@ -7,6 +7,6 @@ pub record Shelf : Type 0 where
   pub entries : List Entry
   pub taken : ℕ
 
--- no file, and no call so far
+-- no files, and no calls so far
 abbrev pub empty_shelf : Shelf
 empty_shelf = record { entries = []; taken = 0 }

@@ -4,7 +4,7 @@ ghost use Rattle.std.specs.Prelude.{◌≡◌, ◌↔◌, [], IfOk, IsTrue, leng
 use std::alloc::{AllocError, Global};
 use std::marker::Model;
 
-/// Bytes on the heap. Contracts see them as a list of numbers below 256, whatever their capacity.
+/// Bytes on the heap. In contracts they are a list of numbers below 256, whatever their capacity.
 #[derive(Debug, Drop)]
 pub struct Bytes {
     items: Vec<u8>,
@@ -26,10 +26,10 @@ impl Bytes {
         Bytes { items }
     }
 
-    /// A copy of these bytes, in memory of `alloc`.
+    /// A copy of these bytes, allocated in `alloc`.
     ///
     /// # Errors
-    /// `AllocError` where there is no memory for the copy.
+    /// `AllocError` if there is no memory for the copy.
     pub fn copy_of(alloc: Global, bytes: &[u8]) -> Result<Bytes, AllocError>
         ensures { IfOk result (λ copy. copy ≡ bytes.now) }
     {
@@ -45,14 +45,14 @@ impl Bytes {
         self.items.as_slice()
     }
 
-    /// How many bytes there are.
+    /// The number of bytes.
     pub fn len(&self) -> usize
         ensures { result ≡ length self.now }
     {
         self.items.len()
     }
 
-    /// Whether there is no byte.
+    /// Whether there are no bytes.
     pub fn is_empty(&self) -> bool
         ensures { IsTrue result ↔ (self.now ≡ []) }
     {

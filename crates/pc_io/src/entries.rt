@@ -13,14 +13,14 @@ pub struct Entry {
     pub bytes: Bytes,
 }
 
-/// The file of this name.
+/// The file with this name.
 pub fn find_entry<'a>(entries: &'a [Entry], name: &[u8]) -> Option<&'a Entry>
     ensures { option_map (λ e. e.now.bytes) result ≡ held entries.now name.now }
 {
     entries.iter().find(|e| e.name.as_slice() == name)
 }
 
-/// Puts a file before the others, so that a name that is there has the new bytes.
+/// Puts a file before the others, so that a name already present gets the new bytes.
 pub fn put_entry(
     entries: &mut Vec<Entry>,
     alloc: Global,

@@ -1,4 +1,4 @@
-//! The names of the files whose reading failed.
+//! The names of the files that could not be read.
 ghost use Rattle.std.specs.Prelude.{◌≡◌, ◌<◌, [], ◌∷◌, ◌++◌, IfOk, OnOk, vec_len, vec_capacity};
 
 use crate::Bytes;
@@ -19,7 +19,7 @@ impl Failures {
         }
     }
 
-    /// Takes all the memory that one more failure of this name will need.
+    /// Allocates all the memory that recording one more failure of this name will need.
     pub fn make_room(&mut self, alloc: Global, name: &str) -> Result<Bytes, AllocError>
         ensures name { IfOk result (λ copy. copy ≡ name.now) }
         ensures room { OnOk result (vec_len self.new.names < vec_capacity self.new.names) }
@@ -29,7 +29,7 @@ impl Failures {
         Bytes::copy_of(alloc, name.as_bytes())
     }
 
-    /// Counts one more failure of this name, in memory that is there.
+    /// Records one more failure of this name, in memory that was allocated before.
     pub fn add(&mut self, name: Bytes)
         requires { vec_len self.old.names < vec_capacity self.old.names }
         ensures { self.new.names.items ≡ self.old.names.items ++ name ∷ [] }

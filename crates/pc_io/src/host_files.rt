@@ -11,8 +11,8 @@ use std::io::{self, ErrorKind, Read, Seek, SeekFrom};
 use std::marker::Model;
 use std::{fs, rt};
 
-/// Real files, by their paths. What they hold is not told: their readings are safe, keep to the limit and answer with
-/// their causes, and nothing is said of the bytes.
+/// Real files, by their paths. What they hold is not known to contracts: reads are safe, keep to the limit and give the
+/// cause of every failure, and nothing is promised about the bytes.
 #[derive(Drop)]
 pub struct HostFiles<'a, R: rt::Files> {
     runtime: &'a R,
@@ -22,7 +22,7 @@ pub struct HostFiles<'a, R: rt::Files> {
     taken: usize,
 }
 
-// A file that is open, and how many of its bytes are before the place at which it stands.
+// An open file, and how many of its bytes come before its current position.
 #[derive(Drop)]
 struct Begun<F: Drop> {
     name: Bytes,
@@ -39,7 +39,7 @@ impl<'a, R: rt::Files> Model for HostFiles<'a, R> {
 }
 
 impl<'a, R: rt::Files> HostFiles<'a, R> {
-    /// The files that this runtime opens. Takes no memory.
+    /// The files that this runtime opens. Does not allocate.
     pub fn new(alloc: Global, runtime: &'a R) -> HostFiles<'a, R>
         ensures { result ≡ no_readings }
     {
@@ -59,15 +59,15 @@ impl<'a, R: rt::Files> Files for HostFiles<'a, R> {
 
     ghost taken = { λ s. s.taken };
 
-    /// Opens the file and reads to its end, or until one byte more than the limit was taken. The memory for the name of a
-    /// failure is taken before.
+    /// Opens the file and reads to its end, or until one byte more than the limit was taken. The memory for recording a
+    /// failure of this name is allocated first.
     #[tactic(auto, using(crate::proofs::Times::rises, crate::proofs::Times::keeps))]
     fn read(&mut self, alloc: Global, name: &str, limit: u32) -> Result<Bytes, FileFault>
         ensures later { (n : List ℕ) → times n self.old.failed ≤ times n self.new.failed }
         ensures failed { IsErrOf result FileFault.Failed → times name.now self.old.failed < times name.now self.new.failed }
         ensures names { self.new.failed ≡ failed_after self.old.failed name.now result }
 
-        // As at all files: here no bytes are told.
+        // As for all files: here the bytes are not known.
         ensures all { IfOk result (λ b. IfSome None (λ told. b ≡ told)) }
 
         // How much was taken.
@@ -86,9 +86,10 @@ impl<'a, R: rt::Files> Files for HostFiles<'a, R> {
         answer
     }
 
-    /// Reads from the place, to the file's end or to the limit. If the last call read a part of this name up to the place and
-    /// to its limit, the file is still open and goes on, so parts in a row are of one file whatever the name names meanwhile, and a
-    /// pipe is read to its end. Any other part is of a file that is opened anew and goes to the place, which a pipe does to 0 alone.
+    /// Reads from `from` on, to the end of the file or to the limit. If the last call read a part of this name that
+    /// ended at `from` and reached its limit, the file is still open and reading continues, so that consecutive parts
+    /// are of one file whatever the name denotes meanwhile, and a pipe is read to its end. Otherwise the file is opened
+    /// anew and positioned at `from`, which a pipe can only do for 0.
     #[tactic(auto, using(crate::proofs::Times::rises, crate::proofs::Times::keeps))]
     fn part(&mut self, alloc: Global, name: &str, from: u32, limit: u32) -> Result<Bytes, FileFault>
         ensures later { (n : List ℕ) → times n self.old.failed ≤ times n self.new.failed }
@@ -96,7 +97,7 @@ impl<'a, R: rt::Files> Files for HostFiles<'a, R> {
         ensures names { self.new.failed ≡ failed_after self.old.failed name.now result }
         ensures short { result ≢ Err FileFault.TooLong }
 
-        // As at all files: here no bytes are told.
+        // As for all files: here the bytes are not known.
         ensures all { IfOk result (λ b. IfSome None (λ told. b ≡ part_of told from limit)) }
 
         // How much was taken.
@@ -131,7 +132,7 @@ impl<'a, R: rt::Files> Files for HostFiles<'a, R> {
     }
 }
 
-// How many bytes were taken from the file of this name, and what a read answers.
+// How many bytes were taken from the file with this name, and what the read returns.
 fn read_file<R: rt::Files>(
     alloc: Global,
     runtime: &R,
@@ -160,8 +161,8 @@ fn read_file<R: rt::Files>(
     }
 }
 
-// How many bytes were taken from the file of this name, and what a read of a part answers, with the file, which stands behind
-// the part.
+// How many bytes were taken from the file with this name, and what reading the part returns, with the file, which is
+// positioned after the part.
 fn read_file_part<R: rt::Files>(
     alloc: Global,
     runtime: &R,
@@ -188,7 +189,8 @@ fn read_file_part<R: rt::Files>(
     }
 }
 
-// The file of this name at this place: the one that was begun, if it stands there, or else one that is opened.
+// The file with this name at this place: the one that is already open if it is positioned there, else a newly opened
+// one.
 fn file_at<R: rt::Files>(
     runtime: &R,
     begun: Option<Begun<R::File>>,
@@ -212,7 +214,7 @@ fn file_at<R: rt::Files>(
     open_at(runtime, name, from)
 }
 
-// Opens the file of this name, and goes to this place.
+// Opens the file with this name, and moves to this place.
 fn open_at<R: rt::Files>(runtime: &R, name: &str, from: u32) -> Result<R::File, FileFault>
     ensures { IfErr result (λ fault. fault ≢ FileFault.TooLong) }
 {
@@ -228,7 +230,7 @@ fn open_at<R: rt::Files>(runtime: &R, name: &str, from: u32) -> Result<R::File, 
     Ok(file)
 }
 
-// Appends what a reader gives, to its end, but no more than so many bytes.
+// Appends what a reader gives, up to its end, but at most `most` bytes.
 fn fill<F: Read>(file: &mut F, bytes: &mut Vec<u8>, most: usize) -> Result<(), FileFault>
     requires { vec_len bytes.old ≡ 0 }
     ensures short { IfErr result (λ fault. fault ≢ FileFault.TooLong) }

@@ -8,7 +8,7 @@ use crate::{Sink, SinkFault};
 use std::io::{ErrorKind, Write};
 use std::marker::Model;
 
-/// A sink over any writer of the standard library. What it tells of the bytes that were written is what the writer tells.
+/// A sink over any writer of the standard library. It reports as written what the writer reports as written.
 #[derive(Drop)]
 pub struct HostSink<W: Write> {
     inner: W,
@@ -24,7 +24,7 @@ impl<W: Write> Model for HostSink<W> {
 }
 
 impl<W: Write> HostSink<W> {
-    /// A sink that hands each piece to this writer. Takes no memory.
+    /// A sink that passes each piece on to this writer. Does not allocate.
     pub fn new(inner: W) -> HostSink<W>
         ensures written { result.written ≡ W.contents inner }
         ensures faults { result.faults ≡ 0 }
@@ -38,9 +38,9 @@ impl<W: Write> Sink for HostSink<W> {
 
     ghost faults = { λ s. s.faults };
 
-    /// Writes until the writer has taken the whole piece, also by many short writes. An interrupted write is tried again.
-    /// The call fails where the writer answers any other error, or takes nothing. It takes no memory of its own, so it never
-    /// answers `Memory`.
+    /// Writes until the writer has taken the whole piece, if need be in many short writes. An interrupted write is
+    /// tried again. The call fails if the writer returns any other error, or takes nothing. The call allocates nothing
+    /// itself, so it never returns `Memory`.
     fn put(&mut self, piece: &[u8]) -> Result<(), SinkFault>
         ensures later { self.old.faults ≤ self.new.faults }
         ensures ok { OnOk result (Appends self.old.written self.new.written piece.now) }
@@ -58,7 +58,7 @@ impl<W: Write> Sink for HostSink<W> {
     }
 }
 
-// Whether the writer took the piece whole.
+// Whether the writer took the whole piece.
 fn write_whole<W: Write>(writer: &mut W, piece: &[u8]) -> bool
     ensures { MatchBool result (Appends (W.contents writer.old) (W.contents writer.new) piece.now)
         (GrowsByPrefix (W.contents writer.old) (W.contents writer.new) piece.now) }

@@ -1,12 +1,12 @@
-//! Files and sinks by what is asked of them, in memory and on the host.
+//! Interfaces of files and sinks, and their implementations in memory and on the host.
 //!
-//! Proved: `Files::read` gives all bytes within the limit, or a fault with its cause: a failure that was counted under
-//! this very name, more bytes than the limit, or want of memory; `Files::part` gives the bytes from a place on, as many as
-//! there are up to the limit, or the first or the last of these faults. `Sink::put` writes the piece, or fails after a
-//! part of it and counts it. The six implementations keep this; the ones in memory say exactly which call fails and what
+//! Proved: `Files::read` returns all bytes within the limit, or a fault with its cause: a failure that was counted
+//! under this very name, more bytes than the limit, or no memory; `Files::part` returns the bytes from a place on, up
+//! to the limit, or the first or the last of these faults. `Sink::put` writes the piece, or fails after a part of it
+//! and counts the failure. All six implementations satisfy this; those in memory also state which call fails and what
 //! it leaves.
 //!
-//! Only tested: that real files give their bytes, that a short write and an interrupted call are gone on with.
+//! Only tested: that real files give their bytes, and that writing goes on after a short write or an interrupted call.
 #![tactic(auto)]
 
 mod bytes;

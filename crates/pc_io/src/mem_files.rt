@@ -1,4 +1,4 @@
-//! Files in memory, whose reading can be made to fail.
+//! Files in memory, whose reads can be made to fail.
 ghost use Rattle.std.specs.Prelude.{◌≡◌, ◌<◌, ◌≤◌, List, ℕ, Some, IsErrOf, IfOk, OnOk, OnErr, if◌then◌else◌, nat_eq};
 ghost use Rattle.std.specs.List.{list_any};
 ghost use Rattle.std.specs.Str.{bytes_eq};
@@ -39,11 +39,11 @@ impl Model for MemFiles {
 }
 
 impl MemFiles {
-    /// No files yet. The readings with the numbers in `fail` will fail: calls of `read` and `part` count in one sequence,
-    /// whatever they name and answer, and the first has number 1.
+    /// No files yet. The reads with the numbers in `fail` will fail: calls of `read` and `part` are numbered together
+    /// from 1, whatever name they are given and whatever they return.
     ///
     /// # Errors
-    /// `AllocError` where there is no memory for a copy of `fail`.
+    /// `AllocError` if there is no memory for a copy of `fail`.
     pub fn new(alloc: Global, fail: &[u32]) -> Result<MemFiles, AllocError>
         ensures { IfOk result (λ files. files ≡ new_store fail.now) }
     {
@@ -57,10 +57,10 @@ impl MemFiles {
         })
     }
 
-    /// Adds a file. A file of that name that is there gets these bytes in place of its own.
+    /// Adds a file. If there is a file with that name, these bytes replace its own.
     ///
     /// # Errors
-    /// `AllocError` where there is no memory for the file; then all is as before.
+    /// `AllocError` if there is no memory for the file; then nothing has changed.
     pub fn add(&mut self, name: &str, bytes: &[u8]) -> Result<(), AllocError>
         ensures ok { OnOk result ((n : List ℕ) → held self.new.entries n
             ≡ (if bytes_eq name.now n then Some bytes.now else held self.old.entries n)) }
@@ -78,7 +78,7 @@ impl Files for MemFiles {
 
     ghost taken = { λ s. s.taken };
 
-    /// Fails exactly where the number of the call is one of those that fail, or where there is no file of that name.
+    /// Fails iff the number of the call is one of those that fail, or there is no file with that name.
     #[tactic(auto, using(crate::proofs::Times::rises, crate::proofs::Times::keeps))]
     fn read(&mut self, alloc: Global, name: &str, limit: u32) -> Result<Bytes, FileFault>
         ensures answer { IsAnswerOf self.old name.now limit result }
@@ -103,7 +103,7 @@ impl Files for MemFiles {
         answer
     }
 
-    /// Fails exactly where the number of the call is one of those that fail, or where there is no file of that name.
+    /// Fails iff the number of the call is one of those that fail, or there is no file with that name.
     #[tactic(auto, using(crate::proofs::Times::rises, crate::proofs::Times::keeps, crate::proofs::Parts::short_part))]
     fn part(&mut self, alloc: Global, name: &str, from: u32, limit: u32) -> Result<Bytes, FileFault>
         ensures answer { IsPartOf self.old name.now from limit result }
@@ -129,7 +129,7 @@ impl Files for MemFiles {
     }
 }
 
-// Whether a call's number is one of these.
+// Whether the number of a call is one of these.
 fn is_listed(numbers: &[u32], call: u64) -> bool
     ensures { result ≡ list_any (nat_eq call) numbers.now }
 {

@@ -30,12 +30,12 @@ impl Model for MemSink {
 }
 
 impl MemSink {
-    /// An empty sink. Each pair in `fail` is the number of a call of `put` that will fail, and how many bytes of its piece
-    /// that call takes before. Of pairs with one number the first counts. All calls are counted, whatever they are given
-    /// and answer, and the first has number 1.
+    /// An empty sink. Each pair in `fail` is the number of a call of `put` that will fail, and how many bytes of its
+    /// piece that call takes first. Of several pairs with the same number the first counts. All calls are numbered from
+    /// 1, whatever they are given and whatever they return.
     ///
     /// # Errors
-    /// `AllocError` where there is no memory for a copy of `fail`.
+    /// `AllocError` if there is no memory for a copy of `fail`.
     pub fn new(alloc: Global, fail: &[(u32, u32)]) -> Result<MemSink, AllocError>
         ensures { IfOk result (λ sink. sink ≡ new_tape fail.now) }
     {
@@ -47,7 +47,7 @@ impl MemSink {
         })
     }
 
-    /// All bytes that were put so far, also those of calls that failed.
+    /// All bytes written so far, including those of calls that failed.
     pub fn bytes(&self) -> &[u8]
         ensures { result.now ≡ self.now.bytes }
     {
@@ -60,7 +60,7 @@ impl Sink for MemSink {
 
     ghost faults = { λ s. s.faults };
 
-    /// Fails exactly where the number of the call is one of those that fail and the piece is not empty.
+    /// Fails iff the number of the call is one of those that fail and the piece is not empty.
     fn put(&mut self, piece: &[u8]) -> Result<(), SinkFault>
         ensures answer { IsAnswerOf self.old piece.now result }
         ensures later { self.old.faults ≤ self.new.faults }
@@ -88,7 +88,7 @@ impl Sink for MemSink {
     }
 }
 
-// Where the call fails, how many bytes it takes before.
+// If the call fails, how many bytes it takes first.
 fn bytes_before_failure(failing: &[(u32, u32)], call: u64) -> Option<u32>
     ensures { result ≡ option_map (λ f. f.1) (find (λ f. nat_eq f.0 call) failing.now) }
 {

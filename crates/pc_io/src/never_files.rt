@@ -1,4 +1,4 @@
-//! Files in memory, whose reading never fails.
+//! Files in memory, whose reads never fail.
 ghost use Rattle.std.specs.Prelude.{◌≡◌, List, ℕ, Some, OnOk, OnErr, if◌then◌else◌};
 ghost use Rattle.std.specs.Str.{bytes_eq};
 ghost use Rattle.pc_io.specs.Entries.{held, held_or_empty};
@@ -10,8 +10,8 @@ use crate::{Bytes, FileFault, Files};
 use std::alloc::{AllocError, Global};
 use std::marker::Model;
 
-/// Files in memory, whose reading never fails. A missing name reads as an empty file, so only want of memory and the
-/// limit are ever answered in place of bytes.
+/// Files in memory, whose reads never fail. A missing name reads as an empty file, so the only faults are running out
+/// of memory and the limit.
 #[derive(Debug, Drop)]
 pub struct NeverFiles {
     alloc: Global,
@@ -28,7 +28,7 @@ impl Model for NeverFiles {
 }
 
 impl NeverFiles {
-    /// No files yet. Takes no memory.
+    /// No files yet. Does not allocate.
     pub fn new(alloc: Global) -> NeverFiles
         ensures { result ≡ empty_shelf }
     {
@@ -39,10 +39,10 @@ impl NeverFiles {
         }
     }
 
-    /// Adds a file. A file of that name that is there gets these bytes in place of its own.
+    /// Adds a file. If there is a file with that name, these bytes replace its own.
     ///
     /// # Errors
-    /// `AllocError` where there is no memory for the file; then all is as before.
+    /// `AllocError` if there is no memory for the file; then nothing has changed.
     pub fn add(&mut self, name: &str, bytes: &[u8]) -> Result<(), AllocError>
         ensures ok { OnOk result ((n : List ℕ) → held self.new.entries n
             ≡ (if bytes_eq name.now n then Some bytes.now else held self.old.entries n)) }

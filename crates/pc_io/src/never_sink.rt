@@ -5,8 +5,8 @@ use crate::{Sink, SinkFault};
 use std::alloc::Global;
 use std::marker::Model;
 
-/// A sink in memory, which never fails: only want of memory is ever answered in place of `Ok`. Contracts see it as the list
-/// of the bytes that were put.
+/// A sink in memory that never fails, except by running out of memory. In contracts it is the list of the bytes
+/// written.
 #[derive(Debug, Drop)]
 pub struct NeverSink {
     bytes: Vec<u8>,
@@ -21,7 +21,7 @@ impl Model for NeverSink {
 }
 
 impl NeverSink {
-    /// An empty sink. Takes no memory.
+    /// An empty sink. Does not allocate.
     pub fn new(alloc: Global) -> NeverSink
         ensures { result ≡ [] }
     {
@@ -30,7 +30,7 @@ impl NeverSink {
         }
     }
 
-    /// All bytes that were put so far.
+    /// All bytes written so far.
     pub fn bytes(&self) -> &[u8]
         ensures { result.now ≡ self.now }
     {

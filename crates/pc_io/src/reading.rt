@@ -5,7 +5,7 @@ ghost use Rattle.pc_io.specs.Files.{IsCopy, IsPart, part_of};
 use crate::{Bytes, FileFault};
 use std::alloc::Global;
 
-/// How many bytes a read takes from these, and what it answers.
+/// How many of these bytes a read takes, and what it returns.
 pub fn read_bytes(alloc: Global, bytes: &[u8], limit: u32) -> (usize, Result<Bytes, FileFault>)
     ensures { IsCopy bytes.now limit result.0 result.1 }
 {
@@ -19,7 +19,7 @@ pub fn read_bytes(alloc: Global, bytes: &[u8], limit: u32) -> (usize, Result<Byt
     }
 }
 
-// The bytes from a place on, as many as there are up to a limit.
+// The bytes from a place on, up to a limit.
 #[tactic(auto, using(crate::proofs::Parts::part_is))]
 fn part_of(bytes: &[u8], from: u32, limit: u32) -> &[u8]
     ensures { result.now ≡ part_of bytes.now from limit }
@@ -30,7 +30,7 @@ fn part_of(bytes: &[u8], from: u32, limit: u32) -> &[u8]
     &rest[..count]
 }
 
-/// How many bytes a read of a part takes from these, and what it answers.
+/// How many of these bytes a read of a part takes, and what it returns.
 pub fn read_part(
     alloc: Global,
     bytes: &[u8],

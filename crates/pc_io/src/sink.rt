@@ -1,4 +1,4 @@
-//! Sinks: what is asked of whatever text is written to.
+//! Sinks: the interface of whatever text is written to.
 ghost use Rattle.std.specs.Prelude.{◌≡◌, ◌≤◌, List, ℕ, [], Ok, OnOk, IsErrOf};
 ghost use Rattle.std.specs.declared.option.Option.{Option};
 ghost use Rattle.std.specs.Io.KnownBytes.{Appends, Keeps};
@@ -12,7 +12,7 @@ use std::alloc::{AllocError, AllocFailed};
 pub enum SinkFault {
     /// The sink did not take the whole piece.
     Failed,
-    /// Want of memory, after which nothing of the piece was written.
+    /// Out of memory; then nothing of the piece was written.
     Memory,
 }
 
@@ -34,10 +34,10 @@ impl<T: Drop> From<AllocFailed<T>> for SinkFault {
 
 /// Something that text is written to, piece by piece.
 ///
-/// Contracts see two things. `written` is all that was written so far, where that is told: a terminal or a pipe tells
-/// nothing. `faults` counts the calls that failed, and never falls; it has 64 bits and stays at its last value.
+/// Contracts see two things. `written` is all that was written so far, if that is known: of a terminal or a pipe it is
+/// not. `faults` counts the calls that failed, and never decreases; it has 64 bits and stays at its last value.
 pub trait Sink {
-    /// What was written, where it is told.
+    /// What was written, if it is known.
     ghost written: { Self → Option (List ℕ) };
 
     /// How often a piece was not taken whole.
@@ -46,9 +46,9 @@ pub trait Sink {
     /// Writes the whole piece. An empty piece is always written, and changes neither what was written nor the count.
     ///
     /// # Errors
-    /// - `Failed` only where the count of failures rose in this call, or stands at its last value. What was written grew by a
-    ///   first part of the piece. A sink that takes nothing of a piece that is not empty has failed.
-    /// - `Memory` at want of memory. What was written is as before.
+    /// - `Failed` only if the count of failures rose in this call, or is at its last value. What was written grew by
+    ///   a prefix of the piece. A sink that takes nothing of a piece that is not empty has failed.
+    /// - `Memory` if memory runs out. What was written is as before.
     fn put(&mut self, piece: &[u8]) -> Result<(), SinkFault>
         ensures later { faults self.old ≤ faults self.new }
         ensures ok { OnOk result (Appends (written self.old) (written self.new) piece.now) }

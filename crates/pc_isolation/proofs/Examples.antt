@@ -1,4 +1,4 @@
--- The examples, computed. The laws of maps say what stands at an address.
+-- The examples, computed. The laws of maps determine what is at an address.
 use Rattle.std.specs.Prelude.{◌≡◌, ◌≢◌, ℕ, zero, suc, Bool, true, false, [], ◌∷◌, Some, None, slice_get, refl}
 use Rattle.std.specs.FinMap.{empty, get, get-empty}
 use Rattle.std.proofs.Common.{ap, sym, subst, ◌∙◌, arith}

@@ -82,7 +82,7 @@ module _ (core : CoreData) (w : World) (objects : ObjectMap) (fields : FieldsFit
       subst (λ (p : Cap). FitsIn w (InField a l.place) (unalias p) (w.region b)) (same_Some field.0.cap q field.2)
       (fields a object.0 entity.0 l.place field.0 (At b) object.1 here field.1 value)
 
-  -- Where no field of an allowed capability leads out of these regions, nothing that is reached from one is in another.
+  -- If no field of an allowed capability leads out of these regions, nothing that is reached from one is in another.
   reached : (P : ℕ → Type 0) (allowed : Cap → Bool)
       → ((o : Address) (n r : ℕ) (q : Cap) → allowed q ≡ true → FitsIn w (InField o n) (unalias q) r → P (w.region o) → P r)
       → (a b : Address) → P (w.region a) → Reaches core objects allowed a b → P (w.region b)

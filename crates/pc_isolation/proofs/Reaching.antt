@@ -33,7 +33,7 @@ module _ (core : CoreData) (c d : Configuration) (i : ℕ) (only : OnlyAccessed 
       ]
   values_by a free place None is = only.new a place is ∙ sym (absent_empty (get c.objects a) place is)
 
-  -- An object that is not written holds the same values, also where there was none.
+  -- An object that is not written holds the same values, even if there was none.
   pub values_kept : (a : Address) → Unwritten core c i a → (place : ℕ) → value_at d.objects a place ≡ value_at c.objects a place
   values_kept a free place = values_by a free place (class_at c.objects a) refl
 

@@ -18,15 +18,15 @@ use Rattle.pc_semantics.specs.Programs.{n, program, entity, constructor_of, node
 use Rattle.pc_semantics.specs.Safety.{Quiet}
 use Rattle.pc_isolation.specs.Isolated.{Inside, Isolated}
 
--- Class C has a field `n` declared `C ref`, and a behaviour of Main, method 1, takes a C of this capability. Node 1 reads `n`, and
--- node 2 writes it.
+-- Class C has a field `n` declared `C ref`, and a behaviour of Main, method 1, takes a C with this capability. Node 1
+-- reads `n`, and node 2 writes it.
 abbrev pub taking : Cap → CoreData
 taking q =
     program (entity kind.Class (codes "C") (record { name = n; fixed = false; entity = 6; cap = cap.Ref } ∷ []) 1 ∷ entity kind.Actor (codes "Main") [] 1 ∷ [])
     (constructor_of 7 method.Be (record { entity = 6; cap = q; span = nowhere } ∷ []) 2 3 ∷ [])
     (node_of node.This [] ∷ node_of (node.Field n) (0 ∷ []) ∷ node_of (node.SetField n) (1 ∷ 0 ∷ []) ∷ node_of node.Body (2 ∷ []) ∷ [])
 
--- Two objects of C, of which the first holds the second.
+-- Two objects of C, the first of which holds the second.
 abbrev pub whole : Address
 whole = record { maker = 1; serial = 1 }
 
@@ -36,7 +36,7 @@ part = record { maker = 1; serial = 2 }
 abbrev pub two_objects : ObjectMap
 two_objects = insert (insert (insert empty (own_address 1) (new_object 7 0)) part (new_object 6 1)) whole (with_field (new_object 6 1) 0 (At part))
 
--- Actor 1 is about to do a task on an object while a message waits that brings it the first of the two.
+-- Actor 1 is about to do a task on an object while a message waits for it that carries the first of the two.
 abbrev pub about_to : Address → Task → Configuration
 about_to a t = record {
   objects = two_objects;
@@ -50,9 +50,9 @@ about_to a t = record {
   printed = [];
 }
 
--- An `iso` argument that is about to be read is not let alone, nor is a `val` one that is about to be written. A `val` one that is
--- about to be read is. A part of an `iso` argument is inside it; if that is about to be read, the argument itself is let alone, but
--- what is inside is not.
+-- An `iso` argument that is about to be read is not let alone, and neither is a `val` argument that is about to be
+-- written. A `val` argument that is about to be read is. A part of an `iso` argument is inside it: if the part is about
+-- to be read, the argument itself is let alone, but what is inside it is not.
 pub record WaitingIsSeen : Type 0 where
   pub iso_read : Quiet (taking cap.Iso) (about_to whole (task.Get 1)) → ⊥
   pub val_written : Quiet (taking cap.Val) (about_to whole (task.Put 2)) → ⊥

@@ -1,5 +1,5 @@
--- When waiting messages are isolated in depth: not only the objects that are their arguments are let alone, but also those to
--- which fields lead from there.
+-- When waiting messages are isolated in depth: it is not only their arguments that are let alone, but also the objects
+-- that fields lead to from there.
 use Rattle.std.specs.Prelude.{◌≡◌, ◌≢◌, ◌⊎◌, ℕ, Bool, true, false, Option, Some, slice_get}
 use Rattle.pc_heap.specs.Objects.{ObjectMap, class_at, value_at}
 use Rattle.pc_heap.specs.declared.value.Address.{Address}
@@ -28,16 +28,18 @@ pub record Leads (core : CoreData) (objects : ObjectMap) (q : Cap) (a b : Addres
   pub declared : field_cap core objects a place ≡ Some q
   pub holds : value_at objects a place ≡ Some (At b)
 
--- Fields of allowed capabilities lead, one after the other, from the object at a to that at b; none is needed from an object to itself.
+-- Fields of allowed capabilities lead, one after another, from the object at a to the one at b; an object reaches
+-- itself without any.
 pub data Reaches (core : CoreData) (objects : ObjectMap) (allowed : Cap → Bool) (a : Address) : Address → Type 0 where
   itself : {b : Address} → b ≡ a → Reaches core objects allowed a b
   further : {b : Address} → (o : Address) (q : Cap) → Reaches core objects allowed a o → allowed q ≡ true → Leads core objects q o b → Reaches core objects allowed a b
 
--- A field keeps what it holds with its object if it is declared `iso`, `trn` or `ref`. The row is of iso, trn, ref, val, box, tag.
+-- A field keeps its contents with its object if it is declared `iso`, `trn` or `ref`. The columns are iso, trn, ref,
+-- val, box and tag.
 abbrev pub keeps : Cap → Bool
 keeps = at true true true false false false
 
--- It shows what it holds, which may be read through it, unless it is declared `tag`.
+-- A field shows its contents, which may be read through it, unless it is declared `tag`.
 abbrev pub shows : Cap → Bool
 shows = at true true true true true false
 
@@ -61,23 +63,23 @@ pub record Waits (core : CoreData) (c : Configuration) (j k n : ℕ) (q : Cap) (
   pub declared : parameter_cap core message n ≡ Some q
   pub argument : slice_get message.arguments n ≡ Some (At a)
 
--- The object at b is inside this argument, which is `iso`: fields that keep lead to it.
+-- The object at b is inside this argument, which is `iso`: fields that keep their contents lead to it.
 abbrev pub Inside : CoreData → Configuration → (j k n : ℕ) → Address → Type 0
 Inside core c j k n b = (a : Address) × Waits core c j k n cap.Iso a × Reaches core c.objects keeps a b
 
--- It is seen from this argument, which is `iso` or `val`: fields that show lead to it.
+-- The object at b is seen from this argument, which is `iso` or `val`: fields that show their contents lead to it.
 abbrev pub SeenFrom : CoreData → Configuration → (j k n : ℕ) → Address → Type 0
 SeenFrom core c j k n b = (a : Address) × (Waits core c j k n cap.Iso a ⊎ Waits core c j k n cap.Val a) × Reaches core c.objects shows a b
 
--- What waits is isolated in depth.
+-- Waiting messages are isolated in depth.
 pub record Isolated (core : CoreData) (c : Configuration) : Type 0 where
   -- No actor's next step touches what is inside a waiting argument,
   pub untouched : (j k n : ℕ) (b : Address) → Inside core c j k n b → (i : ℕ) (x : Access) → access core c i ≡ Some x → x.address ≢ b
-  -- or an object from which fields that show lead there;
+  -- or an object from which fields that show their contents lead there;
   pub unreached : (j k n : ℕ) (b : Address) → Inside core c j k n b → (i : ℕ) (x : Access) → access core c i ≡ Some x → Reaches core c.objects shows x.address b → ⊥
   -- none writes what is seen from a waiting argument;
   pub unwritten : (j k n : ℕ) (b : Address) → SeenFrom core c j k n b → (i : ℕ) (x : Access) → access core c i ≡ Some x → x.write ≡ true → x.address ≢ b
-  -- what is inside two waiting arguments is so because they are one: the same actor, message and parameter;
+  -- no object is inside two waiting arguments: they are the same actor, message and parameter;
   pub apart : (j k n g l m : ℕ) (b : Address) → Inside core c j k n b → Inside core c g l m b → (j ≡ g) × (k ≡ l) × (n ≡ m)
-  -- and what is inside one is seen from no other.
+  -- and what is inside one argument is seen from no other.
   pub unseen : (j k n g l m : ℕ) (b : Address) → Inside core c j k n b → SeenFrom core c g l m b → (j ≡ g) × (k ≡ l) × (n ≡ m)

@@ -1,12 +1,12 @@
--- What is proved of every program with a valid annotation, in words of the machine alone: that it is isolated in depth, and that
--- what a message brings is passed as a whole.
+-- What is proved of every program with a valid annotation, in terms of the machine alone: it is isolated in depth, and
+-- what a message carries is passed as a whole.
 use Rattle.std.specs.Prelude.{ℕ, List}
 use Rattle.pc_core.specs.CoreData.{CoreData}
 use Rattle.pc_semantics.specs.Runs.{after}
 use Rattle.pc_isolation.specs.Isolated.{Isolated}
 use Rattle.pc_isolation.specs.Passed.{StaysWhole, TakenWhole}
 
--- After every list of actors, of every length.
+-- After every list of actors, of any length.
 abbrev pub AlwaysIsolated : CoreData → Type 0
 AlwaysIsolated core = (list : List ℕ) → Isolated core (after core list)
 

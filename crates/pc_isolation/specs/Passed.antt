@@ -1,4 +1,4 @@
--- That what is inside a waiting argument stays inside until its message is taken, and is then handed over as a whole.
+-- What is inside a waiting argument stays inside until its message is taken, and is then handed over as a whole.
 use Rattle.std.specs.Prelude.{◌≡◌, ◌↔◌, ℕ, suc, ◌+◌, List, [], ◌∷◌, Some, slice_get}
 use Rattle.pc_heap.specs.Objects.{value_at}
 use Rattle.pc_heap.specs.declared.value.Address.{Address}
@@ -18,23 +18,23 @@ use Rattle.pc_isolation.specs.Isolated.{waiting_at, Waits, Inside, SeenFrom}
 
 -- ---- while it waits
 
--- The message that was the k-th for actor j at c is the l-th at d, and is what it was: the same objects are inside each of its
--- arguments and seen from it, and each of their fields holds the same.
+-- The message that was the k-th for actor j at c is the l-th at d, and is unchanged: the same objects are inside each
+-- of its arguments and seen from it, and the contents of each of their fields are the same.
 pub record Whole (core : CoreData) (c d : Configuration) (j k l : ℕ) (message : Message) : Type 0 where
   pub waits : waiting_at d j l ≡ Some message
   pub inside : (n : ℕ) (b : Address) → Inside core c j k n b ↔ Inside core d j l n b
   pub seen : (n : ℕ) (b : Address) → SeenFrom core c j k n b ↔ SeenFrom core d j l n b
   pub values : (n : ℕ) (b : Address) → SeenFrom core c j k n b → (place : ℕ) → value_at d.objects b place ≡ value_at c.objects b place
 
--- So it is after any further steps which take no more messages of its mailbox than waited before it.
+-- This holds after any further steps that take no more messages from its mailbox than waited before it.
 abbrev pub StaysWhole : CoreData → Configuration → Type 0
 StaysWhole core c =
     (more : List ℕ) (j k l : ℕ) (message : Message) → waiting_at c j k ≡ Some message → k ≡ l + takes_from core c j more → Whole core c (run_from core c more) j k l message
 
 -- ---- when it is taken
 
--- From c to d actor j has begun the method of its first message: each argument is in the slot of its parameter, and no object
--- has changed, so that the same fields lead to the same objects.
+-- From c to d actor j has begun the method of its first message: each argument is in the slot of its parameter, and no
+-- object has changed, so that the same fields lead to the same objects.
 pub record HandedOver (core : CoreData) (c d : Configuration) (j n : ℕ) (a : Address) : Type 0 where
   pub objects : d.objects ≡ c.objects
   pub actor : Actor

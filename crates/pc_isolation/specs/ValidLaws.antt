@@ -5,7 +5,7 @@ use Rattle.pc_ann.specs.declared.annotation.Ann.{Ann}
 use Rattle.pc_valid.specs.Valid.{Valid}
 use Rattle.pc_isolation.specs.Laws.{AlwaysIsolated, AlwaysPassedWhole}
 
--- What has a valid annotation is isolated.
+-- A program with a valid annotation is isolated.
 abbrev pub ValidIsIsolated : Type 0
 ValidIsIsolated = (core : CoreData) (ann : Ann) → Formed core → Valid core ann → AlwaysIsolated core
 

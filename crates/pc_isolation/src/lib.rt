@@ -1,16 +1,18 @@
 //! Isolation in depth: what fields lead to from a waiting argument is let alone too, and is passed as a whole.
 //!
-//! Proved, for every core with a valid annotation and over every list of actors; each public call does nothing, and its contract
-//! is a law of `specs/Laws.antt`, in words of the machine alone:
-//! - `valid_is_isolated`: no step touches what is inside a waiting `iso` argument, or an object that leads there; none writes
-//!   what is seen from a waiting `iso` or `val` argument; what is inside one argument is inside no other and seen from no other.
-//! - `valid_is_passed_whole`: until its message is taken, the same objects are inside an argument and seen from it, and hold the
-//!   same; the step that takes the message puts its arguments into slots, and changes no object.
+//! Proved, for every core with a valid annotation and over every list of actors; each public call does nothing, and its
+//! contract is a law of `specs/Laws.antt`, in terms of the machine alone:
+//! - `valid_is_isolated`: no step touches what is inside a waiting `iso` argument, or an object that leads there; none
+//!   writes what is seen from a waiting `iso` or `val` argument; what is inside one argument is neither inside nor seen
+//!   from any other.
+//! - `valid_is_passed_whole`: until its message is taken, the same objects are inside an argument and seen from it,
+//!   with the same contents; the step that takes the message puts its arguments into slots, and changes no object.
 //! - `waiting_is_seen`: small configurations in which a waiting argument is let alone, and others in which it is not.
 //!
-//! The proof adds no invariant. It follows fields through the regions of `pc_regions`, whose lemmas say what each place holds
-//! (`Mailed` for regions, `Fields` for chains of fields, `Arguments`, `Isolation`); and since nothing that is seen is written,
-//! and only accesses touch fields (`pc_events`), a step leaves it as it was (`Reaching`, `Steps`, `Takes`, `Passing`).
+//! The proof adds no invariant. It follows fields through the regions of `pc_regions`, whose lemmas state what each
+//! place holds (`Mailed` for regions, `Fields` for chains of fields, `Arguments`, `Isolation`); and since nothing that
+//! is seen is written, and only accesses change fields (`pc_events`), a step leaves it unchanged (`Reaching`, `Steps`,
+//! `Takes`, `Passing`).
 #![tactic(auto)]
 
 mod laws;

@@ -1,4 +1,4 @@
--- What is wrong at one node.
+-- The fault at one node.
 use Rattle.std.specs.Prelude.{◌≡◌, ℕ, Bool, true, false, not, Option, Some, None, slice_get, refl}
 use Rattle.std.proofs.Common.{ap, sym, subst, ◌∙◌}
 use Rattle.std.proofs.lemmas.Bool.{and_parts, eqb-true, eq-eqb, and_from}
@@ -35,7 +35,7 @@ at_ends : (o : Option ℕ) (n : ℕ) → o ≡ Some n → computed.ends o n ≡ 
 at_ends None n e = absurd (none-some n e)
 at_ends (Some b) n e = eq-eqb b n (same_Some b n e)
 
--- Where it is computed that a field is not set, it is not.
+-- If the computation says that a field is not set, it is not.
 unset_method : (core : CoreData) (ann : Ann) (n m : ℕ) (o : Option Method) (p : Option Note) → Formed core → slice_get core.methods m ≡ o → slice_get ann.notes n ≡ p → computed.unset_of core n o p ≡ true → (x : Method) × (slice_get core.methods m ≡ Some x) × (x.body ≡ Some n) × (SetsFields core ann x → ⊥)
 unset_method core ann n m None None f g h e = absurd (let bad : false ≡ true = e in cc)
 unset_method core ann n m None (Some t) f g h e = absurd (let bad : false ≡ true = e in cc)
@@ -46,7 +46,7 @@ unset_method core ann n m (Some x) (Some t) f g h e =
     let at = ends_at x.body n b.0 in
     (x, g, at, λ s. not_both (full core x.entity t.set_after) ((all_set_iff core x.entity t.set_after f).1 (s ((constructs_iff x.kind).0 a.0) n t at h)) b.1)
 
--- Where it is not computed, the fields are set.
+-- If it does not say so, the fields are set.
 set_method : (core : CoreData) (ann : Ann) (n : ℕ) (x : Method) → Formed core → computed.unset_of core n (Some x) (slice_get ann.notes n) ≡ false → x.body ≡ Some n → SetsFields core ann x
 set_method core ann n x f e at c b t body there =
     let same : n ≡ b = same_Some n b (sym at ∙ body) in
@@ -54,7 +54,7 @@ set_method core ann n x f e at c b t body there =
     let unset : computed.unset_behind core n x t ≡ false = subst (λ (o : Option Note). computed.unset_of core n (Some x) o ≡ false) note e in
     (all_set_iff core x.entity t.set_after f).0 (true_or (full core x.entity t.set_after) (λ h. no_both _ (and_from _ _ ((constructs_iff x.kind).1 c) (and_from _ _ (at_ends x.body n at) h)) unset))
 
--- ---- the three answers
+-- ---- the three results
 
 pub fails_rule : (core : CoreData) (ann : Ann) (n : ℕ) (x : Node) → slice_get core.nodes n ≡ Some x → (MeetsRule core ann n → ⊥) → spec.FailsAt core ann n (fault.Node n)
 fails_rule core ann n x g h = (refl, get_below core.nodes n x g, h)

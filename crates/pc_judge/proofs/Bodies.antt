@@ -18,7 +18,7 @@ body_method core m b x y f g e h =
     let last : b < node_end x.first_node x.body = subst (λ o. b < node_end x.first_node o) (sym e) (omega arith) in
     fit.own (b - x.first_node) y (range_get core.nodes x.first_node (node_end x.first_node x.body) b y from last h)
 
--- A node is the body of one method.
+-- A node is the body of only one method.
 pub one_body : (core : CoreData) (m k b : ℕ) (x y : Method) → Formed core → slice_get core.methods m ≡ Some x → x.body ≡ Some b → slice_get core.methods k ≡ Some y → y.body ≡ Some b → m ≡ k
 one_body core m k b x y f g e h i =
     let fit = (f.methods m x g).body b e in

@@ -1,4 +1,4 @@
--- One fault is first, exactly where the annotation is not valid.
+-- There is exactly one first fault iff the annotation is not valid.
 use Rattle.std.specs.Prelude.{◌≡◌, ◌⊎◌, ◌↔◌, ℕ, ◌+◌, ◌<◌, ◌≤◌, true, false, List, length, Result, Ok, Err, IsOk, MatchResult, Some, refl}
 use Rattle.std.proofs.Common.{inl, inr, ap, sym, subst, ◌∙◌, arith}
 use Rattle.std.proofs.lemmas.Bool.{cases_lt}
@@ -38,7 +38,7 @@ before_all core ann n f e b =
       sets = λ m x g c k t body there. let l = body_within core m k x f g body in b.sets k (omega (arith, l, e)) m x g body c k t body there;
     }
 
--- The same of a list that was looked at to its end.
+-- The same for a list that was looked at to its end.
 pub before_seen : (core : CoreData) (ann : Ann) (ys : List Node) (n i : ℕ) → Formed core → ys ≡ core.nodes → length ys ≤ i → n ≡ i → i ≤ length ys → spec.Before core ann n → Valid core ann
 before_seen core ann ys n i f same l at m b =
     let count : length ys ≡ length core.nodes = ap (λ (zs : List Node). length zs) same in
@@ -53,7 +53,7 @@ not_valid core ann (fault.Slot k) f h v = h.2.0.2 (v.written k h.2.0.0 h.2.0.1)
 not_valid core ann (fault.Node n) f h v = h.2 (v.rules n h.0)
 not_valid core ann (fault.Unset m) f h v = h.6 (v.sets m h.0 h.2)
 
--- ---- two faults that are first
+-- ---- two first faults
 
 -- The places of two nodes.
 places : (n k : ℕ) → (n < k) ⊎ (k < n) ⊎ (n ≡ k)
@@ -62,7 +62,7 @@ places n k = elim (cases_lt n k) [ inl l ↦ inl l | inr l ↦ elim (cases_lt k 
 slot_clash : (core : CoreData) (ann : Ann) (k : ℕ) → spec.FirstWrong core ann k → KeepsWritten core ann → ⊥
 slot_clash core ann k h w = h.0.2 (w k h.0.0 h.0.1)
 
--- A constructor that leaves a field unset clashes with what lies behind its body.
+-- A constructor that leaves a field unset contradicts what comes after its body.
 unset_clash : (core : CoreData) (ann : Ann) (m n : ℕ) (h : spec.LeavesUnset core ann m) → h.1 < n → spec.Before core ann n → ⊥
 unset_clash core ann m n h l b = h.6 (b.sets h.1 l m h.0 h.2 h.3)
 
@@ -124,7 +124,7 @@ one_first core ann (fault.Unset m) (fault.Slot k) f h i = absurd (slot_clash cor
 one_first core ann (fault.Unset m) (fault.Node n) f h i = absurd (node_unset core ann n m i h)
 one_first core ann (fault.Unset m) (fault.Unset k) f h i = ap fault.Unset (two_unset core ann m k f h i)
 
--- ---- what an answer says
+-- ---- what a result means
 
 abbrev pub Answer : Type 0
 Answer = Result (Unit {0}) JudgeFault

@@ -1,4 +1,4 @@
--- The faults of the small program's wrong derivations.
+-- The faults of the small program's faulty derivations.
 use Rattle.std.specs.Prelude.{◌≡◌, ℕ, zero, suc, ◌<◌, Bool, true, false, List, [], ◌∷◌, length, Option, Some, None, slice_get, refl}
 use Rattle.std.proofs.Common.{inl, ap, sym, subst, ◌∙◌, arith}
 use Rattle.std.proofs.lemmas.Option.{same_Some, none-some}
@@ -129,7 +129,7 @@ rules_met (suc (suc zero)) l = (
 )
 rules_met (suc (suc (suc n))) l = absurd (omega (arith, l))
 
--- ---- what is wrong
+-- ---- what is faulty
 
 -- A type is one of form `ref`.
 abbrev says_ref : Option (ℕ × Form) → Bool

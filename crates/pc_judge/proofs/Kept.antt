@@ -14,7 +14,7 @@ use Rattle.pc_judge.specs.Faults as spec
 abbrev pub KeptBefore : CoreData → Ann → ℕ → Type 0
 KeptBefore core ann i = (j : ℕ) (y : Slot) → j < i → slice_get core.slots j ≡ Some y → spec.KeepsType ann j y
 
--- The slot of this turn.
+-- The slot of this iteration.
 turn : (core : CoreData) (ys : List Slot) (i : ℕ) (d : Slot) → ys ≡ core.slots → i < length ys → slice_get core.slots i ≡ Some (get_or ys i d)
 turn core ys i d same l = subst (λ zs. slice_get zs i ≡ Some (get_or ys i d)) same (slice_get-get_or ys i d l)
 

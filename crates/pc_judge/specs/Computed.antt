@@ -1,4 +1,4 @@
--- That a field is not set behind a constructor's body, as it is computed.
+-- How it is computed that a field is not set after a constructor's body.
 use Rattle.std.specs.Prelude.{ℕ, Bool, false, ◌&&◌, not, Option, Some, None, nat_eq, slice_get}
 use Rattle.pc_core.specs.declared.declarations.Method.{Method}
 use Rattle.pc_core.specs.CoreData.{CoreData}

@@ -1,4 +1,4 @@
--- Derivations with something wrong in them, and the fault of each. All but the last are of the core of
+-- Faulty derivations, and the fault of each. All but the last are of the core of
 --     class C
 --     actor Main
 --       new create(env: Env) =>
@@ -19,11 +19,11 @@ use Rattle.pc_rules.specs.Example.{four_slots, derivation, at, node_of, noted}
 use Rattle.pc_judge.specs.declared.faults.JudgeFault.TheVariants as fault
 use Rattle.pc_judge.specs.Faults.{FirstFault}
 
--- The new object is noted as `ref` and not as `iso^`.
+-- The note of the new object has `ref` instead of `iso^`.
 abbrev pub noted_as_ref : Ann
 noted_as_ref = record { slots = derivation.slots; notes = slice_set derivation.notes 3 (noted rule.New (Some (6, form.Ref)) 3 3) }
 
--- The local's slot is `val` and not `iso`, as is written.
+-- The local's slot is `val` instead of `iso`, which is written.
 abbrev pub held_as_val : Ann
 held_as_val = record { slots = slice_set derivation.slots 3 (6, cap.Val); notes = derivation.notes }
 
@@ -31,7 +31,7 @@ held_as_val = record { slots = slice_set derivation.slots 3 (6, cap.Val); notes 
 abbrev pub without_notes : Ann
 without_notes = record { slots = derivation.slots; notes = [] }
 
--- A class with one field and a constructor that sets nothing. Only the lists that are looked at are filled.
+-- A class with one field and a constructor that sets nothing. Only the lists that are used are filled in.
 abbrev pub sets_nothing : Method
 sets_nothing = record {
   entity = 0;

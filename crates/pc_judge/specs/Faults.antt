@@ -1,4 +1,4 @@
--- What is first wrong of an annotation of a core.
+-- The first fault of an annotation of a core.
 use Rattle.std.specs.Prelude.{◌≡◌, ℕ, ◌<◌, length, Some, slice_get}
 use Rattle.pc_caps.specs.declared.capability.Cap.{Cap}
 use Rattle.pc_core.specs.declared.declarations.Method.{Method}
@@ -11,7 +11,7 @@ use Rattle.pc_valid.specs.Valid.{MeetsRule, KeepsWritten, SetsFields}
 use Rattle.pc_judge.specs.declared.faults.JudgeFault.{JudgeFault}
 use Rattle.pc_judge.specs.declared.faults.JudgeFault.TheVariants as fault
 
--- What may be wrong, as the code has it.
+-- The faults of the code.
 abbrev pub Fault : Type 0
 Fault = JudgeFault
 
@@ -23,17 +23,17 @@ HasShape core ann = (length ann.slots ≡ length core.slots) × (length ann.note
 abbrev pub KeepsType : Ann → ℕ → Slot → Type 0
 KeepsType ann k y = (ty : ℕ × Cap) → y.written ≡ Some ty → slice_get ann.slots k ≡ Some ty
 
--- Slot number k is the first one that has another type than the written one.
+-- Slot number k is the first one whose type is not the written one.
 abbrev pub FirstWrong : CoreData → Ann → ℕ → Type 0
 FirstWrong core ann k =
     ((y : Slot) × (slice_get core.slots k ≡ Some y) × (KeepsType ann k y → ⊥))
     × ((j : ℕ) (y : Slot) → j < k → slice_get core.slots j ≡ Some y → KeepsType ann j y)
 
--- Behind node n, where it is the body of a constructor, all fields are set.
+-- After node n, if it is the body of a constructor, all fields are set.
 abbrev pub SetsBehind : CoreData → Ann → ℕ → Type 0
 SetsBehind core ann n = Each (λ m x. x.body ≡ Some n → SetsFields core ann x) core.methods
 
--- Nothing is wrong before node n.
+-- There is no fault before node n.
 pub record Before (core : CoreData) (ann : Ann) (n : ℕ) : Type 0 where
   pub declarations : DeclOk core
   pub shape : HasShape core ann
@@ -41,12 +41,12 @@ pub record Before (core : CoreData) (ann : Ann) (n : ℕ) : Type 0 where
   pub rules : (k : ℕ) → k < n → MeetsRule core ann k
   pub sets : (k : ℕ) → k < n → SetsBehind core ann k
 
--- Node n, where nothing is wrong before it, does not meet its rule.
+-- There is no fault before node n, and the node does not satisfy its rule.
 abbrev pub FailsRule : CoreData → Ann → ℕ → Type 0
 FailsRule core ann n = (n < length core.nodes) × Before core ann n × (MeetsRule core ann n → ⊥)
 
--- Nothing is wrong before the body of method m, a constructor, and the body meets its rule; but behind it a field is not
--- set.
+-- There is no fault before the body of method m, a constructor, and the body satisfies its rule; but after it some
+-- field is not set.
 abbrev pub LeavesUnset : CoreData → Ann → ℕ → Type 0
 LeavesUnset core ann m =
     (x : Method) × (b : ℕ) × (slice_get core.methods m ≡ Some x) × (x.body ≡ Some b) × Before core ann b × MeetsRule core ann b
@@ -62,11 +62,11 @@ FirstFault core ann (fault.Unset m) = LeavesUnset core ann m
 
 -- ---- one node
 
--- Nothing is wrong at node n.
+-- There is no fault at node n.
 abbrev pub Passes : CoreData → Ann → ℕ → Type 0
 Passes core ann n = MeetsRule core ann n × SetsBehind core ann n
 
--- This is wrong at node n.
+-- Node n has this fault.
 abbrev pub FailsAt : CoreData → Ann → ℕ → JudgeFault → Type 0
 FailsAt core ann n (fault.Node k) = (k ≡ n) × (n < length core.nodes) × (MeetsRule core ann n → ⊥)
 FailsAt core ann n (fault.Unset m) = MeetsRule core ann n × ((x : Method) × (slice_get core.methods m ≡ Some x) × (x.body ≡ Some n) × (SetsFields core ann x → ⊥))

@@ -1,4 +1,4 @@
--- What holds of the first fault of every annotation.
+-- Laws of the first fault of every annotation.
 use Rattle.std.specs.Prelude.{◌≡◌}
 use Rattle.pc_core.specs.CoreData.{CoreData}
 use Rattle.pc_core.specs.Formed.{Formed}
@@ -7,10 +7,10 @@ use Rattle.pc_valid.specs.Valid.{Valid}
 use Rattle.pc_judge.specs.declared.faults.JudgeFault.{JudgeFault}
 use Rattle.pc_judge.specs.Faults.{FirstFault}
 
--- At most one fault is the first.
+-- There is at most one first fault.
 abbrev pub OneFirst : Type 0
 OneFirst = (core : CoreData) (ann : Ann) (f g : JudgeFault) → Formed core → FirstFault core ann f → FirstFault core ann g → f ≡ g
 
--- Where one is, the annotation is not valid.
+-- If there is one, the annotation is not valid.
 abbrev pub NotValid : Type 0
 NotValid = (core : CoreData) (ann : Ann) (f : JudgeFault) → Formed core → FirstFault core ann f → Valid core ann → ⊥

@@ -1,9 +1,9 @@
-//! Faults of small derivations. The call does nothing, and its contract says what they are.
+//! Faults of small derivations. The call does nothing; its contract states them.
 ghost use Rattle.pc_judge.specs.Example as example;
 
-/// In the derivation of `class C` and a `Main` with `let a: C iso = C`: where the new object is noted as `ref`, its node is
-/// the first fault; where the local's slot is `val`, the slot is; and where the notes are missing, it is the shape. Where a constructor sets nothing of a class with a field,
-/// it is that constructor.
+/// In the derivation of `class C` and a `Main` with `let a: C iso = C`: if the note of the new object has `ref`, its
+/// node is the first fault; if the local's slot is `val`, the slot is; and if the notes are missing, it is the shape.
+/// If a constructor of a class with a field sets nothing, it is that constructor.
 #[tactic(auto, using(crate::proofs::Faulty::faults_named))]
 pub fn faults_of_small_derivations()
     ensures { example.FaultsNamed }

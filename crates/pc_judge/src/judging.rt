@@ -11,10 +11,11 @@ use pc_ann::Ann;
 use pc_core::Core;
 use pc_sub::declarations;
 
-/// Whether the annotation is valid for the core, whatever numbers it has. The fault is the first one in this order: the
-/// first declaration that fails; that there is not one entry for each slot and one note for each node; the first slot that
-/// has another type than the one that is written for it; and then, node by node, that the node does not meet the rule of
-/// its note, or that it is the last one of a constructor and a field is not set behind it. Takes no memory.
+/// Whether the annotation is valid for the core, whatever numbers it contains. The fault is the first one in this
+/// order: the first declaration that fails; that there is not one entry for each slot and one note for each node; the
+/// first slot whose type is not the one that is written for it; and then, node by node, that the node does not satisfy
+/// the rule of its note, or that it is the last one of a constructor and some field is not set after it. Does not
+/// allocate.
 pub fn judge(core: &Core, ann: &Ann) -> Result<(), JudgeFault>
     ensures ok { IsOk result ↔ Valid core.now ann.now }
     ensures fault { (f : spec.Fault) → (result ≡ Err f) ↔ spec.FirstFault core.now ann.now f }

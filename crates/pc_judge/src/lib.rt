@@ -1,7 +1,7 @@
-//! The judge: whether an annotation of a core is valid, and else what is first wrong of it.
+//! The judge: whether an annotation of a core is valid, and otherwise its first fault.
 //!
-//! Proved: `judge` is Ok exactly where an annotation is valid for a core, and else answers the first fault, exactly; it
-//! takes no memory. There is one first fault, and none of a valid annotation.
+//! Proved: `judge` is Ok iff an annotation is valid for a core, and otherwise returns exactly the first fault; it does
+//! not allocate. There is at most one first fault, and none if the annotation is valid.
 #![tactic(auto)]
 
 mod examples;

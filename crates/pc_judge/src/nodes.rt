@@ -1,4 +1,4 @@
-//! Nodes, each behind its children, and what is set behind the last node of a constructor.
+//! Nodes, each after its children, and what is set after the last node of a constructor.
 ghost use Rattle.std.specs.Prelude.{◌≡◌, Some, MatchOption, MatchResult, length, slice_get};
 ghost use Rattle.pc_valid.specs.Valid.{Valid};
 ghost use Rattle.pc_judge.specs.Faults as spec;
@@ -9,7 +9,7 @@ use pc_ann::{Ann, Note};
 use pc_core::{Core, Method, Node};
 use pc_rules::{constructs, full, rule_holds};
 
-// Whether the node of this number is the body of the method.
+// Whether the node with this number is the body of the method.
 fn ends(body: Option<u32>, number: u32) -> bool
     ensures { result ≡ computed.ends body number }
 {
@@ -19,7 +19,7 @@ fn ends(body: Option<u32>, number: u32) -> bool
     }
 }
 
-// Whether the method is a constructor with this body, and a field is not set behind it.
+// Whether the method is a constructor with this body, and some field is not set after it.
 fn unset_behind(core: &Core, number: u32, method: &Method, note: Note) -> bool
     ensures { result ≡ computed.unset_behind core.now number method.now note }
 {
@@ -27,7 +27,7 @@ fn unset_behind(core: &Core, number: u32, method: &Method, note: Note) -> bool
         && (ends(method.body, number) && !full(core, method.entity, note.set_after))
 }
 
-// The same of the method of this number.
+// The same for the method with this number.
 fn leaves_unset(core: &Core, ann: &Ann, number: u32, method: u32) -> bool
     ensures { result ≡ computed.leaves_unset core.now ann.now number method }
 {
@@ -37,7 +37,7 @@ fn leaves_unset(core: &Core, ann: &Ann, number: u32, method: u32) -> bool
     }
 }
 
-// What is wrong at the node of this number.
+// The fault at the node with this number.
 #[tactic(auto, using(crate::proofs::AtNode::passes, crate::proofs::AtNode::fails_rule, crate::proofs::AtNode::fails_set))]
 fn fault_at(core: &Core, ann: &Ann, number: u32, node: &Node) -> Option<JudgeFault>
     requires slots { length ann.now.slots ≡ length core.now.slots }

@@ -6,7 +6,7 @@ ghost use Rattle.pc_judge.specs.Faults as spec;
 use pc_ann::Ann;
 use pc_core::{Core, Slot};
 
-// Whether the slot of this number has the type that is written for it, if one is.
+// Whether the slot with this number has the type that is written for it, if one is.
 fn keeps_type(ann: &Ann, number: u32, slot: Slot) -> bool
     ensures { IsTrue result ↔ spec.KeepsType ann.now number slot }
 {
@@ -17,7 +17,7 @@ fn keeps_type(ann: &Ann, number: u32, slot: Slot) -> bool
     }
 }
 
-// The first slot that has another type than the one that is written for it.
+// The first slot whose type is not the one that is written for it.
 pub(crate) fn wrong_slot(core: &Core, ann: &Ann) -> Option<u32>
     ensures { MatchOption result (KeepsWritten core.now ann.now) (λ k. spec.FirstWrong core.now ann.now k) }
 {

@@ -1,37 +1,37 @@
-//! The key of a table.
+//! The hash key of a table.
 
 use std::hash::{BuildHasher, DefaultHasher, Hasher};
 
-/// How many bytes the hash takes at a time.
+/// How many bytes the hash function takes at a time.
 const WORD: usize = 8;
 
-/// What fills up a word.
+/// Padding for a word.
 const FILLING: [u8; WORD] = [0; WORD];
 
-/// Makes the hashers of a table: each has read all that the key is made of before it reads a name of the table (SipHash-1-3, in
-/// which the key is what was read first).
+/// Makes the hashers of a table: each has read everything the key is made of before it reads a name of the table
+/// (SipHash-1-3, keyed by what was read first).
 #[derive(Clone, Copy)]
 pub struct KeyedBy {
     read: DefaultHasher,
 }
 
 impl KeyedBy {
-    /// The key that is made of nothing.
+    /// The key made of nothing.
     pub fn nothing() -> KeyedBy {
         KeyedBy {
             read: DefaultHasher::new(),
         }
     }
 
-    /// Goes on to the key that is made of this name too.
+    /// Extends the key by this name.
     pub fn add(&mut self, name: &[u8]) {
         self.read.write_usize(name.len());
         self.read.write(name);
-        // A hasher that stands at the end of a word reads a name of the table by words, and not by bytes.
+        // After padding to the end of a word, a hasher reads the names of the table by words, not by bytes.
         self.read.write(&FILLING[name.len() % WORD..]);
     }
 
-    /// Goes on to the key that is made of this number too.
+    /// Extends the key by this number.
     pub fn add_number(&mut self, number: u32) {
         self.read.write_usize(number as usize);
     }

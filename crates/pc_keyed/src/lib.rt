@@ -1,8 +1,8 @@
-//! Keys for hash tables, made of the names of a source: whoever chooses the names changes the key with them, and so cannot
-//! choose names that fall together in a table.
+//! Keys for hash tables, made of the names of a source: whoever chooses the names changes the key with them, and so
+//! cannot choose names that collide in a table.
 //!
-//! What a table holds and finds does not depend on its key, so nothing is proved of a key but that it is safe to make and that
-//! its making ends.
+//! What a table contains and finds does not depend on its key, so nothing is proved about a key except that making one
+//! is safe and terminates.
 #![tactic(auto)]
 
 mod key;

@@ -1,10 +1,10 @@
-//! All names that a file defines or that stand behind a `.` in it: those that its tables hold.
+//! All names that a file defines or that follow a `.` in it: those that its tables contain.
 
 use crate::key::KeyedBy;
 use pc_tree::{Arm, Entity, Expr, FieldDef, File, Item, MethodDef, Name, ParamDef, Seq, Suffix};
 
-/// The key that is made of the names that a file gives to entities, fields, methods, parameters and locals, and of those behind
-/// a `.`, in the order of the text. Takes no memory.
+/// The key made of the names that a file gives to entities, fields, methods, parameters and locals, and of those after
+/// a `.`, in the order of the text. Does not allocate.
 pub fn keyed_by_names(file: &File) -> KeyedBy {
     let mut key = KeyedBy::nothing();
     for entity in file.entities.as_slice() {

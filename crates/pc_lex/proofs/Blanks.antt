@@ -1,4 +1,4 @@
--- Blanks that are passed are pieces.
+-- Blanks that are skipped are pieces.
 use Rattle.std.proofs.Common.{◌≡◌, ℕ, ◌+◌, ◌<◌, Bool, true, false, ◌||◌, ◌==◌, List, [], ◌∷◌, length, get_or, take, drop, Ok, refl, ap, ◌∙◌, subst, inl}
 use Rattle.std.proofs.lemmas.Bool.{true≢false}
 use Rattle.std.proofs.lemmas.List.{drop_more}

@@ -1,4 +1,4 @@
--- Comments end where they are read to end.
+-- Comments end where reading finds their end.
 use Rattle.std.proofs.Common.{◌≡◌, ℕ, zero, suc, ◌+◌, ◌-◌, ◌<◌, ◌≤◌, Bool, true, false, cond, ◌&&◌, ◌==◌, List, [], ◌∷◌, ◌++◌, length, take, drop, Some, refl, sym, ap, ap₂, ◌∙◌, subst, inl, inr, arith, length-append, append_assoc, drop_at, take-append-drop}
 use Rattle.std.proofs.lemmas.Bool.{and_parts, eqb-true}
 use Rattle.std.proofs.lemmas.Bool.Decides.{nat_tests}
@@ -33,7 +33,7 @@ closes_behind (other {text = []} no_open no_close h) n = absurd (closes_some h r
 closes_behind (other {b = b} {text = c ∷ bs} no_open no_close h) n =
     rw (sym (pair b c 47 42 bs) ∙ no_open, sym (pair b c 42 47 bs) ∙ no_close) (closes_behind h n)
 
--- so many comments end, one after the other
+-- this number of comments end, one after the other
 abbrev pub ClosesAll : ℕ → List ℕ → List ℕ → Type 0
 ClosesAll zero text rest = text ≡ rest
 ClosesAll (suc n) text rest = (mid : List ℕ) × Closes text mid × ClosesAll n mid rest
@@ -73,7 +73,7 @@ closes_suffix (inner h more) =
     (47 ∷ 42 ∷ (one.0 ++ two.0), ap (λ l. 47 ∷ 42 ∷ l) (one.1 ∙ ap (λ l. one.0 ++ l) two.1 ∙ sym (append_assoc one.0 two.0 _)))
 closes_suffix (other {b = b} no_open no_close h) = let one = closes_suffix h in (b ∷ one.0, ap (λ l. b ∷ l) one.1)
 
--- the text behind its first bytes
+-- the text after its first bytes
 pub behind_word : (text word : List ℕ) → begins text word ≡ true → text ≡ word ++ drop (length word) text
 behind_word text word e = sym (take-append-drop (length word) text) ∙ ap (λ l. l ++ drop (length word) text) (begins_cut text word e)
 

@@ -92,7 +92,7 @@ name_longest text some (kinds.Sign s) more after e h =
     absurd (true≢false (sym (name_starts text some) ∙ ap (first_test is_start) e ∙ first_app is_start more after nonempty ∙ (or_parts _ _ other).0))
 name_longest text some kinds.End more after e h = absurd h
 
--- where no name begins, a token is a sign
+-- if no name begins here, a token is a sign
 pub sign_longest : (text : List ℕ) → first_test is_ascii_digit text ≡ false → first_test is_quote text ≡ false → name_len text ≡ 0 → (other : TokenKind) (more after : List ℕ) → text ≡ more ++ after → Spells other more
     → (length more ≡ 0) ⊎ ((r : Sign × ℕ) × (sign_at text ≡ Some r) × (length more ≤ r.1))
 sign_longest text digit quote none (kinds.Name v) more after e h = inl (omega (arith, none, named is_ascii_lowercase text more after small_letter e h.0))
@@ -126,7 +126,7 @@ spelled_some kinds.Doc b h = quoted_some b (doc_quoted b h)
 spelled_some (kinds.Sign s) b h = (sign_some b s h).1
 spelled_some kinds.End b h = absurd h
 
--- where a digit stands, a token is a number
+-- if there is a digit, a token is a number
 pub digit_only : (text : List ℕ) → first_test is_ascii_digit text ≡ true → (other : TokenKind) (more after : List ℕ) → text ≡ more ++ after → Spells other more → (v : ℕ) × (other ≡ kinds.Number v) × NumberText more v × (v < 2 ^ 64)
 digit_only text digit (kinds.Name v) more after e h = absurd (no_name is_ascii_lowercase text more after digit small_letter e h.0)
 digit_only text digit (kinds.TypeName v) more after e h = absurd (no_name is_ascii_uppercase text more after digit capital_letter e h.0)
@@ -154,7 +154,7 @@ quote_no_name h text more after quote letters e t =
     let some : 0 < name_len text = omega (arith, name_some h more t, named h text more after letters e t) in
     true≢false (sym (name_starts text some) ∙ (quote_none text quote).0)
 
--- where a quote stands, a token is a text or a doc
+-- if there is a quote, a token is a text literal or a doc
 pub quote_only : (text : List ℕ) → first_test is_quote text ≡ true → (other : TokenKind) (more after : List ℕ) → text ≡ more ++ after → Spells other more
     → ((v : List ℕ) × (other ≡ kinds.Text v) × TextBytes more v) ⊎ ((other ≡ kinds.Doc) × DocBytes more)
 quote_only text quote (kinds.Name v) more after e h = absurd (quote_no_name is_ascii_lowercase text more after quote small_letter e h.0)

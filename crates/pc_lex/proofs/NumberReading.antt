@@ -19,7 +19,7 @@ under_no_digit base small = grind (arith, nat_tests)
 digit_tail : (b base : ℕ) → base ≤ 36 → is_digit b base ≡ true → is_tail b ≡ true
 digit_tail b base small e = grind (arith, nat_tests)
 
--- a `_` and a digit behind it go on
+-- a `_` followed by a digit continues the number
 under_step : (base : ℕ) (bs : List ℕ) → base ≤ 36 → first_test (λ c. is_digit c base) bs ≡ true → more_len base (95 ∷ bs) ≡ 1 + more_len base bs
 under_step base [] small d = absurd (true≢false (sym d))
 under_step base (c ∷ cs) small d = omega (arith, space base 95 (c ∷ cs) (under_no_digit base small) refl d, step base c cs d)
@@ -91,7 +91,7 @@ digits_sound base (b ∷ bs) d =
     let count : digits_len base (b ∷ bs) ≡ suc (more_len base bs) = omega (arith, len_is base (b ∷ bs) d, step base b bs d) in
     subst (λ n. IsDigits base (take n (b ∷ bs))) (sym count) (more_sound base b bs d)
 
--- The base of a number, and what it takes.
+-- The base of a number, and what follows from it.
 pub record Based (text : List ℕ) : Type 0 where
   pub base : ℕ
   pub mark : List ℕ
@@ -151,7 +151,7 @@ plain text is first only = record {
   max = λ more after v e h. inr (more, refl, only more after v e h);
 }
 
--- no number has both marks, and one without digits is none
+-- no number has both prefixes, and one without digits is not a number
 hex_only : (text : List ℕ) → begins text hex_mark ≡ true → (more after : List ℕ) (v : ℕ) → text ≡ more ++ after → NumberText more v → DigitsOf 10 more v ⊎ ((t : List ℕ) × (more ≡ 48 ∷ 120 ∷ t) × DigitsOf 16 t v)
 hex_only text opens more after v e (inl h) = inl h
 hex_only text opens more after v e (inr (inl h)) = inr h
@@ -224,7 +224,7 @@ module _ (text : List ℕ) (b : Based text) where
   abbrev pub total : ℕ
   total = length b.mark + digits_len b.base (drop (length b.mark) text)
 
-  -- a number in front of the text is shorter, or it is all that is read
+  -- a number at the start of the text is shorter than what is read, or is all of it
   pub number_max : (more after : List ℕ) (v : ℕ) → text ≡ more ++ after → NumberText more v → (length more < total) ⊎ ((length more ≡ total) × (v ≡ value_of b.base 0 digits))
   number_max more after v e h = number_at_most text b more after v e (b.max more after v e h)
 
@@ -257,7 +257,7 @@ all_app p (x ∷ xs) ys a b = let (here, more) = and_parts (p x) (list_all p xs)
 tail_joined : (b : ℕ) → is_tail b ≡ true → is_joined b ≡ true
 tail_joined b e = rw e refl
 
--- within bytes that are all so, what follows is so
+-- if the first n bytes may all be in a name, so may the one that follows fewer than n of them
 inside : (n : ℕ) (more after : List ℕ) → list_all is_tail (take n (more ++ after)) ≡ true → length more < n → n ≤ length (more ++ after) → first_test is_joined after ≡ true
 inside zero more after all less within = absurd (omega (arith, less))
 inside (suc n) [] [] all less within = absurd (omega (arith, within))

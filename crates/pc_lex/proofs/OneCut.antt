@@ -1,4 +1,4 @@
--- A text is cut into pieces in one way.
+-- A text is cut into pieces in only one way.
 use Rattle.std.proofs.Common.{◌≡◌, ℕ, ◌+◌, ◌-◌, ◌<◌, Bool, true, false, not, cond, ◌==◌, List, [], ◌∷◌, ◌++◌, length, take, drop, Option, Some, None, Result, Ok, Err, refl, sym, ap, ap₂, ◌∙◌, subst, inl, inr, ◌⊎◌, arith, length-append, append-nil, take_at, take-append-drop, length-take-le}
 use Rattle.std.proofs.lemmas.Bool.{true≢false, not-true, or_parts}
 use Rattle.std.proofs.lemmas.Bool.Decides.{nat_tests}
@@ -239,7 +239,7 @@ ok_one x y o e f =
     let same : Ok x ≡ Ok y = sym e ∙ f in
     cc
 
--- two pieces that stand in front of one text are the same
+-- two pieces at the start of one text are the same
 pub piece_one : (p q : Piece) (r s : List ℕ) → bytes_of p ++ r ≡ bytes_of q ++ s → IsPiece p r → IsPiece q s → (p ≡ q) × (r ≡ s)
 piece_one p q r s e h i =
     let x = piece_read p r h in
@@ -256,7 +256,7 @@ pieces_one (p ∷ ps) (q ∷ qs) text h i =
     let one = piece_one p q h.0 i.0 (sym h.1 ∙ i.1) h.2 i.2 in
     ap₂ (λ x xs. x ∷ xs) one.0 (pieces_one ps qs h.0 h.3 (subst (λ l. Pieces l qs []) (sym one.1) i.3))
 
--- whole pieces to the end, or up to a place where none stands, and not both
+-- whole pieces up to the end, or up to a place where none begins, but not both
 pub not_both : (ps qs : List Piece) (text rest : List ℕ) → Pieces text ps [] → Pieces text qs rest → 0 < length rest → NoPiece rest → ⊥
 not_both [] [] text rest h i some none = omega (arith, some, ap length i, ap length h)
 not_both [] (q ∷ qs) text rest h i some none = let one = piece_some q i.0 i.2 in omega (arith, one, ap length h, ap length i.1, length-append (bytes_of q) i.0)
@@ -265,7 +265,7 @@ not_both (p ∷ ps) (q ∷ qs) text rest h i some none =
     let one = piece_one p q h.0 i.0 (sym h.1 ∙ i.1) h.2 i.2 in
     not_both ps qs h.0 rest h.3 (subst (λ l. Pieces l qs rest) (sym one.1) i.3) some none
 
--- no piece stands at two places
+-- two places at which no piece begins are the same
 pub same_stop : (ps qs : List Piece) (text rest more : List ℕ) → Pieces text ps rest → Pieces text qs more → NoPiece rest → NoPiece more → (ps ≡ qs) × (rest ≡ more)
 same_stop [] [] text rest more h i none other = (refl, sym h ∙ i)
 same_stop [] (q ∷ qs) text rest more h i none other = absurd (none q i.0 (sym h ∙ i.1) i.2)

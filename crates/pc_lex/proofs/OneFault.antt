@@ -1,4 +1,4 @@
--- The first fault of a text is one.
+-- A text has only one first fault.
 use Rattle.std.proofs.Common.{◌≡◌, ℕ, ◌≤◌, true, false, cond, List, [], ◌∷◌, ◌++◌, length, refl, sym, ap, ap₂, ◌∙◌, subst, inl, inr, ◌⊎◌, arith, Result, Ok, Err, Option, Some, None, drop, ◌+◌, ◌-◌}
 use Rattle.std.proofs.lemmas.Bool.Decides.{nat_tests}
 use Rattle.std.specs.Char.{is_ascii_digit}
@@ -27,7 +27,7 @@ fewer_same (token kind g) ps qs few = omega (arith, few)
 fewer : (p q : Piece) (ps qs : List Piece) → p ≡ q → count (q ∷ qs) ≤ count (p ∷ ps) → count qs ≤ count ps
 fewer p q ps qs e few = fewer_same q ps qs (subst (λ x. count (q ∷ qs) ≤ count (x ∷ ps)) e few)
 
--- where a token stands and as many tokens came before, no gap comes before it any more
+-- if there is a token and the greatest number of tokens came before, no gap can come before it
 module _ (kind : TokenKind) (b rest : List ℕ) (is : IsToken kind b rest) where
   pub never_both : (ps qs : List Piece) (text other : List ℕ) → Pieces text ps (b ++ rest) → Pieces text qs other → NoPiece other → count qs ≤ count ps → ⊥
   never_both [] [] text other h i none few = none (token kind b) rest (sym i ∙ h) is

@@ -1,4 +1,4 @@
--- What is read is a piece, and where none is read none stands.
+-- What is read is a piece, and if none is read there is none.
 use Rattle.std.proofs.Common.{◌≡◌, ℕ, zero, suc, ◌+◌, ◌^◌, ◌<◌, ◌≤◌, Bool, true, false, cond, List, [], ◌∷◌, ◌++◌, length, take, drop, Option, Some, None, Ok, Err, refl, sym, ap, ◌∙◌, subst, inl, inr, ◌⊎◌, arith, length-append, drop_at}
 use Rattle.std.specs.Prelude.{nat_lt}
 use Rattle.std.proofs.lemmas.Bool.{true≢false, ltb-true, ltb-false, or_right}
@@ -30,7 +30,7 @@ use Rattle.pc_lex.proofs.PieceRight.{Right, token_right, first_blank, gap_no, ne
 use Rattle.pc_lex.proofs.QuotedBytes.{no_doc, doc_quote}
 use Rattle.pc_lex.proofs.QuoteReading.{right_doc, right_text}
 
--- where no quote stands, no doc begins
+-- if there is no quote, no doc begins
 no_doc_kind : (text : List ℕ) (kind : TokenKind) → first_test is_quote text ≡ false → begins_doc text ≡ true → kind ≡ kinds.Doc
 no_doc_kind text kind quote d = absurd (true≢false (sym d ∙ no_doc text quote))
 

@@ -1,4 +1,4 @@
--- What it is that a piece is read rightly.
+-- What it means that a piece is read correctly.
 use Rattle.std.proofs.Common.{◌≡◌, ℕ, ◌<◌, ◌≤◌, Bool, true, false, List, [], ◌∷◌, ◌++◌, length, take, drop, Result, Ok, Err, refl, sym, ap, ◌∙◌, subst, inl, inr, arith, take-append-drop, length-take-le}
 use Rattle.std.proofs.lemmas.Bool.{true≢false}
 use Rattle.std.specs.Char.{is_ascii_digit}
@@ -16,7 +16,7 @@ abbrev pub piece_of : Found → List ℕ → Piece
 piece_of found.Gap b = gap b
 piece_of (found.Token kind) b = token kind b
 
--- What is read is right: a piece and its length, or the fault.
+-- What is read is correct: a piece and its length, or the fault.
 abbrev pub Right : List ℕ → Result (Found × ℕ) LexStop → Type 0
 Right text (Ok r) = (0 < r.1) × (r.1 ≤ length text) × IsPiece (piece_of r.0 (take r.1 text)) (drop r.1 text)
 Right text (Err stop.BadByte) = NoPiece text × (begins text open_mark ≡ false) × (first_test is_ascii_digit text ≡ false) × (first_test is_quote text ≡ false)
@@ -56,6 +56,6 @@ gap_no text b rest blank line e (inr (inl (t, one, all, stops))) =
     absurd (true≢false (sym (ap (λ l. begins l line_mark) same) ∙ line))
 gap_no text b rest blank line e (inr (inr (t, same, closes))) = (t, e ∙ same, closes)
 
--- where neither a blank stands nor a comment begins, there is no gap
+-- if there is no blank and no comment begins, there is no gap
 pub never_gap : (text b rest : List ℕ) → first_blank text ≡ false → begins text line_mark ≡ false → begins text open_mark ≡ false → text ≡ b ++ rest → IsGap b rest → ⊥
 never_gap text b rest blank line opens e h = let c = gap_no text b rest blank line e h in true≢false (sym (ap (λ l. begins l open_mark) c.1) ∙ opens)

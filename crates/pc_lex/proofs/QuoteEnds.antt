@@ -1,4 +1,4 @@
--- The end of a text, at an index and by the definition.
+-- The end of a text literal, at an index and by the definition.
 use Rattle.std.proofs.Common.{◌≡◌, ℕ, ◌+◌, ◌<◌, ◌≤◌, Bool, true, false, cond, ◌==◌, List, [], ◌∷◌, ◌++◌, length, get_or, drop, Some, None, refl, sym, ap, ap₂, ◌∙◌, arith, drop-drop}
 use Rattle.std.proofs.lemmas.List.{drop_more, drop_all}
 use Rattle.std.proofs.lemmas.Bool.{eqb-true}
@@ -35,7 +35,7 @@ behind_none text at past = ap text_behind (drop_all at text past)
 plain_step : (b : ℕ) → is_plain b ≡ true → ((b == 34) ≡ false) × (width b ≡ 1)
 plain_step b e = (grind (arith, nat_tests), grind (arith, nat_tests))
 
--- a text ends where it is read to end
+-- a text literal ends where reading finds its end
 pub covered_behind : {body : List ℕ} → Covered body → (rest : List ℕ) → text_behind (body ++ 34 ∷ rest) ≡ Some rest
 covered_behind nothing rest = one 34 rest
 covered_behind (plain {b = b} {bs = bs} e h) rest =

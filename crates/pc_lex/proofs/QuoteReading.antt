@@ -1,4 +1,4 @@
--- What is read where a quote stands is a text or a doc, and where none is read none stands.
+-- If there is a quote, what is read is a text literal or a doc, and if none is read there is none.
 use Rattle.std.proofs.Common.{◌≡◌, ℕ, ◌+◌, ◌-◌, ◌≤◌, true, false, List, [], ◌∷◌, ◌++◌, length, take, drop, Option, Some, None, Result, Ok, Err, refl, sym, ap, ap₂, ◌∙◌, subst, inl, inr, ◌⊎◌, arith, length-append, append_assoc, take_at}
 use Rattle.std.proofs.lemmas.Bool.{true≢false}
 use Rattle.pc_token.specs.declared.kinds.TokenKind.{TokenKind}
@@ -20,7 +20,7 @@ use Rattle.std.proofs.lemmas.Option.{same_Some}
 ok_err : {A B : Type 0} {x : A} {y : B} → Ok x ≡ Err y → ⊥
 ok_err e = cc
 
--- a doc in front of a text is read to its end
+-- a doc at the start of a text is read to its end
 pub doc_found : (text g rest : List ℕ) → text ≡ g ++ rest → DocBytes g → doc_behind (drop 3 text) ≡ Some rest
 doc_found text g rest same (t, e, ends) =
     let cut : drop 3 text ≡ t ++ rest = ap (λ l. drop 3 l) (same ∙ ap (λ l. l ++ rest) e) in
@@ -31,13 +31,13 @@ doc_whole text rest d e =
     let s = doc_split (doc_ends (drop 3 text) rest e) in
     (34 ∷ 34 ∷ 34 ∷ s.0, whole text d ∙ ap (λ l. 34 ∷ 34 ∷ 34 ∷ l) s.1, (s.0, refl, s.2))
 
--- a text literal in front of a text is read to its end
+-- a text literal at the start of a text is read to its end
 pub text_found : (text g rest v : List ℕ) → text ≡ g ++ rest → TextBytes g v → text_behind (drop 1 text) ≡ Some rest
 text_found text g rest v same (body, e, w) =
     let cut : drop 1 text ≡ body ++ 34 ∷ rest = ap (λ l. drop 1 l) (same ∙ ap (λ l. l ++ rest) e) ∙ append_assoc body (34 ∷ []) rest in
     ap text_behind cut ∙ covered_behind (written_covered v body w) rest
 
--- where a doc begins, a text literal is two quotes
+-- if a doc begins, a text literal there is just two quotes
 short_body : (text body rest : List ℕ) → begins_doc text ≡ true → text ≡ 34 ∷ (body ++ 34 ∷ rest) → Covered body → length body ≡ 0
 short_body text [] rest d e h = refl
 short_body text (c ∷ bs) rest d e h =
@@ -77,7 +77,7 @@ pub right_doc : (text : List ℕ) → begins_doc text ≡ true → first_blank t
 unfolding doc_at
 right_doc text d blank line opens = right_doc_or text (doc_behind (drop 3 text)) refl d blank line opens
 
--- where a quote stands and no doc begins, a token is a text that ends where it is read to end
+-- if there is a quote and no doc begins, a token is a text literal that ends where reading finds its end
 only_text : (text g rest : List ℕ) (other : TokenKind) → begins_doc text ≡ false → text ≡ g ++ rest → ((v : List ℕ) × (other ≡ kinds.Text v) × TextBytes g v) ⊎ ((other ≡ kinds.Doc) × DocBytes g)
     → (v : List ℕ) × TextBytes g v × (text_behind (drop 1 text) ≡ Some rest)
 only_text text g rest other d same (inl (v, kind, bytes)) = (v, bytes, text_found text g rest v same bytes)
@@ -113,7 +113,7 @@ module _ (text body rest : List ℕ) (whole_text : text ≡ 34 ∷ (body ++ 34 �
       let count : length text - length rest ≡ length (34 ∷ (body ++ 34 ∷ [])) = omega (arith, size, length-append body (34 ∷ [])) in
       ap₂ (λ m l. take m l) count parts ∙ take_at (34 ∷ (body ++ 34 ∷ [])) rest (length (34 ∷ (body ++ 34 ∷ []))) refl
 
-  -- another text literal in front of the text is the same
+  -- any text literal at the start of the text is the same
   one_end : (g more : List ℕ) → text ≡ g ++ more → text_behind (drop 1 text) ≡ Some more → (more ≡ rest) × (length g ≡ length text - length rest)
   one_end g more same is =
       let one : more ≡ rest = same_Some more rest (sym is ∙ behind_is) in

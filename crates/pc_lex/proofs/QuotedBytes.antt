@@ -1,4 +1,4 @@
--- What a text or a doc needs to be the longest token.
+-- What makes a text literal or a doc the longest token.
 use Rattle.std.proofs.Common.{◌≡◌, ℕ, ◌≤◌, Bool, true, false, cond, ◌&&◌, ◌==◌, List, [], ◌∷◌, ◌++◌, length, drop, Some, refl, sym, ap, ap₂, ◌∙◌, subst, inl, inr, arith}
 use Rattle.std.proofs.lemmas.Bool.{true≢false, and_parts, eqb-true}
 use Rattle.std.specs.Prelude.{nat_eq}
@@ -16,7 +16,7 @@ writes_covered one rest v (inl h) more = subst (λ l. Covered (l ++ rest)) (sym 
 writes_covered one rest v (inr (inl h)) more = subst (λ l. Covered (l ++ rest)) (sym h.1) (covered more)
 writes_covered one rest v (inr (inr h)) more = subst (λ l. Covered (l ++ rest)) (sym h.2) (covered (plain (hex_plain h.0 h.3) (plain (hex_plain h.1 h.4) more)))
 
--- what has a value ends where `"` is not covered
+-- what has a value ends at the first `"` that is not escaped
 pub written_covered : (vs b : List ℕ) → Written b vs → Covered b
 written_covered [] b h = subst Covered (sym h) nothing
 written_covered (v ∷ vs) b h = subst Covered (sym h.2) (writes_covered h.0 h.1 v h.3 (written_covered vs h.1 h.4))
@@ -64,7 +64,7 @@ unfolding doc_behind
 doc_ends [] rest e = let bad : ⊥ = cc in absurd bad
 doc_ends (b ∷ bs) rest e = doc_step b bs rest (begins_doc (b ∷ bs)) refl e (doc_ends bs rest)
 
--- a doc that ends is one without what follows
+-- a doc that ends is one without what follows it
 pub doc_split : {text rest : List ℕ} → DocEnds text rest → (pre : List ℕ) × (text ≡ pre ++ rest) × DocEnds pre []
 doc_split ends = (34 ∷ 34 ∷ 34 ∷ [], refl, ends)
 doc_split (other {b = b} {rest = rest} e h) =
@@ -81,7 +81,7 @@ covered_first (covered h) = refl
 unquoted_flip : (b : ℕ) → (b == 34) ≡ false → nat_eq 34 b ≡ false
 unquoted_flip b e = grind (arith, nat_tests)
 
--- where no quote stands, no doc begins
+-- if there is no quote, no doc begins
 pub no_doc : (text : List ℕ) → first_test is_quote text ≡ false → begins_doc text ≡ false
 unfolding begins_doc
 no_doc [] e = refl

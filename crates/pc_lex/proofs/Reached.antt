@@ -59,7 +59,7 @@ bytes_are : (f : Found) (b : List ℕ) → bytes_of (piece_of f b) ≡ b
 bytes_are found.Gap b = refl
 bytes_are (found.Token kind) b = refl
 
--- the reading at a place, said by the definition
+-- reading at a place, by the definition
 pub right_at : (text : List ℕ) (at : ℕ) → at < length text → Right (drop at text) (piece_at (drop at text))
 right_at text at within = piece_right (drop at text) (omega (arith, length-drop at text))
 

@@ -63,7 +63,7 @@ pub written_on : (body vs : List ℕ) (at : ℕ) (x : ℕ × ℕ) → Written (t
 written_on body vs at x h got =
     subst (λ l. Written l (vs ++ x.0 ∷ [])) (sym (take-add at x.1 body)) (written_add vs (take at body) (take x.1 (drop at body)) x.0 h (byte_sound (drop at body) x got))
 
--- one byte is written in one way
+-- one byte is spelled in only one way
 writes_one : (one two r s : List ℕ) (v w : ℕ) → one ++ r ≡ two ++ s → Writes one v → Writes two w → (one ≡ two) × (v ≡ w) × (r ≡ s)
 writes_one one two r s v w e h i =
     let same = same_Some (v, length one) (w, length two) (sym (byte_read one r v h) ∙ ap byte_at e ∙ byte_read two s w i) in
@@ -84,7 +84,7 @@ written_one (v ∷ vs) (w ∷ ws) b h i =
     let same = writes_one h.0 i.0 h.1 i.1 v w (sym h.2 ∙ i.2) h.3 i.3 in
     ap₂ (λ x xs. x ∷ xs) same.1 (written_one vs ws h.1 h.4 (subst (λ l. Written l ws) (sym same.2) i.4))
 
--- what is written is read, whatever the turns, if they are enough
+-- what is spelled is read, with any sufficient bound on the recursion
 value_step : (n : ℕ) (b one rest : List ℕ) (v : ℕ) → length b ≤ n → b ≡ one ++ rest → Writes one v → (m : ℕ) × (n ≡ suc m) × (length rest ≤ m) × (unescape_in n b ≡ with_first (v, length one) (unescape_in m rest))
 value_step zero b one rest v enough e w = let some = writes_some one v w in absurd (omega (arith, some, enough, ap length e, length-append one rest))
 value_step (suc m) [] one rest v enough e w = let some = writes_some one v w in absurd (omega (arith, some, ap length e, length-append one rest))
@@ -133,7 +133,7 @@ gives_value body (Err (fault.BadEscape at)) ok err =
     bad_in err.0 (take at body) (drop at body) body (length body) (omega arith) (sym (take-append-drop at body)) err.1 (omega (arith, length-drop at body, err.2)) err.3 ∙ ap Err len
 gives_value body (Err fault.Memory) ok err = tt
 
--- the place of a bad escape is within
+-- the place of a bad escape is below the length
 pub bad_within : (body : List ℕ) (r : Result (List ℕ) EscapeFault) → IfErr r (λ f. IsBadEscape body f) → IfErr r (EscapeWithin (length body))
 bad_within body (Ok v) err = err
 bad_within body (Err (fault.BadEscape at)) err = err.2
@@ -172,12 +172,12 @@ pub read_right : (b : List ℕ) → IsRead b (unescape b)
 unfolding unescape
 read_right b = read_in (length b) b (omega arith)
 
--- bytes with a value are read as it
+-- bytes with a value are read as that value
 pub value_read : (b vs : List ℕ) → Written b vs → unescape b ≡ Ok vs
 unfolding unescape
 value_read b vs h = value_in vs b (length b) (omega arith) h
 
--- the first bad escape is read
+-- the first bad escape is found
 pub bad_read : (b : List ℕ) (at : ℕ) → BadAt b at → unescape b ≡ Err at
 unfolding unescape
 bad_read b at h =

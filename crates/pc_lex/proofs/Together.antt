@@ -25,7 +25,7 @@ use Rattle.pc_lex.proofs.Reached.{Sofar, starts_so, goes_on, nearer, ends_so, st
 use Rattle.pc_lex.proofs.PieceRight.{Right}
 use Rattle.pc_lex.proofs.QuotedBytes.{doc_quote}
 
--- one token more than the pieces are
+-- there is one more token than pieces that are tokens
 made_count : (ps : List Piece) (at : ℕ) (first : Bool) → length (tokens_of at first ps) ≡ count ps + 1
 made_count [] at first = refl
 made_count (gap b ∷ ps) at first = made_count ps _ _
@@ -38,7 +38,7 @@ count_step p q ps qs e less = subst (λ x. count (p ∷ ps) < count (x ∷ qs)) 
     same (gap b) ps qs less = less
     same (token kind b) ps qs less = omega (arith, less)
 
--- where a token stands, the whole text has more tokens than came before
+-- if there is a token, the whole text has more tokens than came before
 module _ (kind : TokenKind) (b rest : List ℕ) (is : IsToken kind b rest) where
   more_tokens : (ps qs : List Piece) (text : List ℕ) → Pieces text ps (b ++ rest) → Pieces text qs [] → count ps < count qs
   more_tokens [] [] text h i = let some = spelled_some kind b is.spelled in absurd (omega (arith, some, ap length h, ap length i, length-append b rest))
@@ -135,7 +135,7 @@ list_told text at first ts past so =
     let end = record { kind = kinds.End; first = first; span = record { start = at; end = at } } ∷ [] in
     inl (ts ++ end, (ends_so text at first ts past so, omega (arith, so.few, length-append ts end)))
 
--- The number bounds the turns.
+-- The number bounds the recursion.
 told_from : (n : ℕ) (text : List ℕ) (at : ℕ) (first : Bool) (ts : List Token) → length text - at ≤ n → Sofar text at first ts → Either text
 told_from zero text at first ts enough so = list_told text at first ts (omega (arith, enough)) so
 told_from (suc n) text at first ts enough so =
@@ -168,7 +168,7 @@ pub is_answer : (text : List ℕ) (result : Result (List Token) LexFault) → If
 is_answer text (Ok ts) ok err = ok
 is_answer text (Err f) ok err = err
 
--- the list within the limit is the answer
+-- the list within the limit is returned
 pub answers_list : (text : List ℕ) (result : Result (List Token) LexFault) (ts : List Token) → IsAnswer text result → TokenList text ts → Answers result (Ok ts)
 answers_list text (Ok other) ts right h = inl (ap Ok (tokens_one text other ts right.0 h.0))
 answers_list text (Err f) ts right h = list_or (Err f) text f ts h (refused (Err f) text f refl right)
@@ -177,7 +177,7 @@ fault_or : (result : Result (List Token) LexFault) (text : List ℕ) (f g : LexF
 fault_or result text f g e h (inl memory) = inr memory
 fault_or result text f g e h (inr i) = inl (e ∙ ap Err (fault_one text f g i h))
 
--- the first fault is the answer
+-- the first fault is returned
 pub answers_fault : (text : List ℕ) (result : Result (List Token) LexFault) (g : LexFault) → IsAnswer text result → FirstFault text g → Answers result (Err g)
 answers_fault text (Ok ts) g right h = absurd (never_both text ts g right h)
 answers_fault text (Err f) g right h = fault_or (Err f) text f g refl h (refused (Err f) text f refl right)

@@ -12,7 +12,7 @@ use Rattle.pc_lex.specs.Pieces.{NameText}
 use Rattle.pc_lex.specs.Reading.{tail_len, letter_len, name_len, is_type}
 use Rattle.pc_lex.proofs.NameReading.{name_sound, head_test}
 
--- the whole text is a name, and none of a type
+-- the whole text is a name, and not a type name
 abbrev small_name : List ℕ → Bool
 small_name b = nat_lt 0 (name_len b) && (nat_eq (name_len b) (length b) && not (is_type b))
 

@@ -1,4 +1,4 @@
--- What may be answered.
+-- What lexing may return.
 use Rattle.std.specs.Prelude.{◌≡◌, ◌≤◌, ◌+◌, ℕ, List, length, Result, Err, ◌⊎◌, ⊤}
 use Rattle.pc_token.specs.declared.kinds.Token.{Token}
 use Rattle.pc_lex.specs.declared.fault.LexFault.{LexFault}
@@ -6,15 +6,15 @@ use Rattle.pc_lex.specs.declared.fault.LexFault.TheVariants as fault
 use Rattle.pc_lex.specs.Limits.{token_limit}
 use Rattle.pc_lex.specs.Pieces.{Tokens, FirstFault}
 
--- The list is the tokens of the text with `End`, and they are not too many.
+-- The list is the tokens of the text with `End`, and there are not too many of them.
 abbrev pub TokenList : List ℕ → List Token → Type 0
 TokenList text ts = Tokens text ts × (length ts ≤ token_limit + 1)
 
--- The fault is the text's first, or memory ran out.
+-- The fault is the first of the text, or memory ran out.
 abbrev pub Refuses : List ℕ → LexFault → Type 0
 Refuses text fault.Memory = ⊤
 Refuses text f = FirstFault text f
 
--- The answer is this one, or memory ran out.
+-- The result is this answer, or memory ran out.
 abbrev pub Answers : Result (List Token) LexFault → Result (List Token) LexFault → Type 0
 Answers result wanted = (result ≡ wanted) ⊎ (result ≡ Err fault.Memory)

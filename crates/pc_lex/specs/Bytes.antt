@@ -1,4 +1,4 @@
--- Sets of bytes, and how a text may begin.
+-- Classes of bytes, and how a text may begin.
 use Rattle.std.specs.Prelude.{ℕ, Bool, false, not, ◌||◌, ◌==◌, nat_eq, List, [], ◌∷◌}
 use Rattle.std.specs.Char.{is_ascii_digit, is_ascii_lowercase, is_ascii_uppercase}
 use Rattle.std.specs.List.{starts_with}
@@ -18,15 +18,15 @@ is_tail b = is_letter b || is_ascii_digit b || b == 95
 abbrev pub is_prime : ℕ → Bool
 is_prime b = b == 39
 
--- what may not follow a number at once
+-- what may not come directly after a number
 abbrev pub is_joined : ℕ → Bool
 is_joined b = is_tail b || is_prime b
 
--- every byte but LF
+-- every byte except LF
 abbrev pub is_line : ℕ → Bool
 is_line b = not (b == 10)
 
--- whether a text begins with a byte of a set
+-- whether a text begins with a byte of a class
 abbrev pub first_test : (ℕ → Bool) → List ℕ → Bool
 first_test p [] = false
 first_test p (b ∷ bs) = p b

@@ -8,7 +8,7 @@ abbrev pub IsBadEscape : List ℕ → EscapeFault → Type 0
 IsBadEscape b (fault.BadEscape at) = BadAt b at
 IsBadEscape b fault.Memory = ⊤
 
--- What a function returned is what is read, unless memory ran out.
+-- The function returned what the definition reads, or memory ran out.
 abbrev pub GivesValue : Result (List ℕ) EscapeFault → Result (List ℕ) ℕ → Type 0
 GivesValue (Ok v) read = read ≡ Ok v
 GivesValue (Err (fault.BadEscape at)) read = read ≡ Err at

@@ -1,4 +1,4 @@
--- The laws on token lists and faults, and what reading one piece tells.
+-- Laws of token lists and faults, and what reading one piece means.
 use Rattle.std.specs.Prelude.{◌≡◌, ℕ, List, ◌⊎◌}
 use Rattle.pc_token.specs.declared.kinds.Token.{Token}
 use Rattle.pc_lex.specs.declared.fault.LexFault.{LexFault}
@@ -14,11 +14,11 @@ OneList = (text : List ℕ) (one other : List Token) → Tokens text one → Tok
 abbrev pub ListOrFault : Type 0
 ListOrFault = (text : List ℕ) → ((tokens : List Token) × TokenList text tokens) ⊎ ((f : LexFault) × FirstFault text f)
 
--- It has not both.
+-- It does not have both.
 abbrev pub NotBoth : Type 0
 NotBoth = (text : List ℕ) (tokens : List Token) (f : LexFault) → TokenList text tokens → FirstFault text f → ⊥
 
--- With a fault other than the number of tokens it has no token list, however long.
+-- A text with a fault other than the number of tokens has no token list, however long.
 abbrev pub NoList : Type 0
 NoList = (text : List ℕ) (tokens : List Token) (f : LexFault) → ((p : ℕ) → f ≡ fault.TooMany p → ⊥) → Tokens text tokens → FirstFault text f → ⊥
 

@@ -5,6 +5,6 @@ use Rattle.std.specs.Prelude.{ℕ}
 abbrev pub bytes_limit : ℕ
 bytes_limit = 1048576
 
--- how many tokens a text may have, its end not counted
+-- how many tokens a text may have, not counting its end
 abbrev pub token_limit : ℕ
 token_limit = 200000

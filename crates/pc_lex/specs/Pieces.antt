@@ -1,7 +1,7 @@
--- What the token list of a text is, and its first fault where it has none.
+-- The token list of a text, and its first fault if it has none.
 --
--- A text is cut into pieces, each a blank, a comment, or the longest token that begins there. Its tokens follow from
--- the pieces.
+-- A text is cut into pieces: blanks, comments, and at each place the longest token that begins there. The pieces
+-- determine the tokens.
 use Rattle.std.specs.Prelude.{◌≡◌, ℕ, ◌+◌, ◌*◌, ◌<◌, ◌≤◌, ◌^◌, Bool, true, false, ◌||◌, ◌==◌, List, [], ◌∷◌, ◌++◌, length, ◌⊎◌, ⊤}
 use Rattle.std.specs.List.{list_all, list_any}
 use Rattle.std.specs.Char.{is_ascii_digit, is_ascii_lowercase, is_ascii_uppercase, is_digit, digit_value}
@@ -17,7 +17,7 @@ use Rattle.pc_lex.specs.Limits.{token_limit}
 use Rattle.pc_lex.specs.Texts.{is_quote, TextBytes, DocBytes, begins_doc, NeverEnds, BadEscapeIn}
 use Rattle.pc_lex.specs.Bytes.{is_blank, is_tail, is_prime, is_line, begins, begins_comment, open_mark, close_mark, hex_mark, bin_mark, is_joined, first_test}
 
--- A letter of this case, before it one `_` or nothing, behind it letters, digits and `_`, and at the end `'`s.
+-- At most one `_`, a letter of this case, then letters, digits and `_`, and finally any number of `'`.
 pub record NameText (is_head : ℕ → Bool) (text : List ℕ) : Type 0 where
   pub under : List ℕ
   pub head : ℕ
@@ -29,17 +29,17 @@ pub record NameText (is_head : ℕ → Bool) (text : List ℕ) : Type 0 where
   pub tails : list_all is_tail tail ≡ true
   pub ends : list_all is_prime primes ≡ true
 
--- The bytes are those of no reserved word.
+-- The bytes are no reserved word.
 abbrev pub NoWord : List ℕ → Type 0
 NoWord b = (word : Word) → b ≡ word_text word → ⊥
 
--- Digits of a base, with at most one `_` between two of them, and what each stands for.
+-- Digits of a base, with at most one `_` between any two, and their values.
 pub data Digits (base : ℕ) : List ℕ → List ℕ → Type 0 where
   one : {b : ℕ} → is_digit b base ≡ true → Digits base (b ∷ []) (digit_value b ∷ [])
   next : {b : ℕ} {bs ds : List ℕ} → is_digit b base ≡ true → Digits base bs ds → Digits base (b ∷ bs) (digit_value b ∷ ds)
   spaced : {b : ℕ} {bs ds : List ℕ} → is_digit b base ≡ true → Digits base bs ds → Digits base (b ∷ 95 ∷ bs) (digit_value b ∷ ds)
 
--- the number that digits make behind those that made acc
+-- the number whose first digits give acc and whose next digits are these
 abbrev pub value : (base so_far : ℕ) → List ℕ → ℕ
 value base acc [] = acc
 value base acc (d ∷ ds) = value base (acc * base + d) ds
@@ -47,7 +47,7 @@ value base acc (d ∷ ds) = value base (acc * base + d) ds
 abbrev pub DigitsOf : ℕ → List ℕ → ℕ → Type 0
 DigitsOf base b n = (ds : List ℕ) × Digits base b ds × (n ≡ value base 0 ds)
 
--- decimal digits, or `0x` and hexadecimal ones of either case, or `0b` and binary ones
+-- decimal digits, or `0x` and hexadecimal digits of either case, or `0b` and binary digits
 abbrev pub NumberText : List ℕ → ℕ → Type 0
 NumberText b n = DigitsOf 10 b n ⊎ (((t : List ℕ) × (b ≡ hex_mark ++ t) × DigitsOf 16 t n) ⊎ ((t : List ℕ) × (b ≡ bin_mark ++ t) × DigitsOf 2 t n))
 
@@ -62,7 +62,7 @@ Spells kinds.Doc b = DocBytes b
 Spells (kinds.Sign sign) b = b ≡ sign_text sign
 Spells kinds.End b = ⊥
 
--- From within a comment at the first text, its `*/` ends before the second. A comment within it ends first.
+-- The first text begins inside a comment, and the second begins after the `*/` that ends it. Comments nest.
 pub data Closes : List ℕ → List ℕ → Type 0 where
   close : {rest : List ℕ} → Closes (42 ∷ 47 ∷ rest) rest
   inner : {text mid rest : List ℕ} → Closes text mid → Closes mid rest → Closes (47 ∷ 42 ∷ text) rest
@@ -73,20 +73,20 @@ abbrev pub AtLineEnd : List ℕ → Type 0
 AtLineEnd [] = ⊤
 AtLineEnd (b ∷ bs) = b ≡ 10
 
--- one blank, a `//` up to the end of its line, or a `/*` to its `*/`, before the rest
+-- one blank, a `//` comment up to the end of its line, or a `/*` comment up to its `*/`, before the rest
 abbrev pub IsGap : List ℕ → List ℕ → Type 0
 IsGap b rest =
     ((c : ℕ) × (b ≡ c ∷ []) × (is_blank c ≡ true))
     ⊎ (((t : List ℕ) × (b ≡ 47 ∷ 47 ∷ t) × (list_all is_line t ≡ true) × AtLineEnd rest)
     ⊎ ((t : List ℕ) × (b ++ rest ≡ 47 ∷ 42 ∷ t) × Closes t rest))
 
--- A number is not followed at once by a letter, a digit, `_` or `'`.
+-- A number is not directly followed by a letter, a digit, `_` or `'`.
 abbrev pub EndsWell : TokenKind → List ℕ → Type 0
 EndsWell (kinds.Number n) rest = first_test is_joined rest ≡ false
 EndsWell _ rest = ⊤
 
--- A token before the rest: no longer prefix of what is left is a token. `//` and `/*` begin no token, and `"""` begins
--- none but a doc.
+-- A token before the rest: no longer prefix of the text from here on is a token. `//` and `/*` begin no token, and
+-- `"""` begins only a doc.
 pub record IsToken (kind : TokenKind) (b rest : List ℕ) : Type 0 where
   pub spelled : Spells kind b
   pub longest : (other : TokenKind) (more after : List ℕ) → b ++ rest ≡ more ++ after → Spells other more → length more ≤ length b
@@ -94,7 +94,7 @@ pub record IsToken (kind : TokenKind) (b rest : List ℕ) : Type 0 where
   pub doc : begins_doc (b ++ rest) ≡ true → kind ≡ kinds.Doc
   pub ends : EndsWell kind rest
 
--- a blank or a comment, or a token with its kind, and the bytes
+-- a blank or a comment, or a token of some kind, with its bytes
 pub data Piece : Type 0 where
   gap : List ℕ → Piece
   token : TokenKind → List ℕ → Piece
@@ -107,7 +107,7 @@ abbrev pub IsPiece : Piece → List ℕ → Type 0
 IsPiece (gap b) rest = IsGap b rest
 IsPiece (token kind b) rest = IsToken kind b rest
 
--- The text is cut into these pieces, and the rest.
+-- The text is cut into these pieces and the rest.
 abbrev pub Pieces : List ℕ → List Piece → List ℕ → Type 0
 Pieces text [] rest = text ≡ rest
 Pieces text (p ∷ ps) rest = (mid : List ℕ) × (text ≡ bytes_of p ++ mid) × IsPiece p mid × Pieces mid ps rest
@@ -115,13 +115,13 @@ Pieces text (p ∷ ps) rest = (mid : List ℕ) × (text ≡ bytes_of p ++ mid) �
 abbrev pub has_line_end : List ℕ → Bool
 has_line_end b = list_any (λ c. c == 10) b
 
--- The tokens of the pieces, from a place on; `first`: whether a token here would be first on its line.
+-- The tokens of the pieces, from an offset on; `first`: whether a token here would be first on its line.
 abbrev pub tokens_of : ℕ → Bool → List Piece → List Token
 tokens_of at first [] = record { kind = kinds.End; first = first; span = record { start = at; end = at } } ∷ []
 tokens_of at first (gap b ∷ ps) = tokens_of (at + length b) (first || has_line_end b) ps
 tokens_of at first (token kind b ∷ ps) = record { kind = kind; first = first; span = record { start = at; end = at + length b } } ∷ tokens_of (at + length b) false ps
 
--- The list is the tokens of the text, with `End` last. There is no limit on their number.
+-- The list is the tokens of the text, with `End` last. Their number is not limited.
 abbrev pub Tokens : List ℕ → List Token → Type 0
 Tokens text ts = (ps : List Piece) × Pieces text ps [] × (ts ≡ tokens_of 0 true ps)
 
@@ -131,18 +131,18 @@ count [] = 0
 count (gap b ∷ ps) = count ps
 count (token kind b ∷ ps) = 1 + count ps
 
--- With no piece does the text begin.
+-- The text begins with no piece.
 abbrev pub NoPiece : List ℕ → Type 0
 NoPiece text = (p : Piece) (rest : List ℕ) → text ≡ bytes_of p ++ rest → IsPiece p rest → ⊥
 
--- A comment begins here, or a doc, or a text literal that no `"` ends.
+-- The text begins with a comment, a doc, or a text literal that no `"` ends.
 abbrev pub Opens : List ℕ → Type 0
 Opens text =
     (begins text open_mark ≡ true)
     ⊎ ((begins_doc text ≡ true)
     ⊎ ((begins_doc text ≡ false) × (first_test is_quote text ≡ true) × NeverEnds text))
 
--- The fault of a text with which no piece begins, and its place: a comment, text or doc that does not end, digits that
+-- The fault of a text that begins with no piece, and its place: a comment, text or doc that does not end, digits that
 -- are no number, a text with a bad escape, or another byte.
 abbrev pub Faulty : List ℕ → ℕ → LexFault → Type 0
 Faulty text at (fault.BadByte p) = (p ≡ at) × NoPiece text × (0 < length text) × (begins text open_mark ≡ false) × (first_test is_ascii_digit text ≡ false) × (first_test is_quote text ≡ false)
@@ -152,15 +152,15 @@ Faulty text at (fault.BadEscape p) = (offset : ℕ) × (p ≡ at + offset) × No
 Faulty text at (fault.TooMany p) = ⊥
 Faulty text at fault.Memory = ⊥
 
--- Whole pieces, at most so many tokens among them, and then a faulty place.
+-- Whole pieces, at most the limit of tokens among them, and then a fault.
 abbrev pub FaultBehind : List ℕ → LexFault → Type 0
 FaultBehind text f = (ps : List Piece) × (rest : List ℕ) × (at : ℕ) × Pieces text ps rest × (count ps ≤ token_limit) × (at + length rest ≡ length text) × Faulty rest at f
 
--- Whole pieces, as many tokens among them as there may be, and then a token more.
+-- Whole pieces, the greatest number of tokens among them, and then one more token.
 abbrev pub TokenBehind : List ℕ → ℕ → Type 0
 TokenBehind text p = (ps : List Piece) × (kind : TokenKind) × (b rest : List ℕ) × Pieces text ps (b ++ rest) × IsToken kind b rest × (count ps ≡ token_limit) × (p + length (b ++ rest) ≡ length text)
 
--- The first fault of a text. Want of memory is none.
+-- The first fault of a text. Running out of memory is not one.
 abbrev pub FirstFault : List ℕ → LexFault → Type 0
 FirstFault text (fault.TooMany p) = TokenBehind text p
 FirstFault text f = FaultBehind text f

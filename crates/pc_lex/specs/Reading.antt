@@ -1,4 +1,4 @@
--- How the piece with which a text begins is read.
+-- How the first piece of a text is read.
 use Rattle.std.specs.Prelude.{ℕ, zero, suc, ◌+◌, ◌-◌, ◌*◌, ◌^◌, nat_lt, Bool, true, false, ◌&&◌, ◌||◌, ◌==◌, List, [], ◌∷◌, length, take, drop, slice_index, Option, Some, None, Result, Ok, Err, if◌then◌else◌, ◌≡◌, ◌<◌, ◌≤◌, ◌++◌, ⊤}
 use Rattle.std.specs.List.{prefix_len}
 use Rattle.std.specs.Char.{is_ascii_uppercase, is_ascii_digit, is_digit, digit_value}
@@ -39,12 +39,12 @@ abbrev pub under_len : ℕ → ℕ
 under_len zero = 0
 under_len (suc n) = suc n + 1
 
--- the length of the name with which a text begins, or 0
+-- the length of the name that begins the text, or 0
 unfoldable pub name_len : List ℕ → ℕ
 name_len [] = 0
 name_len (b ∷ bs) = if b == 95 then under_len (letter_len bs) else letter_len (b ∷ bs)
 
--- whether a name is one of a type
+-- whether a name is a type name
 unfoldable pub is_type : List ℕ → Bool
 is_type [] = false
 is_type (b ∷ []) = is_ascii_uppercase b
@@ -57,7 +57,7 @@ word_kind b (Some w) = kinds.Word w
 unfoldable pub name_kind : List ℕ → TokenKind
 name_kind b = if is_type b then kinds.TypeName b else word_kind b (word_of b)
 
--- the rest behind the end of so many comments
+-- the text after the ends of this number of nested comments
 unfoldable pub behind : ℕ → List ℕ → Option (List ℕ)
 behind zero text = Some text
 behind (suc n) [] = None
@@ -82,12 +82,12 @@ unfoldable pub digits_len : ℕ → List ℕ → ℕ
 digits_len base [] = 0
 digits_len base (b ∷ bs) = if is_digit b base then 1 + more_len base bs else 0
 
--- the number of bytes that are digits and `_`
+-- the number denoted by bytes that are digits and `_`
 abbrev pub value_of : (base so_far : ℕ) → List ℕ → ℕ
 value_of base acc [] = acc
 value_of base acc (b ∷ bs) = if b == 95 then value_of base acc bs else value_of base (acc * base + digit_value b) bs
 
--- the base of a number, and the length of its mark
+-- the base of a number, and the length of its prefix
 unfoldable pub base_at : List ℕ → ℕ × ℕ
 base_at text = if begins text hex_mark && first_test (λ b. is_digit b 16) (drop 2 text) then (16, 2) else (if begins text bin_mark && first_test (λ b. is_digit b 2) (drop 2 text) then (2, 2) else (10, 0))
 
@@ -112,7 +112,7 @@ abbrev pub value_or : ℕ → Result (List ℕ) ℕ → Result (Found × ℕ) Le
 value_or n (Ok value) = Ok (found.Token (kinds.Text value), n)
 value_or n (Err at) = Err (stop.BadEscape (1 + at))
 
--- the bytes between two quotes of so many bytes in all
+-- the bytes between the two quotes of a literal of this length
 abbrev pub between : List ℕ → ℕ → List ℕ
 between text n = take (n - 2) (drop 1 text)
 
@@ -126,7 +126,7 @@ text_at text = text_or text (text_behind (drop 1 text))
 unfoldable pub doc_at : List ℕ → Result (Found × ℕ) LexStop
 doc_at text = doc_or text (doc_behind (drop 3 text))
 
--- the piece with which a text begins, and its length
+-- the piece with which the text begins, and its length
 unfoldable pub piece_at : List ℕ → Result (Found × ℕ) LexStop
 piece_at [] = Err stop.BadByte
 piece_at (b ∷ bs) =
@@ -138,7 +138,7 @@ piece_at (b ∷ bs) =
     else (if is_quote b then text_at (b ∷ bs)
     else name_or_sign (b ∷ bs) (name_len (b ∷ bs)))))))
 
--- where the fault stands is within so many bytes
+-- the offset of a bad escape is below n
 abbrev pub StopWithin : ℕ → LexStop → Type 0
 StopWithin n (stop.BadEscape offset) = offset < n
 StopWithin n _ = ⊤
@@ -147,12 +147,12 @@ abbrev pub Fails : {Y : Type 0} → LexStop → Result Y LexStop → Type 0
 Fails stop.Memory read = Unit {0}
 Fails e read = read ≡ Err e
 
--- What a function returned is what is read, unless memory ran out.
+-- The function returned what the definition reads, or memory ran out.
 abbrev pub Gives : {Y : Type 0} → Result Y LexStop → Result Y LexStop → Type 0
 Gives (Ok x) read = read ≡ Ok x
 Gives (Err e) read = Fails e read
 
--- One piece more: where it ends, whether a token there would be first on its line, and the tokens.
+-- After one more piece: where it ends, whether a token there would be first on its line, and the tokens.
 abbrev pub step_of : List ℕ → ℕ → Bool → List Token → Found × ℕ → (ℕ × Bool) × List Token
 step_of text at first ts (found.Gap, n) = ((at + n, first || has_line_end (take n (drop at text))), ts)
 step_of text at first ts (found.Token kind, n) = ((at + n, false), ts ++ record { kind = kind; first = first; span = record { start = at; end = at + n } } ∷ [])
@@ -161,16 +161,16 @@ abbrev pub is_gap : Found → Bool
 is_gap found.Gap = true
 is_gap (found.Token kind) = false
 
--- the step that was made
+-- the step was made
 abbrev pub Steps : List ℕ → ℕ → Bool → List Token → List Token → ℕ × Bool → Type 0
 Steps text at first old new r = (x : Found × ℕ) × (piece_at (drop at text) ≡ Ok x) × ((r, new) ≡ step_of text at first old x) × (is_gap x.0 ≡ false → length old < token_limit)
 
--- Blanks are passed from a place on up to another one, and whether a token there would be first on its line.
+-- The blanks from one place up to another are skipped, and whether a token there would be first on its line.
 pub data Passes (text : List ℕ) (start : ℕ) (begins_line : Bool) : ℕ → Bool → Type 0 where
   stays : Passes text start begins_line start begins_line
   blank : {at : ℕ} {first : Bool} → Passes text start begins_line at first → at < length text → is_blank (slice_index text at) ≡ true → Passes text start begins_line (at + 1) (first || slice_index text at == 10)
 
--- the fault of a step
+-- the step has this fault
 abbrev pub Stuck : List ℕ → ℕ → List Token → LexFault → Type 0
 Stuck text at old (fault.BadByte p) = (p ≡ at) × (piece_at (drop at text) ≡ Err stop.BadByte)
 Stuck text at old (fault.BadNumber p) = (p ≡ at) × (piece_at (drop at text) ≡ Err stop.BadNumber)

@@ -5,7 +5,7 @@ use Rattle.pc_lex.specs.declared.texts.EscapeFault.{EscapeFault}
 use Rattle.pc_lex.specs.declared.texts.EscapeFault.TheVariants as fault
 use Rattle.pc_lex.specs.Texts.{is_plain, escape_of, begins_doc}
 
--- the rest behind the next `"` that no `\` covers
+-- the text after the next `"` that is not escaped by a `\`
 unfoldable pub text_behind : List ℕ → Option (List ℕ)
 text_behind [] = None
 text_behind (b ∷ []) = if b == 34 then Some [] else None
@@ -21,11 +21,11 @@ abbrev pub escape_here : List ℕ → Option (ℕ × ℕ)
 escape_here [] = None
 escape_here (e ∷ t) = escape_at e t (escape_of e)
 
--- how many bytes a byte takes with what it covers
+-- the length of a byte together with the byte it escapes, if any
 abbrev pub width : ℕ → ℕ
 width b = if b == 92 then 2 else 1
 
--- the byte of the value that is written here, and its length
+-- the byte of the value that is written here, and the length of its spelling
 unfoldable pub byte_at : List ℕ → Option (ℕ × ℕ)
 byte_at [] = None
 byte_at (b ∷ t) = if is_plain b then Some (b, 1) else (if b == 92 then escape_here t else None)
@@ -38,7 +38,7 @@ abbrev pub on_byte : Option (ℕ × ℕ) → (ℕ → Result (List ℕ) ℕ) →
 on_byte None more = Err 0
 on_byte (Some x) more = with_first x (more x.1)
 
--- The value, or the place of the first bad escape. The number bounds the turns.
+-- The value, or the place of the first bad escape. The number bounds the recursion.
 abbrev pub unescape_in : ℕ → List ℕ → Result (List ℕ) ℕ
 unescape_in zero b = Ok []
 unescape_in (suc n) [] = Ok []
@@ -47,12 +47,12 @@ unescape_in (suc n) (b ∷ bs) = on_byte (byte_at (b ∷ bs)) (λ len. unescape_
 unfoldable pub unescape : List ℕ → Result (List ℕ) ℕ
 unescape b = unescape_in (length b) b
 
--- the rest behind the next `"""`
+-- the text after the next `"""`
 unfoldable pub doc_behind : List ℕ → Option (List ℕ)
 doc_behind [] = None
 doc_behind (b ∷ bs) = if begins_doc (b ∷ bs) then Some (drop 3 (b ∷ bs)) else doc_behind bs
 
--- the place of a bad escape is one of so many
+-- the place of a bad escape is below n
 abbrev pub EscapeWithin : ℕ → EscapeFault → Type 0
 EscapeWithin n (fault.BadEscape at) = at < n
 EscapeWithin n fault.Memory = ⊤

@@ -11,41 +11,42 @@ is_quote b = b == 34
 abbrev pub is_plain : ℕ → Bool
 is_plain b = not (b == 34 || b == 92)
 
--- The bytes between the quotes of a text: `\` covers the next byte, whatever it is, and no other `"` stands there.
+-- The bytes between the quotes of a text literal: `\` escapes the next byte, whatever it is, and there is no other `"`.
 pub data Covered : List ℕ → Type 0 where
   nothing : Covered []
   plain : {b : ℕ} {bs : List ℕ} → is_plain b ≡ true → Covered bs → Covered (b ∷ bs)
   covered : {b : ℕ} {bs : List ℕ} → Covered bs → Covered (92 ∷ b ∷ bs)
 
--- what a letter behind `\` stands for: `n`, `r`, `t`, `\`, `"`, `0`
+-- what a letter after `\` denotes: `n`, `r`, `t`, `\`, `"`, `0`
 abbrev pub escape_of : ℕ → Option ℕ
 escape_of e = if e == 110 then Some 10 else (if e == 114 then Some 13 else (if e == 116 then Some 9 else (if e == 92 then Some 92 else (if e == 34 then Some 34 else (if e == 48 then Some 0 else None)))))
 
--- One byte of a text's value as it is written: itself, a letter behind `\`, or two hexadecimal digits behind `\x`.
+-- How one byte of a text's value is spelled: as itself, as a letter after `\`, or as two hexadecimal digits after `\x`.
 abbrev pub Writes : List ℕ → ℕ → Type 0
 Writes b v =
     ((b ≡ v ∷ []) × (is_plain v ≡ true))
     ⊎ (((e : ℕ) × (b ≡ 92 ∷ e ∷ []) × (escape_of e ≡ Some v))
     ⊎ ((h l : ℕ) × (b ≡ 92 ∷ 120 ∷ h ∷ l ∷ []) × (is_digit h 16 ≡ true) × (is_digit l 16 ≡ true) × (v ≡ digit_value h * 16 + digit_value l)))
 
--- The bytes between the quotes, and the value.
+-- The bytes between the quotes, and the value they denote.
 abbrev pub Written : List ℕ → List ℕ → Type 0
 Written b [] = b ≡ []
 Written b (v ∷ vs) = (one rest : List ℕ) × (b ≡ one ++ rest) × Writes one v × Written rest vs
 
--- No byte of a value is written here.
+-- No byte of a value is spelled here.
 abbrev pub NoByte : List ℕ → Type 0
 NoByte text = (one rest : List ℕ) (v : ℕ) → text ≡ one ++ rest → Writes one v → ⊥
 
--- Between the quotes, the first bad escape is at this place: bytes of a value are written before it, and none there.
+-- Between the quotes, the first bad escape is at this place: the bytes before it spell bytes of a value, and none is
+-- spelled there.
 abbrev pub BadAt : List ℕ → ℕ → Type 0
 BadAt b at = (vs : List ℕ) × Written (take at b) vs × (at < length b) × NoByte (drop at b)
 
--- The text literal with which the text begins ends, and its first bad escape is so far from its start.
+-- The text literal that begins the text ends, and its first bad escape is at this offset.
 abbrev pub BadEscapeIn : List ℕ → ℕ → Type 0
 BadEscapeIn text offset = (body rest : List ℕ) × (text ≡ 34 ∷ (body ++ 34 ∷ rest)) × Covered body × (at : ℕ) × BadAt body at × (offset ≡ 1 + at)
 
--- No `"` ends the text literal with which the text begins.
+-- No `"` ends the text literal that begins the text.
 abbrev pub NeverEnds : List ℕ → Type 0
 NeverEnds text = (body rest : List ℕ) → text ≡ 34 ∷ (body ++ 34 ∷ rest) → Covered body → ⊥
 
@@ -57,7 +58,7 @@ TextBytes b v = (body : List ℕ) × (b ≡ 34 ∷ (body ++ 34 ∷ [])) × Writt
 unfoldable pub begins_doc : List ℕ → Bool
 begins_doc text = starts_with nat_eq text (34 ∷ 34 ∷ 34 ∷ [])
 
--- From within a doc at the first text, the next `"""` ends before the second.
+-- The first text begins inside a doc, and the second begins after its `"""`.
 pub data DocEnds : List ℕ → List ℕ → Type 0 where
   ends : {rest : List ℕ} → DocEnds (34 ∷ 34 ∷ 34 ∷ rest) rest
   other : {b : ℕ} {text rest : List ℕ} → begins_doc (b ∷ text) ≡ false → DocEnds text rest → DocEnds (b ∷ text) rest

@@ -5,14 +5,14 @@ ghost use Rattle.pc_lex.specs.Bytes as bytes;
 ghost use Rattle.pc_lex.specs.Bytes.{first_test};
 ghost use Rattle.pc_lex.specs.Reading as reading;
 
-/// A set of bytes.
+/// A class of bytes.
 #[derive(Clone, Copy)]
 pub enum Class {
-    /// What may stand in a name behind its first letter: letters, digits and `_`.
+    /// What may come after the first letter of a name: letters, digits and `_`.
     Tail,
     /// `'`
     Prime,
-    /// Every byte that ends no line comment.
+    /// Every byte that does not end a line comment.
     Line,
 }
 
@@ -41,7 +41,7 @@ pub fn is_in(class: Class, byte: u8) -> bool
     }
 }
 
-/// How many bytes at the front are in a class.
+/// The number of bytes at the front that are in a class.
 pub fn run(class: Class, text: &[u8]) -> usize
     ensures value { result ≡ prefix_len (reading.class_test class) text.now }
     ensures within { result ≤ length text.now }
@@ -53,7 +53,7 @@ pub fn run(class: Class, text: &[u8]) -> usize
     n
 }
 
-/// Whether a byte follows that may not follow a number.
+/// Whether the text begins with a byte that may not follow a number.
 pub fn is_joined(text: &[u8]) -> bool
     ensures { result ≡ first_test bytes.is_joined text.now }
 {

@@ -1,9 +1,9 @@
-//! Comments: where they end.
+//! Comments, and where they end.
 ghost use Rattle.std.specs.Prelude.{◌≡◌, ◌<◌, ◌≤◌, ◌+◌, ◌==◌, ◌&&◌, length, drop, slice_index, IfSome};
 ghost use Rattle.std.specs.Option.{option_map};
 ghost use Rattle.pc_lex.specs.Reading as reading;
 
-/// Whether these two bytes stand at a place.
+/// Whether these two bytes are at a place.
 fn has_pair(text: &[u8], at: usize, first: u8, second: u8) -> bool
     requires { at + 1 < length text.now }
     ensures { result ≡ (slice_index text.now at == first && slice_index text.now (at + 1) == second) }
@@ -11,7 +11,7 @@ fn has_pair(text: &[u8], at: usize, first: u8, second: u8) -> bool
     text[at] == first && text[at + 1] == second
 }
 
-/// How many bytes a comment takes behind its `/*`, if it ends. Comments nest.
+/// The number of bytes from after its `/*` to the end of a comment, if it ends. Comments nest.
 #[tactic(auto, using(crate::proofs::CommentSteps::behind_step, crate::proofs::CommentSteps::behind_none, crate::proofs::CommentSteps::behind_all))]
 pub fn block_len(text: &[u8]) -> Option<usize>
     ensures value { option_map (λ n. drop n text.now) result ≡ reading.behind 1 text.now }

@@ -3,16 +3,16 @@ ghost use Rattle.std.specs.Prelude.{◌≡◌};
 
 use std::alloc::AllocError;
 
-/// Why a text has no token list, with the offset of a byte, counted from 0.
+/// Why a text has no token list, with a byte offset counted from 0.
 #[derive(Clone, Copy, Debug, PartialEq, Eq)]
 pub enum LexFault {
-    /// The byte begins no blank, comment or token.
+    /// No blank, comment or token begins with this byte.
     BadByte(u32),
     /// The comment, text or doc that begins here does not end.
     Unclosed(u32),
-    /// Digits begin here, but no number below 2^64 with what may follow a number.
+    /// The digits that begin here are not a number below 2^64 followed by something that may follow a number.
     BadNumber(u32),
-    /// The `\` here begins no escape of a text.
+    /// The `\` here begins no escape.
     BadEscape(u32),
     /// The token that begins here is one too many.
     TooMany(u32),

@@ -16,17 +16,17 @@ use pc_caps::{List, Span};
 use pc_token::{Token, TokenKind};
 use std::alloc::Global;
 
-/// How many tokens a text may have, its end not counted.
+/// How many tokens a text may have, not counting its end.
 const TOKEN_LIMIT: usize = 200_000;
 
-/// Whether an LF is among some bytes.
+/// Whether there is an LF among these bytes.
 fn has_line_end(text: &[u8]) -> bool
     ensures { result ≡ pieces.has_line_end text.now }
 {
     text.contains(&b'\n')
 }
 
-/// The fault of a text at the place where it begins with no piece.
+/// The fault of a text at a place where no piece begins.
 fn fault_at(stop: LexStop, place: u32) -> LexFault
     requires { StopWithin bytes_limit stop × (place ≤ bytes_limit) }
     ensures { result ≡ reading.fault_at stop place }
@@ -40,8 +40,8 @@ fn fault_at(stop: LexStop, place: u32) -> LexFault
     }
 }
 
-/// Reads one piece, and puts it at the end of the tokens if it is one. The answer is its end, and whether a token
-/// there would be first on its line.
+/// Reads one piece, and appends it to the tokens if it is one. Returns its end, and whether a token there would be
+/// first on its line.
 fn step(
     alloc: Global,
     text: &[u8],
@@ -75,7 +75,7 @@ fn step(
     }
 }
 
-/// Whether a token behind a byte would be first on its line.
+/// Whether a token after a byte would be first on its line.
 fn is_first_behind(first: bool, byte: u8) -> bool
     ensures { result ≡ (first || byte == 10) }
 {
@@ -97,7 +97,7 @@ fn pass_blanks(text: &[u8], start: usize, begins: bool) -> (usize, bool)
     (at, first)
 }
 
-/// Reads a text piece by piece to its end.
+/// Reads a text piece by piece, to its end.
 fn read_all(alloc: Global, text: &[u8]) -> Result<List<Token>, LexFault>
     requires { length text.now ≤ bytes_limit }
     ensures ok { IfOk result (TokenList text.now) }
@@ -122,20 +122,20 @@ fn read_all(alloc: Global, text: &[u8]) -> Result<List<Token>, LexFault>
     Ok(tokens)
 }
 
-/// The tokens of a text of at most 1,048,576 bytes, with `End` last: at most 200,000 and `End`. Blanks and comments
-/// separate tokens, and at each place the longest token is taken.
+/// The tokens of a text of at most 1,048,576 bytes: at most 200,000, and `End` last. Blanks and comments separate
+/// tokens, and at each place the longest token is taken.
 ///
 /// The first fault of a text is that of the first place at which no blank, comment or token begins, or `TooMany` if
-/// the token behind 200,000 others begins before it.
+/// token number 200,001 begins before that place.
 pub fn lex(alloc: Global, text: &[u8]) -> Result<List<Token>, LexFault>
     requires { length text.now ≤ bytes_limit }
-    // The list is the text's.
+    // The list is that of the text.
     ensures ok { IfOk result (TokenList text.now) }
     // The fault is the first of the text, or memory ran out.
     ensures err { IfErr result (Refuses text.now) }
-    // Where there is a list within the limit, it is the answer, unless memory ran out.
+    // If the text has a list within the limit, it is returned, unless memory ran out.
     ensures listed { (tokens : Sequence Token) → TokenList text.now tokens → Answers result (Ok tokens) }
-    // Where there is a first fault, it is the answer, unless memory ran out.
+    // If the text has a first fault, it is returned, unless memory ran out.
     ensures faulty { (fault : LexFault) → FirstFault text.now fault → Answers result (Err fault) }
 {
     read_all(alloc, text)

@@ -1,9 +1,9 @@
-//! The tokens of a source text. `docs/grammar.md` says what they are, `specs/Pieces.antt` defines it.
+//! The tokens of a source text. `docs/grammar.md` describes them, `specs/Pieces.antt` defines them.
 //!
-//! Proved: `lex` is the token list of the definition, where there is one within the limits, and else the first fault
-//! with its byte; a text has one list or one first fault, and not both.
+//! Proved: `lex` returns the token list of the definition if there is one within the limits, and otherwise the first
+//! fault with its byte; a text has one list or one first fault, and not both.
 //!
-//! Not proved: time. Tests go to the limits, and look at no clock.
+//! Not proved: running times. Tests reach the limits, but measure no time.
 #![tactic(auto)]
 
 mod classes;

@@ -1,4 +1,4 @@
-//! Names: where they end, and which kind they are of.
+//! Names: where they end, and their kinds.
 ghost use Rattle.std.specs.Prelude.{◌≡◌, ◌≤◌, length, IfOk};
 ghost use Rattle.pc_lex.specs.Reading as reading;
 
@@ -7,7 +7,7 @@ use pc_caps::List;
 use pc_token::{TokenKind, word_of};
 use std::alloc::{AllocError, Global};
 
-/// How many bytes at the front belong to a name behind its first letter.
+/// The number of bytes that continue a name after its first letter.
 #[tactic(auto, unfolding(crate::specs::Reading::tail_len))]
 fn tail_len(text: &[u8]) -> usize
     ensures value { result ≡ reading.tail_len text.now }
@@ -17,7 +17,7 @@ fn tail_len(text: &[u8]) -> usize
     n + run(Class::Prime, &text[n..])
 }
 
-/// The length of the name without `_` before it at the front, or 0.
+/// The length of the name at the front that begins with a letter, or 0.
 #[tactic(auto, unfolding(crate::specs::Reading::letter_len))]
 fn letter_len(text: &[u8]) -> usize
     ensures value { result ≡ reading.letter_len text.now }
@@ -44,7 +44,7 @@ pub fn name_len(text: &[u8]) -> usize
     }
 }
 
-/// Whether a name is one of a type.
+/// Whether a name is a type name.
 #[tactic(auto, unfolding(crate::specs::Reading::is_type))]
 fn is_type(name: &[u8]) -> bool
     ensures { result ≡ reading.is_type name.now }

@@ -1,4 +1,4 @@
-//! Numbers: decimal, of base 16 and of base 2, with their values.
+//! Numbers: decimal, hexadecimal and binary, with their values.
 ghost use Rattle.std.specs.Prelude.{◌≡◌, ◌<◌, ◌≤◌, ◌+◌, ◌*◌, ◌==◌, ◌&&◌, length, drop, slice_index, true, IfOk, IfErr};
 ghost use Rattle.std.specs.Char.{is_digit, digit_value};
 ghost use Rattle.pc_lex.specs.Bytes.{first_test};
@@ -9,7 +9,7 @@ use crate::classes::is_joined;
 use crate::pieces::{Found, LexStop};
 use pc_token::TokenKind;
 
-/// The digit that a byte is, letters of either case being 10 to 35, or 36.
+/// The value of a digit, counting letters of either case as 10 to 35, or 36 if the byte is none.
 pub fn digit_value(byte: u8) -> u8
     ensures value { result ≡ digit_value byte }
     ensures within { result ≤ 36 }
@@ -29,7 +29,7 @@ pub fn is_digit(byte: u8, base: u8) -> bool
     digit_value(byte) < base
 }
 
-/// Whether a digit of a base stands at the front.
+/// Whether the text begins with a digit of a base.
 fn starts_digit(text: &[u8], base: u8) -> bool
     ensures value { result ≡ first_test (λ b. is_digit b base) text.now }
     ensures within { result ≡ true → 0 < length text.now }
@@ -40,7 +40,7 @@ fn starts_digit(text: &[u8], base: u8) -> bool
     }
 }
 
-/// Whether a `_` stands at a place, and a digit behind it.
+/// Whether there is a `_` at a place, followed by a digit.
 fn spaces(text: &[u8], at: usize, base: u8) -> bool
     requires { at < length text.now }
     ensures value { result ≡ (slice_index text.now at == 95 && first_test (λ b. is_digit b base) (drop (at + 1) text.now)) }
@@ -49,7 +49,7 @@ fn spaces(text: &[u8], at: usize, base: u8) -> bool
     text[at] == b'_' && starts_digit(&text[at + 1..], base)
 }
 
-/// How many bytes at the front are digits of a base, with at most one `_` between two of them.
+/// The number of bytes at the front that are digits of a base, with at most one `_` between any two.
 #[tactic(auto, using(crate::proofs::DigitSteps::len_step, crate::proofs::DigitSteps::len_space, crate::proofs::DigitSteps::len_ends, crate::proofs::DigitSteps::len_first, crate::proofs::DigitSteps::len_none))]
 fn digits_len(text: &[u8], base: u8) -> usize
     ensures value { result ≡ reading.digits_len base text.now }
@@ -71,7 +71,7 @@ fn digits_len(text: &[u8], base: u8) -> usize
     at
 }
 
-/// A number with one digit more, if it is below 2^64.
+/// A number extended by one digit, if the result is below 2^64.
 fn with_digit(value: u64, base: u8, byte: u8) -> Option<u64>
     ensures { BelowOrNone result (value * base + digit_value byte) }
 {
@@ -80,7 +80,7 @@ fn with_digit(value: u64, base: u8, byte: u8) -> Option<u64>
         .checked_add(digit_value(byte) as u64)
 }
 
-/// The number of digits and `_`, if it is below 2^64.
+/// The number denoted by digits and `_`, if it is below 2^64.
 #[tactic(auto, using(crate::proofs::DigitSteps::value_at, crate::proofs::DigitSteps::value_grows, crate::proofs::DigitSteps::value_all, crate::proofs::DigitSteps::not_under))]
 fn value_of(text: &[u8], base: u8) -> Option<u64>
     requires { 0 < base }
@@ -95,7 +95,7 @@ fn value_of(text: &[u8], base: u8) -> Option<u64>
     Some(value)
 }
 
-/// The base of the number at the front, and the length of its mark.
+/// The base of the number at the front, and the length of its prefix.
 #[tactic(auto, unfolding(crate::specs::Reading::base_at))]
 fn base_at(text: &[u8]) -> (u8, usize)
     ensures value { result ≡ reading.base_at text.now }
@@ -111,7 +111,7 @@ fn base_at(text: &[u8]) -> (u8, usize)
     }
 }
 
-/// The number at the front, where a digit stands.
+/// The number at the front of a text that begins with a digit.
 #[tactic(auto, unfolding(crate::specs::Reading::number_at))]
 pub fn number_at(text: &[u8]) -> Result<(Found, usize), LexStop>
     ensures value { result ≡ reading.number_at text.now }

@@ -23,13 +23,13 @@ pub enum Found {
 /// Why a text begins with none of these.
 #[derive(Debug)]
 pub enum LexStop {
-    /// Nothing begins with the first byte.
+    /// Nothing begins with this byte.
     BadByte,
     /// The comment, text or doc that begins here does not end.
     Unclosed,
     /// The digits that begin here are no number.
     BadNumber,
-    /// The text literal has a bad escape, so many bytes from its start.
+    /// The text literal has a bad escape, at this offset from its start.
     BadEscape(usize),
     /// Memory ran out.
     Memory,
@@ -45,7 +45,7 @@ impl From<AllocError> for LexStop {
     }
 }
 
-/// The text literal at the front, where a `"` stands, and its length.
+/// The text literal at the front of a text that begins with `"`, and its length.
 #[tactic(auto, using(crate::proofs::TextCut::text_found), unfolding(crate::specs::Reading::text_at))]
 fn text_at(alloc: Global, text: &[u8]) -> Result<(Found, usize), LexStop>
     requires { 0 < length text.now }
@@ -64,7 +64,7 @@ fn text_at(alloc: Global, text: &[u8]) -> Result<(Found, usize), LexStop>
     }
 }
 
-/// The doc at the front, where a `"""` stands, and its length.
+/// The doc at the front of a text that begins with `"""`, and its length.
 #[tactic(auto, unfolding(crate::specs::Reading::doc_at))]
 fn doc_at(text: &[u8]) -> Result<(Found, usize), LexStop>
     requires { 3 ≤ length text.now }
@@ -78,7 +78,7 @@ fn doc_at(text: &[u8]) -> Result<(Found, usize), LexStop>
     }
 }
 
-/// The blank, comment or token with which a text begins, and its length.
+/// The blank, comment or token that begins the text, and its length.
 #[tactic(auto, unfolding(crate::specs::Reading::piece_at))]
 pub fn piece_at(alloc: Global, text: &[u8]) -> Result<(Found, usize), LexStop>
     requires { 0 < length text.now }

@@ -1,4 +1,4 @@
-//! Texts and docs: where they end, and the bytes that they stand for.
+//! Text literals and docs: where they end, and the bytes that they denote.
 ghost use Rattle.std.specs.Prelude.{◌≡◌, ◌<◌, ◌≤◌, ◌+◌, length, drop, true, IfSome, IfOk, IfErr};
 ghost use Rattle.std.specs.Option.{option_map};
 ghost use Rattle.pc_lex.specs.Texts.{Written};
@@ -10,7 +10,7 @@ use crate::numbers::{digit_value, is_digit};
 use pc_caps::List;
 use std::alloc::{AllocError, Global};
 
-/// Why the bytes between the quotes of a text stand for none.
+/// Why the bytes between the quotes of a text literal denote no value.
 #[derive(Debug)]
 pub enum EscapeFault {
     /// The place of a `\` that begins no escape.
@@ -29,7 +29,7 @@ impl From<AllocError> for EscapeFault {
     }
 }
 
-/// How many bytes a byte takes with what it covers.
+/// The length of a byte together with the byte it escapes, if any.
 fn width(byte: u8) -> usize
     ensures value { result ≡ reading.width byte }
     ensures some { 1 ≤ result }
@@ -38,7 +38,7 @@ fn width(byte: u8) -> usize
     if byte == b'\\' { 2 } else { 1 }
 }
 
-/// How many bytes stand before the next `"` that no `\` covers.
+/// The number of bytes before the next `"` that is not escaped by a `\`.
 #[tactic(auto, using(crate::proofs::QuoteEnds::behind_step, crate::proofs::QuoteEnds::behind_none))]
 pub fn quote_len(text: &[u8]) -> Option<usize>
     ensures value { option_map (λ n. drop (n + 1) text.now) result ≡ reading.text_behind text.now }
@@ -54,14 +54,14 @@ pub fn quote_len(text: &[u8]) -> Option<usize>
     None
 }
 
-/// Whether a byte of a text stands for itself.
+/// Whether a byte of a text literal denotes itself.
 fn is_plain(byte: u8) -> bool
     ensures { result ≡ spec.is_plain byte }
 {
     byte != b'"' && byte != b'\\'
 }
 
-/// What a letter behind `\` stands for.
+/// What a letter after `\` denotes.
 fn escape_of(byte: u8) -> Option<u8>
     ensures { result ≡ spec.escape_of byte }
 {
@@ -76,7 +76,7 @@ fn escape_of(byte: u8) -> Option<u8>
     }
 }
 
-/// The byte that an escape without its `\` stands for, and the length of both.
+/// The byte that an escape denotes, given without its `\`, and the length with it.
 fn escape_at(text: &[u8]) -> Option<(u8, usize)>
     ensures value { result ≡ reading.escape_here text.now }
     ensures within { IfSome result (λ r. (0 < r.1) × (r.1 ≤ length text.now + 1)) }
@@ -96,7 +96,7 @@ fn escape_at(text: &[u8]) -> Option<(u8, usize)>
     }
 }
 
-/// The byte that is written at the front, and how many bytes it takes.
+/// The byte of the value that is spelled at the front, and the length of its spelling.
 #[tactic(auto, unfolding(crate::specs::TextReading::byte_at))]
 fn byte_at(text: &[u8]) -> Option<(u8, usize)>
     ensures value { result ≡ reading.byte_at text.now }
@@ -109,7 +109,7 @@ fn byte_at(text: &[u8]) -> Option<(u8, usize)>
     }
 }
 
-/// What the bytes between the quotes of a text stand for.
+/// The value of the bytes between the quotes of a text literal.
 fn unescape(alloc: Global, body: &[u8]) -> Result<List<u8>, EscapeFault>
     ensures ok { IfOk result (λ value. Written body.now value) }
     ensures err { IfErr result (λ fault. IsBadEscape body.now fault) }
@@ -127,7 +127,7 @@ fn unescape(alloc: Global, body: &[u8]) -> Result<List<u8>, EscapeFault>
     Ok(bytes)
 }
 
-/// The value of the bytes between the quotes of a text, as it is read.
+/// The value of the bytes between the quotes of a text literal, as the definition reads it.
 #[tactic(auto, using(crate::proofs::TextValues::gives_value, crate::proofs::TextValues::bad_within))]
 pub fn text_value(alloc: Global, body: &[u8]) -> Result<List<u8>, EscapeFault>
     ensures value { GivesValue result (reading.unescape body.now) }
@@ -145,7 +145,7 @@ pub fn begins_doc(text: &[u8]) -> bool
     text.starts_with(b"\"\"\"")
 }
 
-/// How many bytes stand before the next `"""`.
+/// The number of bytes before the next `"""`.
 #[tactic(auto, using(crate::proofs::DocEnding::doc_step, crate::proofs::DocEnding::doc_none, std::proofs::lemmas::List::take_rest))]
 pub fn doc_len(text: &[u8]) -> Option<usize>
     ensures value { option_map (λ n. drop (n + 3) text.now) result ≡ reading.doc_behind text.now }

@@ -25,7 +25,7 @@ begins core list c is =
     subst (λ (d : Configuration). Underway core list 0 d) (sym is)
     (record { behind = λ more. refl; end = refl; few_objects = (few_at_start core).objects; few_messages = (few_at_start core).messages })
 
--- ---- behind the last one
+-- ---- after the last one
 
 past : {X : Type 0} (xs : List X) → drop (length xs) xs ≡ []
 past [] = refl
@@ -54,7 +54,7 @@ module _ (core : CoreData) (list : List ℕ) (n : ℕ) (c : Configuration) (u : 
     taken : take (n + 1) list ≡ take n list ++ i ∷ []
     taken = take_more list n 0 within ∙ ap (λ x. take n list ++ x ∷ []) (sym is)
 
-    -- The configuration is behind the first n steps.
+    -- The configuration is the one after the first n steps.
     here : c ≡ after core (take n list)
     here = u.behind [] ∙ ap (after core) (append-nil (take n list))
 

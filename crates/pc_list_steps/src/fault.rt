@@ -8,8 +8,8 @@ use std::alloc::AllocError;
 /// Why a list of actors was not run to its end.
 #[derive(Drop)]
 pub enum StepsFault<'p> {
-    /// The step at this place of the list, counted from 1, would make a text that is too long. The machine is the one before
-    /// that step.
+    /// The step at this place of the list, counted from 1, would make a text that is too long. The machine is the one
+    /// before that step.
     TooLong { step: u64, machine: Machine<'p> },
     /// Memory ran out.
     Memory,

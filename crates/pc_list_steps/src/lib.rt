@@ -1,7 +1,8 @@
-//! The steps of a list of actors, one after the other, in a machine whose core never lacks anything.
+//! The steps of a list of actors, one after another, in a machine whose core never lacks anything.
 //!
-//! Proved: `take_steps` leads a machine that was just started behind its list, or it stops at the first step that would make
-//! too long a text and names its place. It asks that over whatever list of actors no step of the core lacks anything.
+//! Proved: `take_steps` takes a machine that was just started through its list, or stops at the first step that would
+//! make too long a text and names its place. It requires that no step of the core lacks anything, over any list of
+//! actors.
 #![tactic(auto)]
 
 mod fault;

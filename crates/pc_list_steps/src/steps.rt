@@ -9,13 +9,13 @@ ghost use Rattle.pc_list_steps.specs.Ends.{RunEnds, StopsWithin};
 use crate::fault::StepsFault;
 use pc_machine::{Machine, Outcome};
 
-/// Takes the steps of these actors, one after the other, in a machine that was just started and whose core never lacks anything.
-/// The list has at most 4,000,000 actors.
+/// Takes the steps of these actors, one after another, in a machine that was just started and whose core never lacks
+/// anything. The list has at most 4,000,000 actors.
 ///
 /// # Errors
-/// - `TooLong` exactly where a step of the list would make a text that is too long, with the place of the first such step and
-///   the machine before it.
-/// - `Memory` at want of memory.
+/// - `TooLong` iff a step of the list would make a text that is too long, with the place of the first such step and the
+///   machine before it.
+/// - `Memory` if memory ran out.
 pub fn take_steps<'p>(machine: Machine<'p>, actors: &[u32]) -> Result<Machine<'p>, StepsFault<'p>>
     requires started { machine.configuration ≡ beginning machine.core }
     requires never_lacks { (list : Sequence ℕ) → LacksNothing machine.core (after machine.core list) }

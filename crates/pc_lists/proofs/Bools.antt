@@ -1,4 +1,4 @@
--- What a test gives.
+-- What follows from a test.
 use Rattle.std.proofs.Common.{◌≡◌, Bool, true, false, ◌&&◌, refl}
 use Rattle.std.proofs.lemmas.Bool.{true≢false, false≢true}
 
@@ -8,17 +8,17 @@ true_false e = true≢false e
 pub false_true : false ≡ true → ⊥
 false_true e = false≢true e
 
--- No test has both answers.
+-- No test has both results.
 pub no_both : (b : Bool) → b ≡ true → b ≡ false → ⊥
 no_both true e f = true≢false f
 no_both false e f = false≢true e
 
--- Where two tests hold, the first holds.
+-- If two tests hold, the first holds.
 pub first_true : (a b : Bool) → (a && b) ≡ true → a ≡ true
 first_true true b e = refl
 first_true false b e = absurd (false≢true e)
 
--- Where two tests hold, the second holds.
+-- If two tests hold, the second holds.
 pub second_true : (a b : Bool) → (a && b) ≡ true → b ≡ true
 second_true true b e = e
 second_true false b e = absurd (false≢true e)

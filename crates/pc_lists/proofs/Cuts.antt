@@ -1,20 +1,20 @@
--- The front and the rest of a list.
+-- Prefixes and suffixes of a list.
 use Rattle.std.proofs.Common.{◌≡◌, ℕ, zero, suc, ◌+◌, ◌-◌, ◌<◌, ◌≤◌, List, [], ◌∷◌, ◌++◌, length, take, drop, get_or, slice_get, Some, refl, sym, ap, ap₂, ◌∙◌, arith, take_at, drop_at, length-drop}
 use Rattle.std.specs.Prelude.{slice_range}
 use Rattle.std.proofs.lemmas.List.{drop-append-le, take-append-le}
 use Rattle.std.proofs.lemmas.Option.{same_Some, none-some, slice_get_read}
 
--- A list of no length.
+-- A list of length zero.
 pub without_length : {T : Type 0} → (xs : List T) → length xs ≡ 0 → xs ≡ []
 without_length [] e = refl
 without_length (x ∷ xs) e = absurd (omega (arith, e))
 
--- The whole list, and nothing behind it.
+-- The whole list, with nothing after it.
 pub take_whole : {T : Type 0} → (xs : List T) → take (length xs) xs ≡ xs
 take_whole [] = refl
 take_whole (x ∷ xs) = ap (λ ys. x ∷ ys) (take_whole xs)
 
--- The front of two lists, and what is behind it.
+-- The first of two lists, and what comes after it.
 pub take_front : {T : Type 0} → (xs ys : List T) → take (length xs) (xs ++ ys) ≡ xs
 take_front [] [] = refl
 take_front [] (y ∷ ys) = refl
@@ -25,21 +25,21 @@ drop_front [] [] = refl
 drop_front [] (y ∷ ys) = refl
 drop_front (x ∷ xs) ys = drop_front xs ys
 
--- From an element on, it comes first.
+-- The suffix from an element on begins with it.
 pub drop_item : {A : Type 0} → (xs : List A) (i : ℕ) (x : A) → slice_get xs i ≡ Some x → drop i xs ≡ x ∷ drop (i + 1) xs
 drop_item [] i x e = absurd (none-some x e)
 drop_item (y ∷ ys) zero x e = let one : 1 ≡ 0 + 1 = omega arith in ap (λ z. z ∷ ys) (same_Some y x e) ∙ ap (λ n. x ∷ drop n (y ∷ ys)) one
 drop_item (y ∷ ys) (suc i) x e = let next : suc (i + 1) ≡ suc i + 1 = omega arith in drop_item ys i x e ∙ ap (λ n. x ∷ drop n (y ∷ ys)) next
 
--- The same of a list that was looked at.
+-- The same for a list that was looked at.
 pub item_first : {T : Type 0} → (xs : List T) (i : ℕ) (x : T) → i < length xs → x ≡ get_or xs i x → drop i xs ≡ x ∷ drop (i + 1) xs
 item_first xs i x l e = drop_item xs i x (slice_get_read xs (length xs) i x refl l e)
 
--- Something is left from a place within the list on.
+-- From a place within the list on, something is left.
 pub left_over : {A : Type 0} → (xs : List A) (i : ℕ) → i < length xs → 0 < length (drop i xs)
 left_over xs i l = let k = length-drop i xs in omega (arith, k, l)
 
--- A range of the front.
+-- A range of a prefix.
 pub range_front : {T : Type 0} → (xs ys : List T) (a b : ℕ) → a ≤ b → b ≤ length xs → slice_range (xs ++ ys) a b ≡ slice_range xs a b
 range_front xs ys a b low high =
     let within : a ≤ length xs = omega (arith, low, high) in
@@ -54,7 +54,7 @@ same_cut b r c s e len = (
   sym (drop_at b r (length b) refl) ∙ ap₂ (λ n l. drop n l) len e ∙ drop_at c s (length c) refl,
 )
 
--- Two lists that give nothing together.
+-- Two lists whose concatenation is empty.
 pub nil_left : {T : Type 0} → (xs ys : List T) → xs ++ ys ≡ [] → xs ≡ []
 nil_left [] ys e = refl
 nil_left (x ∷ xs) ys e = absurd (omega (arith, ap length e))

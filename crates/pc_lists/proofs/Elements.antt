@@ -1,11 +1,11 @@
--- What holds of the elements of a list, and which ones it has.
+-- Properties of the elements of a list, and which elements it has.
 use Rattle.std.specs.Prelude.{◌⊎◌, ℕ, suc, ◌+◌, ◌<◌, List, [], ◌∷◌, ◌++◌, length}
 use Rattle.std.proofs.Common.{inl, inr, ◌∙◌, arith, ⊎_elim}
 use Rattle.std.proofs.lemmas.Option.{none-some}
 use Rattle.pc_lists.specs.Places.{Each, Has, Differ, Ascends}
 use Rattle.pc_lists.proofs.Gets.{get_front, get_push, get_append, append_get}
 
--- Each element of no list.
+-- Each element of the empty list.
 pub each_none : {T : Type 0} → (P : ℕ → T → Type 0) → Each P []
 each_none P i x e = absurd (none-some x e)
 

@@ -1,4 +1,4 @@
--- What a list has at a place: of a front, behind one, after a push, after a write, in a part of it, and mapped.
+-- What a list has at a place: in a prefix, after one, after a push, after a write, in a part of it, and mapped.
 use Rattle.std.specs.Prelude.{◌≡◌, ◌≢◌, ◌⊎◌, ℕ, zero, suc, ◌+◌, ◌-◌, ◌<◌, ◌≤◌, List, [], ◌∷◌, ◌++◌, length, map, take, drop, Some, slice_get, slice_set, slice_range, refl}
 use Rattle.std.proofs.Common.{inl, inr, ap, sym, ◌∙◌, arith}
 use Rattle.std.proofs.lemmas.Option.{same_Some, none-some}
@@ -15,18 +15,18 @@ get_within [] n l = absurd (omega arith)
 get_within (y ∷ ys) zero l = (y, refl)
 get_within (y ∷ ys) (suc n) l = let k : n < length ys = omega arith in get_within ys n k
 
--- The front keeps its places.
+-- A prefix keeps its places.
 pub get_front : {T : Type 0} → (xs ys : List T) (n : ℕ) (x : T) → slice_get xs n ≡ Some x → slice_get (xs ++ ys) n ≡ Some x
 get_front [] ys n x e = absurd (none-some x e)
 get_front (z ∷ zs) ys zero x e = e
 get_front (z ∷ zs) ys (suc n) x e = get_front zs ys n x e
 
--- The first value behind the front.
+-- The first value after a prefix.
 pub get_behind : {T : Type 0} → (xs : List T) (x : T) (ys : List T) → slice_get (xs ++ x ∷ ys) (length xs) ≡ Some x
 get_behind [] x ys = refl
 get_behind (z ∷ zs) x ys = get_behind zs x ys
 
--- A value of a list with one more at the end.
+-- A value of a list with one more appended.
 pub get_push : {T : Type 0} → (xs : List T) (x : T) (n : ℕ) (y : T) → slice_get (xs ++ x ∷ []) n ≡ Some y → (slice_get xs n ≡ Some y) ⊎ ((n ≡ length xs) × (x ≡ y))
 get_push [] x zero y e = inr (refl, same_Some x y e)
 get_push [] x (suc n) y e = absurd (none-some y e)
@@ -55,24 +55,24 @@ get_set_other (z ∷ zs) zero y (suc j) n = refl
 get_set_other (z ∷ zs) (suc i) y zero n = refl
 get_set_other (z ∷ zs) (suc i) y (suc j) n = get_set_other zs i y j (λ e. n (ap suc e))
 
--- A write of what stands there.
+-- A write of what is there already.
 pub set_read : {T : Type 0} → (xs : List T) (i : ℕ) (y : T) → slice_get xs i ≡ Some y → slice_set xs i y ≡ xs
 set_read [] i y e = refl
 set_read (x ∷ xs) zero y e = ap (λ z. z ∷ xs) (sym (same_Some x y e))
 set_read (x ∷ xs) (suc i) y e = ap (λ zs. x ∷ zs) (set_read xs i y e)
 
--- A write that is taken back.
+-- A write that is undone.
 pub set_back : {T : Type 0} → (xs : List T) (i : ℕ) (y z : T) → slice_get xs i ≡ Some y → slice_set (slice_set xs i z) i y ≡ xs
 set_back [] i y z e = refl
 set_back (x ∷ xs) zero y z e = ap (λ w. w ∷ xs) (sym (same_Some x y e))
 set_back (x ∷ xs) (suc i) y z e = ap (λ zs. x ∷ zs) (set_back xs i y z e)
 
--- A list behind another, place by place.
+-- A list after another, place by place.
 pub get_append : {T : Type 0} → (xs ys : List T) (n : ℕ) → slice_get (xs ++ ys) (length xs + n) ≡ slice_get ys n
 get_append [] ys n = let e : 0 + n ≡ n = omega arith in ap (slice_get ys) e
 get_append (x ∷ xs) ys n = let e : length (x ∷ xs) + n ≡ suc (length xs + n) = omega arith in ap (slice_get (x ∷ xs ++ ys)) e ∙ get_append xs ys n
 
--- A value of two lists, one behind the other.
+-- A value of two lists, one after the other.
 pub append_get : {T : Type 0} → (xs ys : List T) (n : ℕ) (y : T) → slice_get (xs ++ ys) n ≡ Some y → (slice_get xs n ≡ Some y) ⊎ ((length xs ≤ n) × (slice_get ys (n - length xs) ≡ Some y))
 append_get [] ys n y e = let k : n ≡ n - 0 = omega arith in inr (omega arith, ap (slice_get ys) (sym k) ∙ e)
 append_get (x ∷ xs) ys zero y e = inl e
@@ -82,19 +82,19 @@ append_get (x ∷ xs) ys (suc n) y e =
       | inr b ↦ let l = b.0 in let k : suc n - length (x ∷ xs) ≡ n - length xs = omega arith in inr (omega (arith, l), ap (slice_get ys) k ∙ b.1)
     ]
 
--- What a list has, the mapped list has mapped.
+-- The mapped list has the image of what the list has.
 pub get_map : {A B : Type 0} → (f : A → B) (xs : List A) (n : ℕ) (x : A) → slice_get xs n ≡ Some x → slice_get (map f xs) n ≡ Some (f x)
 get_map f [] n x e = absurd (none-some x e)
 get_map f (y ∷ ys) zero x e = ap (λ z. Some (f z)) (same_Some y x e)
 get_map f (y ∷ ys) (suc n) x e = get_map f ys n x e
 
--- What the mapped list has comes from the list.
+-- What the mapped list has is the image of something in the list.
 pub map_get : {A B : Type 0} → (f : A → B) (xs : List A) (n : ℕ) (y : B) → slice_get (map f xs) n ≡ Some y → (x : A) × (slice_get xs n ≡ Some x) × (f x ≡ y)
 map_get f [] n y e = absurd (none-some y e)
 map_get f (x ∷ xs) zero y e = (x, refl, same_Some (f x) y e)
 map_get f (x ∷ xs) (suc n) y e = map_get f xs n y e
 
--- The front and the rest of a list, place by place.
+-- A suffix of a list, place by place.
 pub get_drop : {A : Type 0} → (xs : List A) (a n : ℕ) → slice_get (drop a xs) n ≡ slice_get xs (a + n)
 get_drop [] zero n = refl
 get_drop [] (suc a) n = refl

@@ -6,7 +6,7 @@ use Rattle.std.proofs.lemmas.Bool.{eq-eqb}
 use Rattle.std.proofs.lemmas.Bool.Decides.{eqb_tells}
 use Rattle.pc_lists.specs.Lookup.{place_of}
 
--- A place that is found is that of an element of the name.
+-- A place that is found is that of an element with the name.
 pub place_found : {T : Type 0} → (name_of : T → ℕ) (name : ℕ) (xs : List T) (at k : ℕ) → place_of name_of name xs at ≡ Some k → (i : ℕ) × (x : T) × (k ≡ at + i) × (slice_get xs i ≡ Some x) × (name_of x ≡ name)
 place_found name_of name [] at k e = absurd (none-some k e)
 place_found name_of name (x ∷ xs) at k e =
@@ -20,7 +20,7 @@ place_found name_of name (x ∷ xs) at k e =
           (suc r.0, r.1, omega (arith, s), r.3, r.4)
     ]
 
--- Where none is found there is no such element.
+-- If none is found there is no such element.
 pub place_missed : {T : Type 0} → (name_of : T → ℕ) (name : ℕ) (xs : List T) (at : ℕ) → place_of name_of name xs at ≡ None → (i : ℕ) (x : T) → slice_get xs i ≡ Some x → name_of x ≡ name → ⊥
 place_missed name_of name [] at e i x g same = none-some x g
 place_missed name_of name (y ∷ ys) at e zero x g same =

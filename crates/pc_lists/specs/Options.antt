@@ -1,7 +1,7 @@
--- Steps that may have no result.
+-- Computations that may have no result.
 use Rattle.std.specs.Prelude.{Option, Some, None}
 
--- The next step of a computation, where there is a result so far.
+-- The next step of a computation, if there is a result so far.
 infixl 10 ◌>>=◌
 abbrev pub ◌>>=◌ : {A B : Type 0} → Option A → (A → Option B) → Option B
 None >>= f = None

@@ -1,14 +1,15 @@
-//! The words that all speak of lists, of options and of booleans with, and the laws of these words. It has no code.
+//! The vocabulary that all crates use for lists, options and booleans, and its laws. No code.
 //!
-//! - `specs/Places.antt`: what each element of a list is, that a list has an element, that its elements differ, that its numbers ascend.
-//! - `specs/Options.antt`: the next step of a computation that may have no result; a number that is given if it is small.
-//! - `specs/Ranges.antt`: runs of numbers that follow one another without gaps.
-//! - `specs/Lookup.antt`: the place of the first element of a name.
-//! - `specs/Counts.antt`: a test as a number.
-//! - `proofs/Bools.antt`, `proofs/Options.antt`: what a test or a step gives.
-//! - `proofs/Gets.antt`: what a list has at a place, after a push, a write, a cut, a map.
-//! - `proofs/Elements.antt`: what a list has, and that its elements differ.
-//! - `proofs/Cuts.antt`: the front and the rest of a list.
-//! - `proofs/Ranges.antt`, `proofs/Lookup.antt`: laws of runs, and of a place by a name.
-//! - `proofs/Prefixes.antt`: how many bytes at the front of a text pass a test.
+//! - `specs/Places.antt`: a property of every element, an element of a list, a list without repetitions, an ascending
+//!   list.
+//! - `specs/Options.antt`: the next step of a computation that may have no result.
+//! - `specs/Ranges.antt`: adjacent runs of numbers.
+//! - `specs/Lookup.antt`: the place of the first element with a name.
+//! - `specs/Counts.antt`: a test counted as a number.
+//! - `proofs/Bools.antt`, `proofs/Options.antt`: what follows from a test or a step.
+//! - `proofs/Gets.antt`: the element at a place, after a push, a write, a cut or a map.
+//! - `proofs/Elements.antt`: elements of lists, and lists without repetitions.
+//! - `proofs/Cuts.antt`: prefixes and suffixes of a list.
+//! - `proofs/Ranges.antt`, `proofs/Lookup.antt`: laws of runs, and of finding a place by a name.
+//! - `proofs/Prefixes.antt`: the number of bytes at the start of a text that pass a test.
 #![tactic(auto)]

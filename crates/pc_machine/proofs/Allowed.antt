@@ -1,5 +1,5 @@
--- What a task's move may name: a write's object stands, a new object has the fields of its entity, and the next address of its
--- actor where no actor is made, and a message goes to an actor.
+-- What a task's move may name: the object that it writes exists, a new object has the fields of its entity and, unless
+-- an actor is made, the next address of its actor, and a message goes to an actor that exists.
 use Rattle.std.proofs.Common.{◌≡◌, ℕ, ◌-◌, ◌<◌, Bool, true, false, cond, List, [], ◌∷◌, ◌++◌, Option, Some, None, refl, sym, ap, subst}
 use Rattle.std.specs.Prelude.{nat_eq, nat_lt, ◌&&◌, is_some, IsSome, slice_get, length}
 use Rattle.std.specs.FinMap.{get}

@@ -9,13 +9,13 @@ use Rattle.pc_semantics.specs.declared.mailbox.Message.{Message}
 use Rattle.pc_lists.proofs.Gets.{get_within}
 use Rattle.pc_machine.specs.Changed.{changed, framed, mailed, unmailed, frames_of, messages_in}
 
--- a write of what stands there, changed
+-- a write of the element there, changed
 pub set_changed : {T : Type 0} → (xs : List T) (i : ℕ) (x : T) (g : T → T) → i < length xs → x ≡ get_or xs i x → set xs i (g x) ≡ changed xs i g
 set_changed [] i x g l e = refl
 set_changed (y ∷ ys) zero x g l e = ap (λ z. g z ∷ ys) e
 set_changed (y ∷ ys) (suc i) x g l e = let m : i < length ys = omega arith in ap (λ zs. y ∷ zs) (set_changed ys i x g m e)
 
--- what stands there
+-- the element there
 pub get_there : {T : Type 0} → (xs : List T) (i : ℕ) (x : T) → i < length xs → x ≡ get_or xs i x → slice_get xs i ≡ Some x
 get_there [] i x l e = absurd (omega arith)
 get_there (y ∷ ys) zero x l e = ap Some (sym e)
@@ -51,20 +51,20 @@ messages_changed (x ∷ xs) (suc i) g a e =
     let rest = messages_changed xs i g a e in
     omega (arith, first xs, first (changed xs i g), rest)
 
--- the same where the actor's messages stay
+-- the same if the actor's messages are unchanged
 pub messages_same : (xs : List Actor) (i : ℕ) (g : Actor → Actor) → i < length xs → ((a : Actor) → length (g a).mailbox ≡ length a.mailbox) → messages_in (changed xs i g) ≡ messages_in xs
 messages_same xs i g l same =
     let there = get_within xs i l in
     omega (arith, messages_changed xs i g there.0 there.1, same there.0)
 
--- and where one is added
+-- and if one is added
 pub messages_more : (xs : List Actor) (i : ℕ) (m : Message) → i < length xs → messages_in (changed xs i (mailed m)) ≡ messages_in xs + 1
 messages_more xs i m l =
     let there = get_within xs i l in
     let count : length (there.0.mailbox ++ m ∷ []) ≡ length there.0.mailbox + 1 = length-append there.0.mailbox (m ∷ []) in
     omega (arith, messages_changed xs i (mailed m) there.0 there.1, count)
 
--- and where one is taken
+-- and if one is taken
 pub messages_less : (xs : List Actor) (i : ℕ) (a : Actor) → slice_get xs i ≡ Some a → 0 < length a.mailbox → messages_in xs ≡ messages_in (changed xs i unmailed) + 1
 messages_less xs i a e some =
     let count : length (drop 1 a.mailbox) ≡ length a.mailbox - 1 = length-drop 1 a.mailbox in
@@ -113,7 +113,7 @@ frames_mailed (x ∷ xs) zero (suc j) m = refl
 frames_mailed (x ∷ xs) (suc i) zero m = refl
 frames_mailed (x ∷ xs) (suc i) (suc j) m = frames_mailed xs i j m
 
--- a message that is sent before the frames change is sent behind it
+-- a message that is sent before the frames change is sent after it
 pub mailed_framed : (xs : List Actor) (i j : ℕ) (m : Message) (fs : List Frame) → changed (changed xs j (mailed m)) i (framed fs) ≡ changed (changed xs i (framed fs)) j (mailed m)
 mailed_framed [] i j m fs = refl
 mailed_framed (x ∷ xs) zero zero m fs = refl

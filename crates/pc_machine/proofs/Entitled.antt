@@ -1,4 +1,4 @@
--- Objects keep the fields of their entities: where a field gets a value, and where an object comes.
+-- Objects keep the fields of their entities: when a field gets a value, and when an object is added.
 use Rattle.std.proofs.Common.{◌≡◌, ℕ, Bool, true, false, cond, Option, Some, None, refl, sym, ◌∙◌, subst}
 use Rattle.std.specs.Prelude.{IsSome, slice_get}
 use Rattle.std.specs.Ordering.{eq_by_cmp}
@@ -51,6 +51,6 @@ module _ (core : CoreData) where
       (set_fields (blank_object core 4) 0 (At (own_address 0)) (blank 4)))
       (blank main.0)
 
-  -- Where a program begins.
+  -- At the start of a program.
   pub start_fielded : Fielded core (start core).objects
   start_fielded = begins_fielded (main_create core)

@@ -1,4 +1,4 @@
--- What an actor's next step is, by what stands on top of its frames, its tasks and its mailbox.
+-- What an actor's next step is, by what is on top of its frames, its tasks and its mailbox.
 use Rattle.std.proofs.Common.{◌≡◌, ℕ, zero, suc, ◌<◌, List, [], ◌∷◌, drop, Some, None, refl, sym, ap, ◌∙◌, arith}
 use Rattle.std.specs.Prelude.{slice_get}
 use Rattle.pc_core.specs.CoreData.{CoreData}

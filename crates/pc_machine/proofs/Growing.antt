@@ -1,4 +1,4 @@
--- A step adds at most one object and one message, and changes nothing where it is skipped or too long.
+-- A step adds at most one object and one message, and changes nothing if it is skipped or too long.
 use Rattle.std.proofs.Common.{◌≡◌, ℕ, zero, suc, ◌+◌, ◌≤◌, Bool, true, false, cond, List, [], ◌∷◌, ◌++◌, length, Option, Some, None, refl, ap, arith, length-append}
 use Rattle.std.specs.Prelude.{is_some, slice_get, slice_set}
 use Rattle.std.specs.List.{sum_by}
@@ -182,7 +182,7 @@ module _ (c : Configuration) where
 
 -- ---- the start
 
--- Few objects and messages are there where a program begins.
+-- There are few objects and messages at the start of a program.
 pub record Few (c : Configuration) : Type 0 where
   pub objects : len c.objects ≤ 3
   pub messages : waiting c ≤ 1

@@ -1,4 +1,4 @@
--- A step keeps that the makers of objects are actors, and that objects have the fields of their entities.
+-- After a step, the makers of objects are still actors, and objects still have the fields of their entities.
 use Rattle.std.proofs.Common.{◌≡◌, ℕ, zero, suc, ◌+◌, ◌<◌, List, [], ◌∷◌, ◌++◌, length, Option, Some, None, Ok, Err, refl, sym, ap, subst, length-append}
 use Rattle.std.specs.Prelude.{slice_get, slice_set, Result, IfOk, OnErr}
 use Rattle.std.specs.declared.alloc.AllocError.{AllocError}
@@ -109,7 +109,7 @@ module _ (core : CoreData) (c : Configuration) (p : IsSound core c) where
   pub step_kept : len c.objects < object_limit → (i : ℕ) → IsSound core (step core c i).1
   step_kept few i = actor_kept few i (slice_get c.actors i) refl
 
--- The configuration behind a step, or the same where memory was wanting, is sound.
+-- The configuration after a step, or the same one if memory ran out, is sound.
 pub machine_kept : (core : CoreData) (c d : Configuration) (i : ℕ) (r : Result Outcome AllocError) → IsSound core c → len c.objects < object_limit
     → IfOk r (λ o. ◌≡◌ {A = Outcome × Configuration} (o, d) (step core c i)) → OnErr r (d ≡ c) → IsSound core d
 machine_kept core c d i (Ok o) p few ok err = subst (IsSound core) (sym (ap (λ (x : Outcome × Configuration). x.1) ok)) (step_kept core c p few i)

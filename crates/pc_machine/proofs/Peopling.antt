@@ -48,13 +48,13 @@ made_none m n p = none_by n (entries m) (λ a s. p.makers a (subst (λ (o : Opti
 pub next_own : (m : ObjectMap) (n : ℕ) → Peopled m n → next_address m n ≡ own_address n
 next_own m n p = ap (λ k. let a : Address = record { maker = n; serial = k } in a) (made_none m n p)
 
--- ---- what stands there after an object came
+-- ---- what is there after an object was added
 
 was_there : (m : ObjectMap) (a b : Address) (o : Object) (t : Bool) → eq_by_cmp address_cmp b a ≡ t → IsSome (cond t (Some o) (get m b)) → (P : Address → Type 0) → P a → (IsSome (get m b) → P b) → P b
 was_there m a b o true e h P here other = subst P (sym (tells_apart exact_addresses b a e)) here
 was_there m a b o false e h P here other = other h
 
--- every object that stands has a property that the new one's address has, and those of the old ones
+-- if the new object's address has a property and those of the old ones do, so does every object that exists
 pub each_there : (m : ObjectMap) (a : Address) (o : Object) (P : Address → Type 0) → P a → ((b : Address) → IsSome (get m b) → P b) → (b : Address) → IsSome (get (insert m a o) b) → P b
 each_there m a o P here others b h =
     was_there m a b o (eq_by_cmp address_cmp b a) refl (subst (λ (x : Option Object). IsSome x) (get-insert addresses_total m a o b) h) P here (others b)

@@ -1,4 +1,4 @@
--- What comes of a plan.
+-- The result of a plan.
 use Rattle.std.proofs.Common.{◌≡◌, ℕ, zero, suc, ◌<◌, List, [], ◌∷◌, ◌++◌, length, Option, Some, None, refl, sym, ap, ◌∙◌, arith}
 use Rattle.std.specs.Prelude.{slice_get}
 use Rattle.std.specs.FinMap.{insert}
@@ -117,7 +117,7 @@ changed_before (x ∷ xs) b (suc i) g l = let m : i < length xs = omega (arith, 
 abbrev pub new_actor : Message → Actor
 new_actor m = record { mailbox = m ∷ []; frames = [] }
 
--- The frames of a running actor stay where an actor comes behind the others.
+-- The frames of a running actor are unchanged when an actor is appended.
 pub frames_stay : (xs mid : List Actor) (i : ℕ) (m : Message) → 0 < length (frames_of xs i) → mid ≡ xs ++ new_actor m ∷ [] → frames_of mid i ≡ frames_of xs i
 frames_stay xs mid i m runs e = ap (λ (ys : List Actor). frames_of ys i) e ∙ frames_before xs (new_actor m) i (is_there xs i runs)
 
@@ -149,7 +149,7 @@ spawned c i count entity fields m at mid last runs own first second =
     ∙ ap (λ a. let o : Outcome × Configuration = (Moved, amended c (insert c.objects a (new_object entity fields)) (changed c.actors i (framed fs) ++ new_actor m ∷ [])) in o) own
     ∙ spawn_planned c i (running c.actors i runs) count entity fields m
 
--- An object is made behind the change of the frames.
+-- An object is made after the change of the frames.
 pub made_object : (c : Configuration) (i count entity fields : ℕ) (f g : Frame) (at new : Address) (last : List Actor) → 0 < length (frames_of c.actors i) → at ≡ next_address c.objects i → new ≡ next_address c.objects i
     → g ≡ with_slot f 0 (Some (At at)) → last ≡ changed c.actors i (framed (frames_changed (Enters count g) (frames_of c.actors i)))
     → ◌≡◌ {A = Outcome × Configuration} (Moved, amended c (insert c.objects new (new_object entity fields)) last) (planned c i (Makes count entity fields f))

@@ -18,7 +18,7 @@ popped_short zero xs arguments l = absurd (omega (arith, l))
 popped_short (suc k) [] arguments l = refl
 popped_short (suc k) (x ∷ xs) arguments l = let m : length xs < k = omega (arith, l) in popped_short k xs (x ∷ arguments) m
 
--- the values of arguments, where there are so many
+-- the values of the arguments, if there are this many
 pub popped_is : (r : Option (Bor (List Value))) (k : ℕ) (xs : List Value) → IsSome r ↔ (k ≤ length xs) → IfSome r (λ values. values.now ≡ reverse (take k xs)) → MatchOption r (popped k xs [] ≡ None) (λ values. popped k xs [] ≡ Some (values.now, drop k xs))
 popped_is None k xs enough values =
     elim (cases_lt (length xs) k) [

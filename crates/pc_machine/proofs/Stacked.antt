@@ -1,4 +1,4 @@
--- The frames of an actor, and what stands on their stacks.
+-- The frames of an actor, and what is on their stacks.
 use Rattle.std.proofs.Common.{◌≡◌, ℕ, zero, suc, ◌-◌, ◌<◌, List, [], ◌∷◌, drop, refl, ap, ◌∙◌, arith}
 
 drop_one_more : {T : Type 0} → (xs : List T) (n : ℕ) → drop 1 (drop n xs) ≡ drop (suc n) xs

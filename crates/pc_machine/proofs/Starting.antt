@@ -1,4 +1,4 @@
--- Where the program of a core begins.
+-- The start of a core's program.
 use Rattle.std.proofs.Common.{◌≡◌, ℕ, ◌+◌, ◌<◌, Bool, true, false, cond, List, [], ◌∷◌, Option, Some, None, refl, sym, ap, ◌∙◌, arith}
 use Rattle.std.specs.Prelude.{map, is_some, IsSome, slice_get, replicate}
 use Rattle.std.specs.FinMap.{empty, get, insert, len, entries, put, get-insert, same_map, len-empty, len-entries, entries-insert}
@@ -38,7 +38,7 @@ insert_twice m a x y = same_map addresses_total exact_addresses _ _ (λ q.
     inserted (insert m a x) a y q ∙ ap (cond (eq_by_cmp address_cmp q a) (Some y)) (inserted m a x q)
     ∙ same_cond (eq_by_cmp address_cmp q a) (Some y) (Some x) (get m q) ∙ sym (inserted m a y q))
 
--- ---- the objects, one after the other
+-- ---- the objects, one after another
 
 -- with the stream, then the environment, then its field, then Main
 abbrev first_objects : CoreData → ObjectMap
@@ -134,6 +134,6 @@ begins_peopled : (core : CoreData) (o : Option (ℕ × ℕ)) → IsPeopled (star
 begins_peopled core None = peopled_none
 begins_peopled core (Some p) = objects_peopled core p.0
 
--- Where a program begins, the makers of objects are actors.
+-- At the start of a program, the makers of objects are actors.
 pub start_peopled : (core : CoreData) → IsPeopled (start core)
 start_peopled core = begins_peopled core (main_create core)

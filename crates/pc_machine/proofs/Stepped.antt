@@ -34,7 +34,7 @@ pub head_rest : {T : Type 0} → (xs : List T) (x : T) → slice_get xs 0 ≡ So
 head_rest [] x e = absurd (none-some x e)
 head_rest (y ∷ ys) x e = ap (λ z. z ∷ ys) (same_Some y x e)
 
--- the actor behind the take
+-- the actor after the take
 abbrev taker : Actor → Actor
 taker a = record { mailbox = drop 1 a.mailbox; frames = [] }
 
@@ -107,7 +107,7 @@ ran_step core c i o objects last inside at =
     ap (λ actors. let p : Outcome × Configuration = (o, amended c objects actors) in p) ends
     ∙ sym (inside_step core c i r.actor r.frame done.frame r.below o objects r.here r.frames task done.inside)
 
--- The frames of one actor, where they were changed in their place.
+-- The frames of one actor, if they were changed in place.
 pub ran_at : {E : Type 0} (core : CoreData) (objects objects' : ObjectMap) (all : List Actor) (i : ℕ) (a : Actor) (frames : List Frame) (r : Result Outcome E) → i < length all → a ≡ get_or all i a
     → IfOk r (λ o. IfSome (slice_get a.frames 0) (λ f. Ran core objects f (drop 1 a.frames) o objects' frames))
     → IfOk r (λ o. RanAt core objects all i o objects' (set all i (record { mailbox = a.mailbox; frames = frames })))

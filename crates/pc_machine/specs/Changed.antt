@@ -4,7 +4,7 @@ use Rattle.pc_semantics.specs.declared.actors.Actor.{Actor}
 use Rattle.pc_semantics.specs.declared.frames.Frame.{Frame}
 use Rattle.pc_semantics.specs.declared.mailbox.Message.{Message}
 
--- The list with what stands at a place changed.
+-- The list with the element at a place changed.
 abbrev pub changed : {T : Type 0} → List T → ℕ → (T → T) → List T
 changed [] i g = []
 changed (x ∷ xs) zero g = g x ∷ xs
@@ -14,11 +14,11 @@ changed (x ∷ xs) (suc i) g = x ∷ changed xs i g
 abbrev pub framed : List Frame → Actor → Actor
 framed frames a = record { mailbox = a.mailbox; frames = frames }
 
--- A message comes after those that wait for the actor.
+-- A message is appended to those that wait for the actor.
 abbrev pub mailed : Message → Actor → Actor
 mailed m a = record { mailbox = a.mailbox ++ m ∷ []; frames = a.frames }
 
--- The actor's oldest message goes.
+-- The actor's oldest message is removed.
 abbrev pub unmailed : Actor → Actor
 unmailed a = record { mailbox = drop 1 a.mailbox; frames = a.frames }
 
@@ -30,6 +30,6 @@ frames_in (Some a) = a.frames
 abbrev pub frames_of : List Actor → ℕ → List Frame
 frames_of actors i = frames_in (slice_get actors i)
 
--- The messages that wait for these actors.
+-- How many messages wait for these actors.
 abbrev pub messages_in : List Actor → ℕ
 messages_in actors = sum (map (λ (a : Actor). length a.mailbox) actors)

@@ -1,4 +1,4 @@
--- A machine as its core and its configuration.
+-- A machine, seen as its core and its configuration.
 use Rattle.std.specs.Prelude.{ℕ, List, refl}
 use Rattle.std.specs.Coded.{Coded, code_by, coded×, coded_list, coded_ℕ}
 use Rattle.std.specs.FinMap.{code}

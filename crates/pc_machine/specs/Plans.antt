@@ -72,7 +72,7 @@ Fits (Makes count entity fields g) n = (fields ≤ field_limit) × (0 < length g
 Fits (Spawns count entity fields m) n = (fields ≤ field_limit) × (count ≤ n)
 Fits (Sends count receiver m) n = (0 < count) × (count ≤ n)
 
--- The plan reaches only an actor among this number of them.
+-- If the plan sends a message, it is to one of this number of actors.
 abbrev pub Reaches : Plan → ℕ → Type 0
 Reaches (Sends count receiver m) actors = receiver < actors
 Reaches p actors = Unit {0}

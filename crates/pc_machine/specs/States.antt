@@ -12,7 +12,7 @@ use Rattle.pc_machine.specs.declared.state.State.{State}
 abbrev pub configuration_of : State → Configuration
 configuration_of s = record { objects = s.heap.objects; actors = s.actors; printed = s.printed }
 
--- Whoever made an object is one of this number of actors, each of which has made one.
+-- Every maker of an object is one of this number of actors, and each of these has made an object.
 pub record Peopled (objects : ObjectMap) (actors : ℕ) : Type 0 where
   pub makers : (a : Address) → IsSome (get objects a) → a.maker < actors
   pub few_actors : actors ≤ len objects
@@ -21,7 +21,7 @@ pub record Peopled (objects : ObjectMap) (actors : ℕ) : Type 0 where
 abbrev pub IsPeopled : Configuration → Type 0
 IsPeopled c = Peopled c.objects (length c.actors)
 
--- Objects, and a number of actors, of a machine that runs a core.
+-- Objects and a number of actors of a machine that runs a core.
 pub record Sound (core : CoreData) (objects : ObjectMap) (actors : ℕ) : Type 0 where
   pub peopled : Peopled objects actors
   pub fielded : Fielded core objects

@@ -1,4 +1,4 @@
--- What a message is to the idle actor that takes it.
+-- What a message means to the idle actor that takes it.
 use Rattle.std.specs.Prelude.{ℕ, List, [], ◌∷◌, Option, Some, None, slice_get}
 use Rattle.pc_heap.specs.declared.value.Value.{Value}
 use Rattle.pc_heap.specs.declared.value.Value.TheVariants.{Text, At}

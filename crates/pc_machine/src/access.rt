@@ -127,7 +127,7 @@ fn access_on(core: &Core, heap: &Heap, frame: &Frame, name: u32, write: bool) ->
     })
 }
 
-/// What the next task of an actor reads or writes. `None` iff that is no field of an object.
+/// The field of an object that the next task of an actor reads or writes. `None` iff there is none.
 pub fn access_of(core: &Core, state: &State, actor: u32) -> Option<Access>
     ensures { result ≡ spec.access core.now (configuration_of state.now) actor }
 {

@@ -56,7 +56,7 @@ impl Actors {
         self.waiting
     }
 
-    /// The actor of a number. `None` iff there is none.
+    /// The actor with a number. `None` iff there is none.
     pub fn get(&self, actor: usize) -> Option<&Actor>
         ensures { option_copied result ≡ slice_get self.now actor }
     {
@@ -113,7 +113,7 @@ impl Actors {
         run_in(alloc, core, heap, &mut self.all, actor)
     }
 
-    /// Gives an actor other frames, and answers those that it had. It does not allocate.
+    /// Replaces the frames of an actor, and returns the old ones. It does not allocate.
     pub fn swap_frames(&mut self, actor: usize, frames: Stack<Frame>) -> Stack<Frame>
         requires { actor < length self.old }
         ensures new { self.new ≡ changed self.old actor (framed frames) }
@@ -122,7 +122,7 @@ impl Actors {
         swap_frames_of(&mut self.all, actor, frames)
     }
 
-    /// Takes the last actor away. It does not allocate.
+    /// Removes the last actor. It does not allocate.
     pub fn withdraw(&mut self)
         ensures { self.new ≡ take (length self.old - 1) self.old }
     {

@@ -24,7 +24,7 @@ use pc_heap::{Heap, Value};
 use pc_semantics::{Ahead, Frame, Mailbox, Message, Task};
 use pc_tasks::{ahead_inside, is_inside};
 
-// A class's constructor of a number, with these arguments.
+// A class's constructor with this number, with these arguments.
 fn object(core: &Core, number: u32, arguments: &[Value]) -> Ahead
     ensures { (around : Around) (f : Frame) → result ≡ by_move (calls.make_of core.now around number arguments.now f (slice_get core.now.methods number)) }
 {
@@ -53,7 +53,7 @@ fn make(core: &Core, frame: &Frame, node: &Node) -> Ahead
     }
 }
 
-// An actor's constructor of a number, with these arguments.
+// An actor's constructor with this number, with these arguments.
 fn actor(core: &Core, number: u32, arguments: &[Value]) -> Ahead
     ensures { (around : Around) (f : Frame) → result ≡ by_move (calls.spawn_of core.now around number arguments.now f (slice_get core.now.methods number)) }
 {
@@ -122,7 +122,7 @@ fn method_of(actors: usize, method: &Method, this: &Value, arguments: &[Value]) 
     }
 }
 
-// The call of a name that is no method of the receiver.
+// The call of a name that is not a method of the receiver.
 fn string(core: &Core, name: u32, this: &Value, arguments: &[Value]) -> Ahead
     ensures { (f : Frame) → result ≡ by_move (calls.string_of core.now name this.now arguments.now f) }
 {
@@ -207,7 +207,7 @@ fn end(core: &Core, frame: &Frame) -> Ahead
     }
 }
 
-// The first task of a frame, if it is no task inside the frame.
+// The first task of a frame, if it is not a task inside the frame.
 fn first_call(core: &Core, heap: &Heap, actors: usize, frame: &Frame) -> Ahead
     requires { ¬ (IsInside (slice_get frame.now.tasks 0)) }
     ensures { (i : ℕ) → result ≡ by_move (first_move core.now (amid heap.now.objects i actors) frame.now (slice_get frame.now.tasks 0)) }
@@ -253,7 +253,7 @@ fn first_task(core: &Core, heap: &Heap, actors: usize, frame: &Frame) -> Ahead
     }
 }
 
-// The taking of a message by actor 0, which prints its text.
+// Actor 0 takes a message, and prints its text.
 fn print(message: &Message) -> Ahead
     ensures { (c : Configuration) (a : Actor) → result ≡ by_outcome (printed_text c a message.now.arguments).0 }
 {
@@ -263,7 +263,7 @@ fn print(message: &Message) -> Ahead
     }
 }
 
-// The taking of a message by another actor, which begins its method.
+// Another actor takes a message, and begins its method.
 fn begin(core: &Core, message: &Message) -> Ahead
     ensures { (c : Configuration) (i : ℕ) (a : Actor) → result ≡ by_outcome (begin_method c i a message.now (slice_get core.now.methods message.now.method)).0 }
 {
@@ -276,7 +276,7 @@ fn begin(core: &Core, message: &Message) -> Ahead
     }
 }
 
-// The taking of the oldest message of an idle actor.
+// An idle actor takes its oldest message.
 #[tactic(auto, using(crate::proofs::Foreseen::none_waits, crate::proofs::Foreseen::oldest_printed, crate::proofs::Foreseen::oldest_begun))]
 fn oldest(core: &Core, actor: u32, mailbox: &Mailbox) -> Ahead
     ensures { (c : Configuration) → result ≡ by_outcome (take_first core.now c actor mailbox.now).0 }

@@ -6,7 +6,7 @@ use pc_heap::Value;
 use pc_semantics::{Arguments, Message, Stack};
 use std::alloc::{AllocError, Global};
 
-/// The values of this number of arguments, which were pushed one after the other. `None` iff there are fewer.
+/// The values of this number of arguments, in the order in which they were pushed. `None` iff there are fewer.
 pub fn arguments_on(stack: &Stack<Value>, count: usize) -> Option<&[Value]>
     ensures values { MatchOption result
         (popped count stack.now [] ≡ None)

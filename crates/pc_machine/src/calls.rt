@@ -16,7 +16,7 @@ use pc_semantics::{Frame, Lack};
 use pc_tree::NONE_ENTITY;
 use std::alloc::{AllocError, Global};
 
-// What a class's constructor of a number is about to do with these arguments.
+// What a class's constructor with this number is about to do with these arguments.
 fn plan_object(
     alloc: Global,
     core: &Core,
@@ -67,7 +67,7 @@ pub fn plan_make(alloc: Global, core: &Core, frame: &Frame, node: &Node) -> Resu
     plan_object(alloc, core, *number, arguments)
 }
 
-// What an actor's constructor of a number is about to do with these arguments.
+// What an actor's constructor with this number is about to do with these arguments.
 fn plan_actor(
     alloc: Global,
     core: &Core,

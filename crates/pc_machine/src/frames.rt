@@ -10,7 +10,7 @@ use pc_heap::Value;
 use pc_semantics::{Frame, Slots, Stack, Task, Tasks};
 use std::alloc::{AllocError, Global};
 
-// A frame that holds the place of another. It does not allocate.
+// A frame that takes the place of another for a while. It does not allocate.
 fn blank(alloc: Global) -> Frame {
     Frame {
         method: 0,
@@ -44,7 +44,7 @@ fn argument_slots(
     Ok(filled)
 }
 
-// The one task of a method that begins: its body is evaluated.
+// The only task of a method when it begins: its body is evaluated.
 fn body_first(alloc: Global, body: u32) -> Result<Tasks, AllocError>
     ensures { IfOk result (λ tasks. tasks ≡ Eval body ∷ []) }
 {
@@ -53,7 +53,7 @@ fn body_first(alloc: Global, body: u32) -> Result<Tasks, AllocError>
     Ok(tasks)
 }
 
-/// The frame of a method that begins, by its number and its body, with `this` and the arguments.
+/// The frame of a method when it begins, by its number and its body, with `this` and the arguments.
 pub fn begin_frame(
     alloc: Global,
     number: u32,
@@ -77,7 +77,7 @@ pub fn begin_frame(
     })
 }
 
-// The first task of a frame and its topmost values go.
+// Removes the first task of a frame and its topmost values.
 fn finish(frame: &mut Frame, count: usize)
     ensures { frame.new ≡ after_call count frame.old }
 {
@@ -85,7 +85,7 @@ fn finish(frame: &mut Frame, count: usize)
     frame.stack.discard(count);
 }
 
-// The first task of a frame goes, and a value takes the place of the topmost ones.
+// Removes the first task of a frame, and replaces the topmost values by one value.
 #[tactic(auto, using(crate::proofs::Stacked::drop_last))]
 fn place_value(frame: &mut Frame, count: usize, value: Value)
     requires some { 0 < count }
@@ -96,7 +96,7 @@ fn place_value(frame: &mut Frame, count: usize, value: Value)
     drop(frame.stack.replace_top(value));
 }
 
-/// The running frame goes on with a value in the place of the topmost ones. It does not allocate.
+/// The running frame goes on with a value in place of the topmost ones. It does not allocate.
 pub fn place_top(frames: &mut Stack<Frame>, count: usize, value: Value)
     requires running { 0 < length frames.old }
     requires some { 0 < count }
@@ -149,7 +149,7 @@ fn enter(
     Ok(())
 }
 
-// A value comes on the stack of a frame.
+// Pushes a value on the stack of a frame.
 fn push_on(frame: &mut Frame, value: Value) -> Result<(), AllocError>
     ensures ok { OnOk result (frame.new ≡ pushed frame.old value) }
     ensures err { OnErr result (frame.new ≡ frame.old) }

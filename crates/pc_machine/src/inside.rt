@@ -1,4 +1,5 @@
-//! The tasks that concern one frame and the objects alone. The frame stays in its place among all frames while its task is done.
+//! The tasks that concern one frame and the objects alone. The frame stays in place among all frames while its task is
+//! done.
 ghost use Rattle.std.specs.Prelude.{◌≡◌, drop, slice_get, IfOk, IfSome, OnErr, IsSomeAnd};
 ghost use Rattle.pc_semantics.specs.Step.{step};
 ghost use Rattle.pc_tasks.specs.Inside.{IsInside};

@@ -1,11 +1,11 @@
-//! The machine that runs a core. What it does is the definition's: the start of a program, each step of an actor, and what
-//! an actor is about to touch are those of `pc_semantics`, exactly.
+//! The machine that runs a core. It does what the definitions state: the start of a program, each step of an actor, and
+//! what an actor is about to touch are exactly those of `pc_semantics`.
 //!
-//! Proved: `start` is the definition's, `step` in outcome and configuration too, for every core, every configuration
-//! that steps reach and every actor; `access`, `ahead`, `actor`, `class_of` and the counts are the configuration's, and do not
-//! allocate. If memory runs out, the configuration stays as it was.
+//! Proved: `start` and `step` agree with their definitions, `step` in outcome and configuration, for every core, every
+//! actor and every configuration that steps reach; `access`, `ahead`, `actor`, `class_of` and the counts are those of
+//! the configuration, and do not allocate. If memory runs out, the configuration is unchanged.
 //!
-//! Not proved: time. A test takes a million steps, and looks at no clock.
+//! Not proved: time. A test takes a million steps, but does not measure time.
 #![tactic(auto)]
 
 mod access;

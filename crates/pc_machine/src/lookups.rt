@@ -1,4 +1,4 @@
-//! What a core and a heap say of entities.
+//! What a core and a heap determine about entities.
 ghost use Rattle.std.specs.Prelude.{◌≡◌, ◌≤◌, slice_get};
 ghost use Rattle.pc_caps.specs.Limits.{field_limit};
 ghost use Rattle.pc_semantics.specs.Around as around;
@@ -20,7 +20,7 @@ pub fn fields_of(core: &Core, entity: u32) -> u32
     }
 }
 
-/// A value's own entity. `None` iff the value is the address of no object.
+/// A value's own entity. `None` iff the value is an address without an object.
 pub fn entity_of(heap: &Heap, value: &Value) -> Option<u32>
     ensures { result ≡ around.entity_of heap.now.objects value.now }
 {

@@ -1,4 +1,4 @@
-//! Plans are done.
+//! Plans are carried out.
 ghost use Rattle.std.specs.Prelude.{◌≡◌, ◌+◌, ◌<◌, ◌≤◌, ◌^◌, length, slice_get, IfOk, IfSome, OnOk, OnErr};
 ghost use Rattle.std.specs.FinMap.{len};
 ghost use Rattle.pc_heap.specs.Heaps.{object_limit, field_limit};
@@ -41,7 +41,7 @@ fn change_actor(
     }
 }
 
-// A running actor goes on with a value in the place of the topmost ones.
+// A running actor goes on with a value in place of the topmost ones.
 fn place_for(alloc: Global, actors: &mut Actors, actor: usize, count: usize, value: Value)
     requires running { 0 < length (frames_of actors.old actor) }
     requires some { 0 < count }
@@ -100,7 +100,7 @@ fn send(
     Ok(Outcome::Moved)
 }
 
-// An object is made, and its constructor begins, whose frame has a place for `this`.
+// An object is made, and its constructor begins, in a frame that has a place for `this`.
 fn make(
     alloc: Global,
     state: &mut State,
@@ -168,7 +168,7 @@ fn spawn(
     }
 }
 
-/// Does what an actor that runs is about to do. An `Err` leaves the configuration as it was.
+/// Carries out what a running actor is about to do. An `Err` leaves the configuration as it was.
 pub fn make_move(
     alloc: Global,
     state: &mut State,

@@ -3,8 +3,8 @@
 use pc_heap::Value;
 use pc_semantics::{Frame, Lack, Message};
 
-/// What becomes of the frames of an actor. If the running frame goes on, its first task and `count` values of its
-/// stack are removed.
+/// How the frames of an actor change. If the running frame goes on, its first task and `count` values of its stack are
+/// removed.
 #[derive(Drop)]
 pub enum Change {
     /// It goes on with a value.

@@ -12,7 +12,7 @@ use pc_heap::Heap;
 use pc_semantics::{Frame, Lack, Task};
 use std::alloc::{AllocError, Global};
 
-/// What the first task of a frame is about to do, if it is no task inside the frame and there are this many actors.
+/// What the first task of a frame is about to do, if it is not one inside the frame and there are this many actors.
 pub fn plan_first(
     alloc: Global,
     core: &Core,

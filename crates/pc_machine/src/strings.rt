@@ -12,7 +12,7 @@ use pc_heap::{Text, Value};
 use pc_semantics::Lack;
 use std::alloc::{AllocError, Global};
 
-/// Whether the call of this name with these arguments is that of `string`.
+/// Whether the call of this name with these arguments is a call of `string`.
 pub fn is_string(core: &Core, name: u32, arguments: &[Value]) -> bool
     ensures { result ≡ spec.is_string core.now name arguments.now }
 {
@@ -44,7 +44,7 @@ fn truth_text(alloc: Global, truth: bool) -> Result<List<u8>, AllocError>
     }
 }
 
-// What `string` of a value gives, if that is a number or a truth value.
+// The value of `string` for a number or a truth value.
 fn text_of(alloc: Global, value: &Value) -> Result<Option<List<u8>>, AllocError>
     ensures { IfOk result (λ text. text ≡ spec.text_of value.now) }
 {
@@ -55,7 +55,7 @@ fn text_of(alloc: Global, value: &Value) -> Result<Option<List<u8>>, AllocError>
     }
 }
 
-/// What the call of a name is about to do that is no method of the receiver.
+/// What the call of a name is about to do if it is not a method of the receiver.
 pub fn plan_string(
     alloc: Global,
     core: &Core,

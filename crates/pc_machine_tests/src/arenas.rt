@@ -5,7 +5,7 @@ use pc_arena::Arena;
 use std::alloc::{AllocError, Global};
 use std::rc::Rc;
 
-/// Pushes the numbers below `count`, and answers the place of the last one.
+/// Pushes the numbers below `count`, and returns the place of the last one.
 fn fill(arena: &mut Arena<u32>, count: u32) -> Option<u32>
     requires { count ≤ arena.old.spare }
     ensures { length arena.new.items ≡ length arena.old.items + count }
@@ -17,7 +17,8 @@ fn fill(arena: &mut Arena<u32>, count: u32) -> Option<u32>
     last
 }
 
-// Pushes 300 values and exchanges two of them; whether the places at both sides of the edge of a chunk hold what they are to.
+// Pushes 300 values and exchanges two of them, and reports whether the places on both sides of a chunk's edge hold what
+// they should.
 fn is_filled(arena: &mut Arena<u32>) -> bool
     requires { 300 ≤ arena.old.spare }
 {
@@ -45,7 +46,7 @@ fn pushed_values_stay_at_their_places(rt: HostRuntime) {
     assert!(rt; is_filled_with_300(rt.alloc()));
 }
 
-/// Pushes a value, as counted, so many times.
+/// Pushes a value, which counts its owners, this many times.
 fn fill_with(arena: &mut Arena<Rc<u32>>, value: &Rc<u32>, count: u32) -> Result<(), AllocError>
     requires { count ≤ arena.old.spare }
     ensures { length arena.old.items ≤ length arena.new.items }
@@ -56,7 +57,7 @@ fn fill_with(arena: &mut Arena<Rc<u32>>, value: &Rc<u32>, count: u32) -> Result<
     Ok(())
 }
 
-// Puts a value 600 times into an arena, and exchanges the last of them; whether it is counted so often.
+// Puts a value into an arena 600 times, exchanges the last of them, and reports whether it has that many owners.
 fn is_counted(arena: &mut Arena<Rc<u32>>, value: &Rc<u32>) -> Result<bool, AllocError>
     requires { 600 ≤ arena.old.spare }
 {
@@ -68,14 +69,14 @@ fn is_counted(arena: &mut Arena<Rc<u32>>, value: &Rc<u32>) -> Result<bool, Alloc
     Ok(all && Rc::strong_count(value) == 601)
 }
 
-// The same in an arena that is dropped then.
+// The same in an arena that is then dropped.
 fn is_counted_in_arena(alloc: Global, value: &Rc<u32>) -> Result<bool, AllocError> {
     let mut arena = Arena::new(alloc);
     arena.reserve(600)?;
     is_counted(&mut arena, value)
 }
 
-// Whether a value is counted once more behind the arena that held it 600 times.
+// Whether a value has one owner again after the arena that held it 600 times.
 fn is_dropped_600_times(alloc: Global) -> Result<bool, AllocError> {
     let value = Rc::new(alloc, 7)?;
     let is_right = is_counted_in_arena(alloc, &value)?;

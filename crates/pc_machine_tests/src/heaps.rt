@@ -14,7 +14,7 @@ pub fn made(heap: &mut Heap, maker: u32, entity: u32, fields: u32) -> Option<Add
     }
 }
 
-// Where an object stands: its maker and its serial.
+// An object's address: its maker and its serial.
 type Place = (u32, u32);
 
 fn at(place: Place) -> Address {
@@ -27,19 +27,19 @@ fn at(place: Place) -> Address {
 // What is done with a heap, or looked at in it.
 #[derive(Clone, Copy)]
 enum Act {
-    // There are so many objects.
+    // There are this many objects.
     Counts(u32),
-    // Room is made for an object of a maker, with so many fields.
+    // Room is made for an object of a maker, with this many fields.
     Reserves(u32, u32),
-    // A maker makes an object of an entity with so many fields, which has this serial.
+    // A maker makes an object of an entity with this many fields, and it has this serial.
     Makes(u32, u32, u32, u32),
-    // This is the entity of an object, where there is one.
+    // This is the entity of an object, if there is one.
     IsOf(Place, Option<u32>),
-    // This is the value in a field, where there is one.
+    // This is the value in a field, if there is one.
     Holds(Place, u32, Option<Held<'static>>),
     // A field takes a number, and held this before.
     Takes(Place, u32, u64, Option<Held<'static>>),
-    // There is no such field, so a value that it is to take comes back.
+    // There is no such field, so the value that it was to take is handed back.
     Refuses(Place, u32),
 }
 
@@ -76,7 +76,7 @@ fn refuses(heap: &mut Heap, address: Address, field: u32) -> bool {
         && comes_back(heap.set(address, field, Value::Prim(1)), Held::Prim(1))
 }
 
-// Whether an act goes as it says.
+// Whether an act has the result that it states.
 fn goes(heap: &mut Heap, act: Act) -> bool {
     match act {
         Act::Counts(count) => heap.count() == count,
@@ -100,7 +100,7 @@ fn all_go(heap: &mut Heap, acts: &[Act]) -> bool {
     true
 }
 
-// Whether these acts go as they say, one after the other, in a new heap.
+// Whether these acts have the results that they state, one after another, in a new heap.
 fn go(alloc: Global, acts: &[Act]) -> bool {
     let mut heap = Heap::new(alloc);
     all_go(&mut heap, acts)

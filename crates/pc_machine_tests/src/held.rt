@@ -1,4 +1,4 @@
-//! Values as the tables of tests write them.
+//! Values as the tables of the tests write them.
 use pc_heap::{Address, Text, Value};
 
 /// A value that a field or a slot holds.
@@ -12,7 +12,7 @@ pub enum Held<'t> {
     Object(Address),
 }
 
-/// Whether a table writes the value so.
+/// Whether a table writes the value in this way.
 pub fn is_written(value: &Value, held: Held<'_>) -> bool {
     match value {
         Value::Num(number) => held == Held::Number(*number),
@@ -30,7 +30,7 @@ fn is_text(text: &Text, held: Held<'_>) -> bool {
     }
 }
 
-/// Whether a place holds a value that is written so, or none.
+/// Whether a place holds a value that is written in this way, or none.
 pub fn holds(place: Option<&Value>, wanted: Option<Held<'_>>) -> bool {
     match (place, wanted) {
         (Some(value), Some(held)) => is_written(value, held),

@@ -1,5 +1,5 @@
-//! Runs in which memory is refused once, at any request. What is refused is done once more, and then all goes on as if nothing
-//! had been refused. `bench/refuse-memory` refuses each request of these tests in turn.
+//! Runs in which one allocation fails, at any point. What failed is done once more, and then everything goes on as if
+//! nothing had failed. `bench/refuse-memory` lets each allocation of these tests fail in turn.
 use crate::running::core_again;
 use crate::turns::{Counts, counts, has_printed, step};
 use pc_core::Core;
@@ -7,7 +7,7 @@ use pc_machine::{Machine, Outcome, start};
 use pc_test_inputs::programs::CHAIN;
 use std::alloc::Global;
 
-/// An actor that is made and sent to twice, each time with more arguments than stand in a message itself.
+/// An actor that is made and sent two messages, each time with more arguments than are kept in a message itself.
 const ARGUMENTS: &[u8] = b"class C
   var t: String
   new create(s: String) =>
@@ -34,7 +34,7 @@ fn started(alloc: Global, core: &Core) -> Option<Machine<'_>> {
     start(alloc, core).ok()
 }
 
-/// Whether a step of an actor ends so, tried once more where memory was refused, and nothing that is seen changes in
+/// Whether a step of an actor ends like this, tried once more if memory ran out, and nothing visible changes in
 /// between.
 fn ends(machine: &mut Machine<'_>, actor: u32, outcome: Outcome) -> bool {
     let before = counts(machine);
@@ -51,7 +51,7 @@ fn ends(machine: &mut Machine<'_>, actor: u32, outcome: Outcome) -> bool {
     }
 }
 
-/// Whether so many steps of an actor move, and then one is skipped.
+/// Whether this many steps of an actor move, and then one is skipped.
 fn run(machine: &mut Machine<'_>, actor: u32, times: u32) -> bool {
     for _ in 0..times {
         if !ends(machine, actor, Outcome::Moved) {
@@ -61,10 +61,10 @@ fn run(machine: &mut Machine<'_>, actor: u32, times: u32) -> bool {
     ends(machine, actor, Outcome::Skipped)
 }
 
-// An actor, how many steps it takes, and how many things are there behind them.
+// An actor, how many steps it takes, and how many of each thing there are after them.
 type Turn = (u32, u32, Counts);
 
-/// Whether these turns go like this, one after the other.
+/// Whether these turns go like this, one after another.
 fn all_run(machine: &mut Machine<'_>, turns: &[Turn]) -> bool {
     for (actor, steps, wanted) in turns {
         if !run(machine, *actor, *steps) || counts(machine) != *wanted {

@@ -1,4 +1,4 @@
-//! A constructor that is run to its end. What is refused memory is done once more.
+//! A constructor that is run to its end. What runs out of memory is done once more.
 use crate::heaps::made;
 use crate::held::{Held, holds};
 use pc_core::{Core, Method};
@@ -8,19 +8,20 @@ use pc_tasks::{is_inside, run_inside};
 use pc_test_inputs::core_of;
 use std::alloc::{AllocError, Global};
 
-/// How a constructor came to its end.
+/// How a constructor ended.
 #[derive(Clone, Copy)]
 pub struct Ended {
     /// How many steps there were.
     pub steps: u32,
     /// How the last step ended.
     pub last: Outcome,
-    /// Whether it is at its Return, with one value on the stack, and the slots behind its parameter hold what they are to.
+    /// Whether it is at its Return, with one value on the stack, and the slots after its parameter hold what they
+    /// should.
     pub is_done: bool,
 }
 
-// What can be told of a frame: how many values it has, its first task, and how many of its slots, of which there are at most
-// 64, hold something.
+// What is observed of a frame: how many values it has, its first task, and how many of its slots, of which there are at
+// most 64, hold something.
 type Told = (usize, Option<Task>, usize);
 
 fn told_of(frame: &Frame) -> Told {
@@ -30,7 +31,7 @@ fn told_of(frame: &Frame) -> Told {
     (frame.stack.len(), frame.tasks.top(), held)
 }
 
-// How a step ends, tried once more where memory was refused. There is no answer where the refusal changed what can be told.
+// How a step ends, tried once more if memory ran out. There is no answer if the failure changed what is observed.
 fn step(alloc: Global, core: &Core, heap: &mut Heap, frame: &mut Frame) -> Option<Outcome> {
     if !is_inside(frame) {
         return None;
@@ -70,7 +71,7 @@ fn slot_holds(frame: &Frame, slot: usize, wanted: Held<'_>) -> bool {
     holds(frame.slots.get(slot), Some(wanted))
 }
 
-// Whether the slots behind the parameter of a constructor hold these values.
+// Whether the slots after the parameter of a constructor hold these values.
 fn slots_hold(frame: &Frame, wanted: &[Held<'_>]) -> bool {
     for place in 0..wanted.len() {
         if !slot_holds(frame, place + 2, wanted[place]) {
@@ -101,7 +102,7 @@ fn run(
     })
 }
 
-// So many slots, of which the first holds an object.
+// This many slots, of which the first holds an object.
 fn slots_of(alloc: Global, this: Address, count: u32) -> Result<Slots, AllocError> {
     let mut held = Vec::new(alloc);
     held.push(Some(Value::At(this)))?;
@@ -128,7 +129,7 @@ fn begun(alloc: Global, this: Address, method: &Method) -> Option<Frame> {
     frame_of(alloc, this, method.slots, body).ok()
 }
 
-// The object of Main, with so many fields.
+// The object of Main, with this many fields.
 fn main_object(heap: &mut Heap, fields: u32) -> Option<Address> {
     match made(heap, 1, 6, fields) {
         Some(this) => Some(this),
@@ -164,8 +165,8 @@ pub fn core_again(alloc: Global, program: &[u8]) -> Option<Core> {
     core_of(alloc, program)
 }
 
-/// How the constructor ends of Main, which has so many fields and is the only entity of this text. Its slots behind its
-/// parameter are to hold these values then.
+/// How the constructor of Main ends, if Main has this many fields and is the only entity of this text. The slots after
+/// its parameter should then hold these values.
 pub fn end_of(alloc: Global, text: &[u8], fields: u32, wanted: &[Held<'_>]) -> Option<Ended> {
     match core_again(alloc, text) {
         Some(core) => run_core(alloc, &core, fields, wanted),

@@ -13,7 +13,7 @@ fn runs(alloc: Global, text: &[u8], turns: &[Turn], printed: &[&[u8]]) -> bool {
     }
 }
 
-// Whether the step of an actor ends so behind these turns of a program.
+// Whether the step of an actor ends like this after these turns of a program.
 fn ends(alloc: Global, text: &[u8], turns: &[Turn], actor: u32, outcome: Outcome) -> bool {
     match seen_behind(alloc, text, turns, &[], actor) {
         Some(seen) => seen.outcome == Some(outcome),
@@ -67,7 +67,7 @@ const CALL: &[u8] = b"actor Main
     n + n
 ";
 
-// Nine steps up to the invocation of the function, seven in it with its return, and six behind it.
+// Nine steps up to the invocation of the function, seven in it with its return, and six after it.
 const CALL_TURNS: [Turn; 2] = [(1, 99, 22, (2, 3, 1, 0)), (0, 9, 1, (2, 3, 0, 1))];
 
 #[test]
@@ -85,7 +85,7 @@ actor Main
     env.out.print(c.n.string())
 ";
 
-// Seven steps make the object. The constructor's frame has a body, a sequence and a write, and gives the object.
+// Seven steps make the object. The constructor's frame has a body, a sequence and a write, and returns the object.
 const MAKE_TURNS: [Turn; 4] = [
     (1, 6, 6, (2, 3, 0, 0)),
     (1, 1, 1, (2, 4, 0, 0)),
@@ -117,7 +117,7 @@ const READING: Access = Access {
     write: false,
 };
 
-// Turns of the program above, and what Main is about to touch behind them.
+// Turns of the program above, and what Main is about to touch after them.
 const TOUCHED: [(&[Turn], Option<Access>); 3] = [
     (&[], None),
     (&[(1, 12, 12, (2, 4, 0, 0))], Some(WRITING)),
@@ -195,7 +195,7 @@ actor Main
     n + 1
 ";
 
-// A million steps: eight, 27,026 times round the loop with 37 each, and 30 of another time, behind the message.
+// A million steps: eight, 27,026 rounds of the loop with 37 each, and 30 of another round, after the message.
 const LONG_TURNS: [Turn; 2] = [
     (1, 1_000_000, 1_000_000, (2, 27_030, 27_027, 0)),
     (0, 1_000_000, 27_027, (2, 27_030, 0, 27_027)),

@@ -4,7 +4,8 @@ use crate::running::end_of;
 use pc_semantics::{Lack, Outcome};
 use std::alloc::Global;
 
-// Whether the constructor of a text, of a Main of so many fields, comes to its Return with these values in its locals.
+// Whether the constructor of a text, of a Main with this many fields, reaches its Return with these values in its
+// locals.
 fn leaves(alloc: Global, text: &[u8], fields: u32, locals: &[Held<'_>]) -> bool {
     match end_of(alloc, text, fields, locals) {
         Some(ended) => ended.last == Outcome::Moved && ended.is_done,
@@ -198,11 +199,11 @@ const PLACE: &[u8] = b"actor Main
     let a = 1
     a.f = 2";
 
-// A text, how many fields its Main has, which step of its constructor is the last, and how that ends.
+// A text, how many fields its Main has, which step of its constructor is the last, and how it ends.
 type Ending = (&'static [u8], u32, u32, Outcome);
 
-// A node is evaluated by a step of its own, and so is each task behind its children. A turn of the loop of DOUBLES has 22 steps,
-// of which 7 are for the condition; before its 12 turns there are 10, and behind them 13.
+// Evaluating a node takes one step, and so does each task after its children. A round of the loop of DOUBLES has 22
+// steps, of which 7 are for the condition; there are 10 before its 12 rounds, and 13 after them.
 const ENDINGS: [Ending; 5] = [
     (DOUBLES, 0, 287, Outcome::TooLong),
     (UNSET, 1, 6, Outcome::Lacks(Lack::Field)),

@@ -1,28 +1,28 @@
-//! Turns of a machine, and what is seen behind them.
+//! Turns of a machine, and what is seen after them.
 use pc_core::Core;
 use pc_machine::{Access, Machine, Outcome, start};
 use pc_test_inputs::core_of;
 use std::alloc::{AllocError, Global};
 
-/// The actors, the objects, the waiting messages and the printed texts, counted.
+/// The numbers of actors, objects, waiting messages and printed texts.
 pub type Counts = (u32, u64, u64, usize);
 
 /// The turn of an actor: the actor, how many steps it is given, how many of them move before one does not, and how many
-/// things are there then.
+/// of each thing there are then.
 pub type Turn = (u32, u32, u32, Counts);
 
 /// What is seen of a machine and of one of its actors.
 #[derive(Clone, Copy)]
 pub struct Seen {
-    /// Whether the texts that were printed are those that are wanted.
+    /// Whether the printed texts are the expected ones.
     pub is_printed: bool,
     /// What the actor is about to touch.
     pub access: Option<Access>,
-    /// How its next step ends, where memory is not refused.
+    /// How its next step ends, unless memory runs out.
     pub outcome: Option<Outcome>,
 }
 
-/// A step, where the machine is small enough for one.
+/// A step, if the machine is small enough for one.
 pub fn step(machine: &mut Machine<'_>, actor: u32) -> Result<Outcome, AllocError> {
     if machine.objects() < 4_194_304 && machine.waiting() < 4_194_304 {
         machine.step(actor)
@@ -49,7 +49,7 @@ fn moves(machine: &mut Machine<'_>, actor: u32) -> bool {
     }
 }
 
-// How many of so many steps of an actor move before one does not.
+// How many of these steps of an actor move before one does not.
 fn moved(machine: &mut Machine<'_>, actor: u32, steps: u32) -> u32 {
     for done in 0..steps {
         if !moves(machine, actor) {
@@ -59,7 +59,7 @@ fn moved(machine: &mut Machine<'_>, actor: u32, steps: u32) -> u32 {
     steps
 }
 
-// Whether these turns go as they say, one after the other.
+// Whether these turns have the results that they state, one after another.
 fn all_go(machine: &mut Machine<'_>, turns: &[Turn]) -> bool {
     for (actor, steps, wanted, behind) in turns {
         if moved(machine, *actor, *steps) != *wanted || counts(machine) != *behind {
@@ -79,7 +79,7 @@ pub fn has_printed(machine: &Machine<'_>, texts: &[&[u8]]) -> bool {
             .all(|(one, other)| one.as_slice() == *other)
 }
 
-// What is seen of a machine of two actors, three objects and a message that waits, and of an actor, behind these turns.
+// What is seen of a machine with two actors, three objects and a waiting message, and of an actor, after these turns.
 fn seen_of(
     machine: &mut Machine<'_>,
     turns: &[Turn],
@@ -110,8 +110,8 @@ fn seen_in_core(
     }
 }
 
-/// What is seen of the machine of a program and of an actor, behind these turns. There is no answer where a turn does not go
-/// as it says, and where the machine does not begin with two actors, three objects and a message that waits.
+/// What is seen of the machine of a program and of an actor, after these turns. There is no answer if a turn does not
+/// have its result, or if the machine does not begin with two actors, three objects and a waiting message.
 pub fn seen_behind(
     alloc: Global,
     text: &[u8],

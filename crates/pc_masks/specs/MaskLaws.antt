@@ -1,4 +1,4 @@
--- What the operations on masks do, at every number.
+-- What the operations on masks do to each number.
 use Rattle.std.specs.Prelude.{◌≡◌, ◌≢◌, ◌⊎◌, ◌↔◌, ℕ, zero, suc, ◌+◌, ◌-◌, ◌*◌, ◌/◌, ◌%◌, ◌^◌, ◌<◌, ◌≤◌, true, cond, min, max, IsTrue, bit_and, bit_or, nat_eq, nat_lt, refl}
 use Rattle.std.specs.Int.{bit_at}
 use Rattle.std.proofs.Common.{inl, inr, ap, sym, subst, ◌∙◌, arith, add-mul, mod-lt, pow_pos, zero-mul}
@@ -9,7 +9,7 @@ use Rattle.std.proofs.lemmas.Nat.Bits.{bit_at-lt, bit_at_lowest, bit_at-suc, bit
 use Rattle.pc_masks.specs.declared.mask.Mask.{Mask}
 use Rattle.pc_masks.specs.Masks.{IsIn, first, with_number, without_number, meet, join, within}
 
--- A number less one of its bits has that bit no more, and the others as before.
+-- Clearing a bit of a number: that bit is 0, and the others are as before.
 half_twice : (q : ℕ) → q * 2 / 2 ≡ q
 half_twice q = omega arith
 
@@ -61,7 +61,7 @@ of_bit n i h = eq-eqb (bit_at n i) 1 h
 same_bit : (a b i : ℕ) → bit_at a i ≡ bit_at b i → nat_eq (bit_at a i) 1 ≡ true → nat_eq (bit_at b i) 1 ≡ true
 same_bit a b i e h = subst (λ x. nat_eq x 1 ≡ true) e h
 
--- One number less: the others stay.
+-- Removing a number: the others stay.
 pub without_number_bits : (m : Mask) (k i : ℕ) → (IsIn (without_number m k) i) ↔ ((i ≢ k) × IsIn m i)
 without_number_bits m k i =
     let a = m.0 in
@@ -74,13 +74,13 @@ without_number_bits m k i =
       ]
     ]
 
--- A number past 63 changes nothing.
+-- Removing a number past 63 changes nothing.
 pub without_number_past : (m : Mask) (k : ℕ) → m.0 < 2 ^ 64 → 64 ≤ k → (without_number m k).0 ≡ m.0
 without_number_past m k w l =
     let z : bit_and m.0 (2 ^ k) ≡ 0 = and_pow m.0 k ∙ ap (λ x. x * 2 ^ k) (bit_at_above m.0 64 k w l) ∙ zero-mul (2 ^ k) in
     omega (arith, z)
 
--- A number with one of its bits set has that bit, and the others as before.
+-- Setting a bit of a number: that bit is 1, and the others are as before.
 max_one : (x : ℕ) → x < 2 → max x 1 ≡ 1
 max_one x l = omega (arith, l)
 
@@ -103,7 +103,7 @@ joined_bits a k i =
       )
     ]
 
--- One number more: the others stay.
+-- Adding a number: the others stay.
 pub with_number_bits : (m : Mask) (k i : ℕ) → (IsIn (with_number m k) i) ↔ (((i ≡ k) × (k < 64)) ⊎ IsIn m i)
 with_number_bits m k i =
     let new = cond (nat_lt k 64) (bit_or m.0 (2 ^ k)) m.0 in
@@ -120,7 +120,7 @@ with_number_bits m k i =
       )
     ]
 
--- What both have.
+-- The numbers in both.
 min_one : (x y : ℕ) → x < 2 → y < 2 → min x y ≡ 1 → (x ≡ 1) × (y ≡ 1)
 min_one x y l m e = (omega (arith, l, m, e), omega (arith, l, m, e))
 
@@ -131,7 +131,7 @@ meet_bits a b i = (
   λ h. of_bit (bit_and a.0 b.0) i (bit_at_and a.0 b.0 i ∙ ap (λ x. min x (bit_at b.0 i)) (bit_of a.0 i h.0) ∙ ap (min 1) (bit_of b.0 i h.1)),
 )
 
--- The numbers below one.
+-- The numbers below a bound.
 pub first_bits : (n i : ℕ) → (IsIn (first n) i) ↔ ((i < n) × (i < 64))
 first_bits n i =
     elim (cases_lt i (min n 64)) [
@@ -145,7 +145,7 @@ first_bits n i =
 min_zero : (x : ℕ) → min 0 x ≡ 0
 min_zero x = omega arith
 
--- One mask has all that the other has.
+-- One mask contains all numbers of the other.
 other_than_one : (x : ℕ) → x < 2 → x ≢ 1 → x ≡ 0
 other_than_one zero l n = refl
 other_than_one (suc zero) l n = absurd (n refl)
@@ -167,7 +167,7 @@ within_bits a b = (
   λ h. eq-eqb (bit_and a.0 b.0) a.0 (same_from_bits (bit_and a.0 b.0) a.0 (λ i. each_bit a b i (h i))),
 )
 
--- What either has.
+-- The numbers in either.
 max_either : (x y : ℕ) → x < 2 → max x y ≡ 1 → (x ≡ 1) ⊎ (y ≡ 1)
 max_either x y l m = elim (zero_or_one x l) [ inl e ↦ inl e | inr e ↦ inr (omega (arith, e, m)) ]
 

@@ -10,34 +10,34 @@ has m i = nat_eq (bit_at m.0 i) 1
 abbrev pub IsIn : Mask → ℕ → Type 0
 IsIn m i = IsTrue (has m i)
 
--- The mask without any number.
+-- The empty mask.
 abbrev pub empty : Mask
 empty = record { 0 = 0 }
 
--- The numbers below this one.
+-- All numbers below this one.
 abbrev pub first : ℕ → Mask
 first n = record { 0 = 2 ^ (min n 64) - 1 }
 
--- One number more. A number past 63 is in no mask.
+-- The mask with this number added. No mask contains a number past 63.
 abbrev pub with_number : Mask → ℕ → Mask
 with_number m i = record { 0 = if nat_lt i 64 then bit_or m.0 (2 ^ i) else m.0 }
 
--- One number less.
+-- The mask with this number removed.
 abbrev pub without_number : Mask → ℕ → Mask
 without_number m i = record { 0 = m.0 - bit_and m.0 (2 ^ i) }
 
--- The numbers that both masks have.
+-- The numbers in both masks.
 abbrev pub meet : Mask → Mask → Mask
 meet a b = record { 0 = bit_and a.0 b.0 }
 
--- The numbers that either mask has.
+-- The numbers in either mask.
 abbrev pub join : Mask → Mask → Mask
 join a b = record { 0 = bit_or a.0 b.0 }
 
--- The second mask has all numbers of the first.
+-- The second mask contains all numbers of the first.
 abbrev pub within : Mask → Mask → Bool
 within a b = nat_eq (bit_and a.0 b.0) a.0
 
--- The two masks have the same numbers.
+-- The two masks contain the same numbers.
 abbrev pub same : Mask → Mask → Bool
 same a b = nat_eq a.0 b.0

@@ -1,6 +1,6 @@
 //! Masks: sets of at most 64 small numbers, each a bit of one word.
 //!
-//! Proved: what each operation on masks does at every number.
+//! Proved: what each operation does to each number.
 #![tactic(auto)]
 
 mod mask;

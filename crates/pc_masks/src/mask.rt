@@ -2,12 +2,12 @@
 ghost use Rattle.std.specs.Prelude.{◌≡◌, ◌≢◌, ◌⊎◌, ◌↔◌, ℕ, ◌<◌, IsTrue};
 ghost use Rattle.pc_masks.specs.Masks as spec;
 
-/// A set of numbers below 64: number i is in it where bit i is 1.
+/// A set of numbers below 64: number i is in it iff bit i is 1.
 #[derive(Clone, Copy, Debug, PartialEq, Eq)]
 pub struct Mask(pub u64);
 
 impl Mask {
-    /// The set of the numbers below this one.
+    /// The set of all numbers below `count`.
     #[tactic(auto, using(crate::specs::MaskLaws::first_bits))]
     pub fn first(count: u32) -> Mask
         ensures value { result ≡ spec.first count }
@@ -23,7 +23,7 @@ impl Mask {
         number < 64 && (self.0 >> number) & 1 == 1
     }
 
-    /// The set with this number. A number past 63 changes nothing.
+    /// The set with this number added. A number past 63 changes nothing.
     #[tactic(auto, using(crate::specs::MaskLaws::with_number_bits))]
     pub fn with(self, number: u32) -> Mask
         ensures value { result ≡ spec.with_number self number }
@@ -32,7 +32,7 @@ impl Mask {
         Mask(with_bit(self.0, number))
     }
 
-    /// The set without this number.
+    /// The set with this number removed.
     #[tactic(auto, using(crate::specs::MaskLaws::without_number_bits))]
     pub fn without(self, number: u32) -> Mask
         ensures value { result ≡ spec.without_number self number }
@@ -41,7 +41,7 @@ impl Mask {
         Mask(without_bit(self.0, number))
     }
 
-    /// The numbers that both sets have.
+    /// The numbers in both sets.
     #[tactic(auto, using(crate::specs::MaskLaws::meet_bits))]
     pub fn meet(self, other: Mask) -> Mask
         ensures value { result ≡ spec.meet self other }
@@ -50,7 +50,7 @@ impl Mask {
         Mask(self.0 & other.0)
     }
 
-    /// The numbers that either set has.
+    /// The numbers in either set.
     pub fn join(self, other: Mask) -> Mask
         ensures value { result ≡ spec.join self other }
         ensures bits { (i : ℕ) → (spec.IsIn result i) ↔ (spec.IsIn self i ⊎ spec.IsIn other i) }
@@ -58,7 +58,7 @@ impl Mask {
         Mask(self.0 | other.0)
     }
 
-    /// Whether the other set has all numbers of this one.
+    /// Whether the other set contains all numbers of this one.
     #[tactic(auto, using(crate::specs::MaskLaws::within_bits))]
     pub fn is_within(self, other: Mask) -> bool
         ensures value { result ≡ spec.within self other }
@@ -68,7 +68,7 @@ impl Mask {
     }
 }
 
-// The bits below this one.
+// The bits below `count`.
 fn low_bits(count: u32) -> u64
     ensures { result ≡ (spec.first count).0 }
 {
@@ -79,7 +79,7 @@ fn low_bits(count: u32) -> u64
     }
 }
 
-// The number with this bit set.
+// `bits` with this bit set.
 fn with_bit(bits: u64, number: u32) -> u64
     ensures { result ≡ (spec.with_number (record { 0 = bits }) number).0 }
 {
@@ -90,7 +90,7 @@ fn with_bit(bits: u64, number: u32) -> u64
     }
 }
 
-// The number with this bit cleared.
+// `bits` with this bit cleared.
 fn without_bit(bits: u64, number: u32) -> u64
     ensures { result ≡ (spec.without_number (record { 0 = bits }) number).0 }
 {
@@ -101,7 +101,7 @@ fn without_bit(bits: u64, number: u32) -> u64
     }
 }
 
-// Whether the second number has each bit of the first.
+// Whether `others` has every bit of `bits`.
 fn all_in(bits: u64, others: u64) -> bool
     ensures { result ≡ spec.within (record { 0 = bits }) (record { 0 = others }) }
 {

@@ -5,10 +5,10 @@ ghost use Rattle.pc_tree.specs.View.{expr_view, item_view, suffix_view, arm_view
 
 use pc_tree::{Arm, Entity, Expr, FieldDef, File, Item, MethodDef, Seq, Suffix};
 
-/// The highest level of a file, or 0 where nothing has one; `u32::MAX` where there are more. It takes no memory.
+/// The highest level of a file, 0 if nothing has one, or `u32::MAX` if the level is greater. Does not allocate.
 ///
-/// A body and a field's value stand at level 1. Each of these opens one level more for what it holds (this project's
-/// profile): `(` of a group or of arguments, also where none stand inside, `if`, `while`, `recover`, `not`, and the `=`
+/// A body and a field's value are at level 1. Each of these opens one more level for what it contains (this project's
+/// profile): the `(` of a group or of arguments, even if there are none, `if`, `while`, `recover`, `not`, and the `=`
 /// of an expression for its right side.
 pub fn depth(file: &File) -> u32
     ensures { result ≡ min (file_depth (file_view file.now)) (2 ^ 32 - 1) }

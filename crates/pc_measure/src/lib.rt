@@ -1,7 +1,7 @@
 //! Two measures of a file's tree: how large it is, and how deep.
 //!
-//! Proved: `size` is the number of expressions of a file's tree and `depth` its highest level, both up to their types'
-//! greatest numbers, by recursion on the tree.
+//! Proved: `size` is the number of expressions of a file's tree and `depth` its highest level, each capped at the
+//! greatest number of its type, by recursion on the tree.
 #![tactic(auto)]
 
 mod level;

@@ -5,7 +5,7 @@ ghost use Rattle.pc_tree.specs.View.{expr_view, item_view, suffix_view, arm_view
 
 use pc_tree::{Arm, Entity, Expr, FieldDef, File, Item, MethodDef, Seq, Suffix};
 
-/// The number of expressions of a file, or `u64::MAX` where there are more. It takes no memory.
+/// The number of expressions of a file, or `u64::MAX` if there are more. Does not allocate.
 pub fn size(file: &File) -> u64
     ensures { result ≡ min (file_size (file_view file.now)) (2 ^ 64 - 1) }
 {

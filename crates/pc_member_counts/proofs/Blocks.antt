@@ -1,4 +1,4 @@
--- What the blocks of traits and interfaces say: what is seen of a name in their methods.
+-- What the blocks of traits and interfaces say about a name in their methods.
 use Rattle.std.proofs.Common.{◌≡◌, ℕ, zero, suc, ◌+◌, ◌-◌, ◌<◌, List, [], ◌∷◌, ◌++◌, length, Some, Bool, true, false, ◌&&◌, ◌||◌, refl, sym, ap, ◌∙◌, arith, if◌then◌else◌}
 use Rattle.std.specs.Prelude.{slice_get, option_to_list}
 use Rattle.std.specs.Str.{bytes_eq}
@@ -31,7 +31,7 @@ use Rattle.pc_member_counts.proofs.Sights.{unseen, of_method, glance, sight, aft
 use Rattle.pc_member_counts.proofs.Seen.{seen_at, seen_followed, seen_nothing, seen_single, has_takable, has_join}
 use Rattle.pc_member_counts.proofs.Places.{same_number, within_is, within_place, not_within}
 
--- The block says of each name from the start on what is seen of it in these methods.
+-- The block describes, for each name from the start on, these methods.
 abbrev pub IsSeen : List Text → ℕ → Block → List t.Method → Type 0
 IsSeen names start b ms = (i : ℕ) (x : Text) → i < 64 → slice_get names (start + i) ≡ Some x → seen_at b i ≡ sight x ms
 
@@ -56,7 +56,7 @@ module _ (names : List Text) (d : Differ names) (start i : ℕ) (l : i < 64) (x 
       own_seen (with_own start b (number_in names m.name.text) m) ms ∙ ap (λ s. after s (sight x ms)) (own_one b m)
       ∙ after_assoc (seen_at b i) (glance x m) (sight x ms) ∙ ap (after (seen_at b i)) (glance_after x m ms)
 
--- ---- those of what is named
+-- ---- those of the entities it names
 
 module _ (file : t.File) (names : List Text) (start : ℕ) where
   -- The table has the block of this entity.
@@ -69,7 +69,7 @@ module _ (file : t.File) (names : List Text) (start : ℕ) where
   abbrev methods_of : List Name → List t.Method
   methods_of ns = of_each (abstract_methods file.entities) file.entities ns
 
-  -- The number of what is named, and the block behind it.
+  -- The number of an entity it names, and the block at that number.
   first_number : {T : Type 0} (f : List ℕ → T) (n : Name) (ns : List Name) (q : Target file n) → f (numbers_of (entity_names file) (n ∷ ns)) ≡ f ((first_own + q.place) ∷ numbers_of (entity_names file) ns)
   first_number f n ns q = ap (λ o. f (option_to_list o ++ numbers_of (entity_names file) ns)) q.number
 
@@ -93,7 +93,7 @@ module _ (file : t.File) (names : List Text) (start : ℕ) where
         ∙ after_assoc (seen_at b i) (sight x (abstract_methods file.entities q.entity)) (sight x (methods_of ns))
         ∙ ap (after (seen_at b i)) (sym (ap (sight x) (first_methods n ns q) ∙ sight_parts x (abstract_methods file.entities q.entity) (methods_of ns)))
 
-    -- ---- what is taken of them
+    -- ---- what is taken from them
 
     module _ (k : EntityKind) (concrete : is_abstract k ≡ false) where
       takes_bounded : (n : ℕ) (e : t.Entity) → takes k x (trait_methods n file.entities e) ≡ of_kind k (sight x (trait_methods n file.entities e))
@@ -117,7 +117,7 @@ module _ (file : t.File) (names : List Text) (start : ℕ) where
 -- ---- a trait or an interface
 
 module _ (file : t.File) (above : List (List ℕ)) (founded : IsFounded file) (closed : Closes file above) where
-  -- Its methods are its own and those of what it names, of each name the first.
+  -- Its methods are its own and those of what it names, the first with each name.
   pub sight_abstract : (x : Text) (j : ℕ) (e : t.Entity) → slice_get file.entities j ≡ Some e → is_abstract e.kind ≡ true
       → sight x (abstract_methods file.entities e) ≡ sight x (e.methods ++ of_each (abstract_methods file.entities) file.entities e.provides)
   sight_abstract x j e h is =

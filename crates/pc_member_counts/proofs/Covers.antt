@@ -1,4 +1,4 @@
--- The names of a file's methods differ, and no method of a trait or an interface has another.
+-- The names of a file's methods differ, and every method of a trait or an interface has one of them.
 use Rattle.std.proofs.Common.{◌≡◌, ℕ, zero, suc, List, [], ◌∷◌, ◌++◌, Some, Bool, true, false, refl, ap, ◌∙◌, inl, inr, if◌then◌else◌}
 use Rattle.std.specs.Prelude.{slice_get, Option, None}
 use Rattle.std.proofs.lemmas.Option.{same_Some, none-some}

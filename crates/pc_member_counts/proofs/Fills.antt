@@ -1,4 +1,4 @@
--- What a table of blocks knows, entity by entity.
+-- What a table of blocks has, entity by entity.
 use Rattle.std.proofs.Common.{◌≡◌, ◌≢◌, ℕ, zero, suc, ◌+◌, ◌-◌, ◌<◌, append_assoc, List, [], ◌∷◌, ◌++◌, length, map, Some, Bool, true, false, nat_eq, refl, sym, ap, ◌∙◌, subst, arith, inl, inr, if◌then◌else◌}
 use Rattle.std.specs.Prelude.{slice_get, slice_set, replicate}
 use Rattle.std.proofs.lemmas.Bool.{and_parts, and_from, eqb-true, eq-eqb}
@@ -34,8 +34,8 @@ module _ (file : t.File) (own : List (List ℕ)) (c : ClosesOwn file own) (found
   abbrev listings : List Listing
   listings = map (listing (entity_names file) names) file.entities
 
-  -- The table has the blocks of the traits and interfaces with fewer entities above them than this rank, and of those with so many that
-  -- stand before this place.
+  -- The table has the blocks of the traits and interfaces with fewer entities above them than this rank, and of those
+  -- with exactly this rank that come before this place.
   record Known (r i : ℕ) (table : List Block) : Type 0 where
     count : length table ≡ length file.entities
     known : (j : ℕ) (e : t.Entity) → slice_get file.entities j ≡ Some e → is_abstract e.kind ≡ true → IsReached own r i j → HasBlock file names start table j e
@@ -58,7 +58,7 @@ module _ (file : t.File) (own : List (List ℕ)) (c : ClosesOwn file own) (found
         (λ z. z));
   }
 
-  -- What it names is known.
+  -- What it names is there.
   named_known : (i : ℕ) (e : t.Entity) (table : List Block) → slice_get file.entities i ≡ Some e → Known (rank own i) i table → AllBlocks file names start table e.provides
   named_known i e table h k n hn =
       let q = target file c.0 founded c.1 e n (i, h) hn in
@@ -126,17 +126,17 @@ module _ (file : t.File) (own : List (List ℕ)) (c : ClosesOwn file own) (found
       let after_ : Known (r + 1) 0 (filled start file.entities listings first table) = next_rank r _ (round r 0 (length file.entities) file.entities table (let z : 0 + length file.entities ≡ length file.entities = omega arith in z) (λ j. ap (slice_get file.entities) (let z : 0 + j ≡ j = omega arith in z)) q) in
       subst (Known n 0) (sym (filled_parts start file.entities listings first (of_ranks own file.entities (r + 1) k) table)) (rounds k (r + 1) n (filled start file.entities listings first table) (omega (arith, e)) after_)
 
-  -- The table that is filled in order has the blocks of all traits and interfaces.
+  -- The table filled in this order has the blocks of all traits and interfaces.
   pub all_filled : (j : ℕ) (e : t.Entity) → slice_get file.entities j ≡ Some e → is_abstract e.kind ≡ true → HasBlock file names start (filled start file.entities listings (ordered own file.entities) (replicate (length file.entities) nothing)) j e
   all_filled j e h is =
       (rounds (length file.entities) 0 (length file.entities) (replicate (length file.entities) nothing) (let z : 0 + length file.entities ≡ length file.entities = omega arith in z) known_none).known j e h is
       (inl (let l = rank_few file c.0 founded c.1 j e h is in let a = same_rank own c.0 c.2 j in omega (arith, l, a)))
 
-  -- So has it those of what an entity names.
+  -- So it has those of what an entity names.
   pub all_named_filled : (j : ℕ) (e : t.Entity) → slice_get file.entities j ≡ Some e → AllBlocks file names start (filled start file.entities listings (ordered own file.entities) (replicate (length file.entities) nothing)) e.provides
   all_named_filled j e h n hn = let q = target file c.0 founded c.1 e n (j, h) hn in (q, all_filled q.place q.entity q.is_entity q.trait)
 
--- One rank more.
+-- One more rank.
 pub rank_turn : (own : List (List ℕ)) (es : List t.Entity) (whole old new : List ℕ) (r n : ℕ) → r < n → whole ≡ old ++ of_ranks own es r (n - r) → new ≡ old ++ of_rank own r 0 es → whole ≡ new ++ of_ranks own es (r + 1) (n - (r + 1))
 rank_turn own es whole old new r n l w e =
     let m : n - r ≡ suc (n - (r + 1)) = omega (arith, l) in

@@ -30,7 +30,7 @@ or_past p [] i l = refl
 or_past p (y ∷ xs) zero l = absurd (omega (arith, l))
 or_past p (y ∷ xs) (suc i) l = or_past p xs i (omega (arith, l))
 
--- A mask that has the places of the names that pass has as many ones.
+-- A mask with the places of the names that pass a test has as many ones as there are such names.
 pub count_places : (m : Mask) (p : Text → Bool) (xs : List Text) → ((i : ℕ) (x : Text) → slice_get xs i ≡ Some x → has m i ≡ p x) → ((i : ℕ) → length xs ≤ i → has m i ≡ false) → count_ones m.0 ≡ count_by p xs
 count_places m p xs there past =
     ap count_ones (same_from_bits m.0 (mask_l (map p xs)) (λ i. bit_is (bit_at m.0 i) (bit_at-lt m.0 i) (get_or (map p xs) i false) (each i) ∙ sym (bit_mask_l (map p xs) i))) ∙ ones-mask_l p xs

@@ -1,4 +1,5 @@
--- How many methods are picked from a list, of each name one at most: as many as there are names with a method to be picked.
+-- How many methods are picked from a list, at most one with each name: as many as there are names with a method to be
+-- picked.
 use Rattle.std.proofs.Common.{◌≡◌, ℕ, zero, suc, ◌+◌, List, [], ◌∷◌, ◌++◌, length, Some, Bool, true, false, cond, ◌&&◌, ◌||◌, not, count_by, refl, sym, ap, ◌∙◌, arith, inl, inr, if◌then◌else◌}
 use Rattle.std.specs.Prelude.{slice_get}
 use Rattle.std.specs.List.{list_any}
@@ -47,7 +48,7 @@ count_others p (x ∷ xs) =
     by true m n k l a b c = omega (arith, a, b, c)
     by false m n k l a b c = omega (arith, a, b, c)
 
--- ---- one name more
+-- ---- one more name
 
 differ_rest : (x : Text) (xs : List Text) → Differ (x ∷ xs) → Differ xs
 differ_rest x xs d i j y hi hj = let e = d (suc i) (suc j) y hi hj in omega (arith, e)
@@ -94,7 +95,7 @@ one_more p q x n e (y ∷ xs) d h = by (bytes_eq y x) refl (λ g. one_more p q x
 abbrev pub has_named : (t.Method → Bool) → Text → List t.Method → Bool
 has_named g x ms = list_any (λ (m : t.Method). bytes_eq x m.name.text && g m) ms
 
--- Those with the property, of each name the first where it is not known.
+-- The methods with the property, the first with each name that is new.
 abbrev picks : (t.Method → Bool) → List Text → List t.Method → List t.Method
 picks g known [] = []
 picks g known (m ∷ ms) = if g m && not (is_among m.name.text known) then m ∷ picks g (known ++ m.name.text ∷ []) ms else picks g known ms
@@ -108,7 +109,7 @@ abbrev pub Covered : List Text → List t.Method → Type 0
 Covered names ms = (m : t.Method) → Has ms m → Has names m.name.text
 
 module _ (g : t.Method → Bool) (names : List Text) (d : Differ names) where
-  -- A method that is picked makes one name more.
+  -- A method that is picked adds one name.
   wanted_more : (known : List Text) (m : t.Method) (ms : List t.Method) → g m ≡ true → is_among m.name.text known ≡ false
       → (y : Text) → wanted g known (m ∷ ms) y ≡ (wanted g (known ++ m.name.text ∷ []) ms y || bytes_eq y m.name.text)
   wanted_more known m ms gm new y = by (bytes_eq y m.name.text) refl
@@ -119,7 +120,7 @@ module _ (g : t.Method → Bool) (names : List Text) (d : Differ names) where
           ∙ sym (or_true (has_named g y ms && not (is_among y (known ++ m.name.text ∷ []))))
       by false e = ap (λ b. has_named g y ms && not b) (sym (pushed_other y m.name.text known e)) ∙ sym (or_false (has_named g y ms && not (is_among y (known ++ m.name.text ∷ []))))
 
-  -- A method that is not picked makes none.
+  -- A method that is not picked adds none.
   wanted_same : (known : List Text) (m : t.Method) (ms : List t.Method) → (g m && not (is_among m.name.text known)) ≡ false → (y : Text) → wanted g known (m ∷ ms) y ≡ wanted g known ms y
   wanted_same known m ms none y = by (bytes_eq y m.name.text) refl
     where

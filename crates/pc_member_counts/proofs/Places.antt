@@ -31,7 +31,7 @@ found_is false n k e = absurd (none-some k e)
 number_is : (names : List Text) (k : ℕ) (x : Text) → Differ names → slice_get names k ≡ Some x → number_in names x ≡ k
 number_is names k x d h = found_is (nat_lt (number_in names x) (length names)) (number_in names x) k (name_place x names k d h)
 
--- What stands at a name's number is that name.
+-- The name at a name's number is that name.
 at_number : (names : List Text) (k : ℕ) (x y : Text) → slice_get names k ≡ Some x → number_in names y ≡ k → bytes_eq y x ≡ true
 at_number names k x y h e =
     let l : k < length names = get_below names k x h in
@@ -39,7 +39,7 @@ at_number names k x y h e =
     let q = position-Some (bytes_eq y) names k [] p in
     ap (bytes_eq y) (sym (get_or_from_slice_get names k x [] h)) ∙ q.1
 
--- The number at a place is that of a name exactly where the name stands there.
+-- The number at a place is that of a name iff the name is there.
 pub same_number : (names : List Text) (k : ℕ) (x y : Text) → Differ names → slice_get names k ≡ Some x → nat_eq k (number_in names y) ≡ bytes_eq x y
 same_number names k x y d h =
     same_truth _ _ (λ e. ap (λ z. bytes_eq z y) (sym (equal_texts y x (at_number names k x y h (sym (eqb-true k (number_in names y) e))))) ∙ same_text y)

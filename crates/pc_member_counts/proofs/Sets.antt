@@ -1,4 +1,4 @@
--- Values that are put past the end of a list.
+-- Writing values past the end of a list.
 use Rattle.std.proofs.Common.{◌≡◌, ℕ, zero, suc, ◌≤◌, List, [], ◌∷◌, length, refl, ap, arith}
 use Rattle.std.specs.Prelude.{slice_set}
 

@@ -100,7 +100,7 @@ pushed_same x y known e = pushed x y known ∙ ap (λ b. is_among x known || b) 
 pub pushed_other : (x y : Text) (known : List Text) → bytes_eq x y ≡ false → is_among x (known ++ y ∷ []) ≡ is_among x known
 pushed_other x y known e = pushed x y known ∙ ap (λ b. is_among x known || b) e ∙ or_false (is_among x known)
 
--- Of the first method of each name, what is seen of all.
+-- Taking the first method with each name, the same is seen as of all.
 pub sight_firsts : (x : Text) (known : List Text) (ms : List t.Method) → sight x (firsts known ms) ≡ (if is_among x known then unseen else sight x ms)
 sight_firsts x known [] = by (is_among x known)
   where
@@ -138,7 +138,7 @@ of_kind kind.Primitive s = s.primitive
 of_kind kind.Trait s = false
 of_kind kind.Interface s = false
 
--- An entity of this kind takes the first method of the name over.
+-- An entity of this kind takes over the first method with the name.
 abbrev first_is : EntityKind → Text → List t.Method → Bool
 first_is k x [] = false
 first_is k x (m ∷ ms) = if bytes_eq x m.name.text then is_takable k m else first_is k x ms
@@ -159,7 +159,7 @@ of_kind_first kind.Primitive e = first_seen kind.Primitive (λ s. s.primitive) r
 of_kind_first kind.Trait e = absurd (true_false e)
 of_kind_first kind.Interface e = absurd (true_false e)
 
--- No other method of a known name is there.
+-- There is no other method with a known name.
 takes_known : (k : EntityKind) (x : Text) (known : List Text) (ms : List t.Method) → is_among x known ≡ true → takes k x (firsts known ms) ≡ false
 takes_known k x known [] e = refl
 takes_known k x known (m ∷ ms) e = by (λ ks. takes_known k x ks ms) (is_among m.name.text known) refl (bytes_eq x m.name.text) refl

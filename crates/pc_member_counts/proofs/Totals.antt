@@ -1,4 +1,4 @@
--- The members of an entity are those that are written in it, and one for each name that it gets.
+-- The members of an entity are those written in it, and one for each name that it gets.
 use Rattle.std.proofs.Common.{◌≡◌, ℕ, zero, suc, ◌+◌, ◌<◌, List, [], ◌∷◌, ◌++◌, length, get_or, map, Bool, true, false, ◌&&◌, not, All, count_by, refl, sym, ap, ◌∙◌, arith, if◌then◌else◌}
 use Rattle.std.specs.Prelude.{replicate}
 use Rattle.std.proofs.lemmas.List.{length-map, length-append}
@@ -26,7 +26,7 @@ same_not true false e = sym e
 same_not false true e = sym e
 same_not false false e = refl
 
--- The first methods of each name have the names of all.
+-- The first methods with each name have the names of all.
 firsts_named : (x : Text) (ms : List t.Method) → is_among x (method_texts (firsts [] ms)) ≡ is_among x (method_texts ms)
 firsts_named x ms = same_not (is_among x (method_texts (firsts [] ms))) (is_among x (method_texts ms)) (sym (absent_is x (firsts [] ms)) ∙ ap (λ s. s.absent) (sight_firsts x [] ms) ∙ absent_is x ms)
 
@@ -86,7 +86,7 @@ got_few all names es n l k d w = at es k w
     at (f ∷ fs) zero v = let m = count_by-le-length (gets all f) names in omega (arith, m, l)
     at (f ∷ fs) (suc j) v = at fs j (omega (arith, v))
 
--- No name is got of none.
+-- Of no names, none is got.
 pub got_none : (all es : List t.Entity) → map (got all []) es ≡ replicate (length es) 0
 got_none all [] = refl
 got_none all (e ∷ es) = ap (λ ns. 0 ∷ ns) (got_none all es)

@@ -35,12 +35,12 @@ pub and_swap : (a b : Bool) → (a && b) ≡ (b && a)
 and_swap true b = sym (and_true b)
 and_swap false b = sym (and_false b)
 
--- None of the first, and none of the second.
+-- Not the first, and not the second.
 pub neither : (a b : Bool) → (not a && not b) ≡ not (a || b)
 neither true b = refl
 neither false b = refl
 
--- What is had first, or taken of a first part and then of a second.
+-- Had from the start, or taken from a first part and then from a second.
 pub first_or_later : (p a q b r : Bool) → ((p || (a && q)) || ((a && b) && r)) ≡ (p || (a && (q || (b && r))))
 first_or_later true a q b r = refl
 first_or_later false true q b r = refl

@@ -1,4 +1,4 @@
--- The counts of 64 names in a row: how many of them each entity gets.
+-- The counts of 64 consecutive names: how many of them each entity gets.
 use Rattle.std.proofs.Common.{◌≡◌, ℕ, suc, ◌+◌, ◌-◌, ◌<◌, ◌≤◌, min, List, [], ◌∷◌, ◌++◌, length, take, drop, map, Some, Bool, true, false, cond, ◌&&◌, ◌||◌, not, nat_eq, count_by, count_ones, refl, sym, ap, ◌∙◌, arith, if◌then◌else◌}
 use Rattle.std.specs.Prelude.{slice_get, replicate}
 use Rattle.std.specs.List.{list_any}
@@ -37,7 +37,7 @@ use Rattle.pc_member_counts.proofs.Fills.{all_filled, all_named_filled}
 use Rattle.pc_member_counts.proofs.Picks.{count_others}
 use Rattle.pc_member_counts.proofs.Ones.{count_places}
 
--- The names from the start on, of which there are no more than 64.
+-- The names from the start on, at most 64 of them.
 abbrev pub window : List Text → ℕ → List Text
 window names start = take 64 (drop start names)
 
@@ -143,7 +143,7 @@ module _ (file : t.File) (own : List (List ℕ)) (c : ClosesOwn file own) (found
       by true s = let b = all_filled file own c founded names d start j e h s in ap (λ o. count_present (or_nothing o) (width names start)) b.1 ∙ present_count names start b.0 (abstract_methods file.entities e) b.2
       by false s = taken_count names start d file table e s (all_named_filled file own c founded names d start j e h)
 
-  -- 64 names more.
+  -- 64 more names.
   got_more : (e : t.Entity) → got file.entities (take start names) e + got file.entities (window names start) e ≡ got file.entities (take (start + 64) names) e
   got_more e = sym (ap (count_by (gets file.entities e)) (take-add start 64 names) ∙ sum_by-append (λ x. cond (gets file.entities e x) 1 0) (take start names) (window names start))
 

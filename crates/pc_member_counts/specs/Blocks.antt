@@ -1,4 +1,4 @@
--- As the code computes it: what stands of 64 names in a row, by masks.
+-- How the code represents 64 consecutive names, by masks.
 use Rattle.std.specs.Prelude.{ℕ, Bool, true, false}
 use Rattle.pc_masks.specs.declared.mask.Mask.{Mask}
 use Rattle.pc_masks.specs.Masks.{empty, first, with_number, without_number, meet, join}
@@ -15,11 +15,11 @@ abbrev pub alone_if : Bool → ℕ → Mask
 alone_if true i = with_number empty i
 alone_if false i = empty
 
--- One method, whose name is that at this place.
+-- One method, whose name is at this place.
 abbrev pub single : ℕ → t.Method → Block
 single i m = record { absent = without_number (first 64) i; class = alone_if (is_takable kind.Class m) i; actor = alone_if (is_takable kind.Actor m) i; primitive = alone_if (is_takable kind.Primitive m) i }
 
--- Of each name the first: what the one block has, and then the other.
+-- For each name the first method: that of the first block, or else that of the second.
 abbrev pub followed : Block → Block → Block
 followed b n = record { absent = meet b.absent n.absent; class = join b.class (meet b.absent n.class); actor = join b.actor (meet b.absent n.actor); primitive = join b.primitive (meet b.absent n.primitive) }
 

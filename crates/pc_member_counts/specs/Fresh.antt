@@ -1,4 +1,4 @@
--- As the code computes it: how many of some names each entity gets beside those that are written in it, by masks.
+-- How the code counts, by masks, the members that each entity gets in addition to those written in it.
 use Rattle.std.specs.Prelude.{ℕ, ◌+◌, ◌-◌, List, [], ◌∷◌, count_ones, if◌then◌else◌}
 use Rattle.pc_masks.specs.declared.mask.Mask.{Mask}
 use Rattle.pc_masks.specs.Masks.{empty, first, without_number, meet, join}
@@ -17,7 +17,7 @@ abbrev pub without_all : ℕ → Mask → List ℕ → Mask
 without_all start m [] = m
 without_all start m (n ∷ ns) = without_all start (without_one start m n) ns
 
--- What an entity of this kind takes over from one of these, if it is new to it.
+-- This mask, with the names added that an entity of this kind takes over from one of these, if they are new to it.
 abbrev pub taken_from : EntityKind → List Block → Mask → List ℕ → Mask
 taken_from k table m [] = m
 taken_from k table m (a ∷ more) = taken_from k table (join m (takable k (block_at table a))) more
@@ -31,7 +31,7 @@ count_taken start n table k l = count_ones (meet (without_all start (without_all
 abbrev pub count_fresh : (start count : ℕ) → List Block → ℕ → t.Entity → Listing → ℕ
 count_fresh start n table i e l = if is_abstract e.kind then count_present (own_place table i) n else count_taken start n table e.kind l
 
--- The counts of these entities, of which the first stands at this place, with so many names more.
+-- The counts of these entities, of which the first is at this place, increased for `count` more names.
 abbrev pub with_fresh : (start count : ℕ) → List Block → ℕ → List t.Entity → List Listing → List ℕ → List ℕ
 with_fresh start n table i (e ∷ es) (l ∷ ls) (c ∷ cs) = (c + count_fresh start n table i e l) ∷ with_fresh start n table (i + 1) es ls cs
 with_fresh start n table i es ls cs = []

@@ -1,4 +1,4 @@
--- How many members an entity has: those that are written in it, and the names that it gets beside them.
+-- How many members an entity has: those written in it, and the names that it gets in addition.
 use Rattle.std.specs.Prelude.{ℕ, ◌+◌, Bool, ◌&&◌, not, List, [], ◌∷◌, length, count_by, if◌then◌else◌}
 use Rattle.std.specs.List.{list_any}
 use Rattle.std.specs.Str.{bytes_eq}
@@ -11,12 +11,12 @@ use Rattle.pc_members.specs.Words.{is_among, method_texts, has_added}
 use Rattle.pc_members.specs.Members.{is_takable, own_texts}
 use Rattle.pc_members.specs.MemberLists.{of_each, abstract_methods}
 
--- An entity of this kind takes one of these methods of the name over, if the name is new to it.
+-- An entity of this kind takes over one of these methods with the name, if the name is new to it.
 abbrev pub takes : EntityKind → Text → List t.Method → Bool
 takes k x ms = list_any (λ (m : t.Method). bytes_eq x m.name.text && is_takable k m) ms
 
--- A class, an actor or a primitive gets a member of the name beside those that are written in it. A trait or an interface has a method
--- of the name. The first argument are the entities of the file.
+-- A class, an actor or a primitive gets a member with the name in addition to those written in it; a trait or an
+-- interface has a method with the name. The first argument is the list of the file's entities.
 abbrev pub gets : List t.Entity → t.Entity → Text → Bool
 gets all e x = if is_abstract e.kind then is_among x (method_texts (abstract_methods all e)) else (takes e.kind x (of_each (abstract_methods all) all e.provides) && not (is_among x (own_texts e)))
 

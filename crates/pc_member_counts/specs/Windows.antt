@@ -1,4 +1,4 @@
--- As the code computes it: the blocks of the traits and interfaces of a file for 64 names, from one number on.
+-- How the code computes the blocks of a file's traits and interfaces for 64 names, from one number on.
 use Rattle.std.specs.Prelude.{◌≡◌, ℕ, ◌-◌, Bool, ◌&&◌, List, [], ◌∷◌, length, Option, Some, None, slice_get, slice_set, nat_le, nat_lt, if◌then◌else◌}
 use Rattle.pc_tree.specs.Tree as t
 use Rattle.pc_tree.specs.BuiltIn.{first_own}
@@ -12,7 +12,7 @@ is_within start n = nat_le start n && nat_lt (n - start) 64
 
 -- ---- a trait or an interface
 
--- Its own methods, where the first list has the numbers of their names.
+-- Its own methods; the first list has the numbers of their names.
 abbrev pub with_own : ℕ → Block → ℕ → t.Method → Block
 with_own start b n m = if is_within start n then followed b (single (n - start) m) else b
 
@@ -21,7 +21,7 @@ own_block start b [] ms = b
 own_block start b (n ∷ ns) [] = b
 own_block start b (n ∷ ns) (m ∷ ms) = own_block start (with_own start b n m) ns ms
 
--- Those of what it names.
+-- The methods of the entities that it names.
 abbrev pub or_nothing : Option Block → Block
 or_nothing None = nothing
 or_nothing (Some b) = b
@@ -41,7 +41,7 @@ trait_block start table e l = with_named table (own_block start nothing l.method
 
 -- ---- all of them
 
--- Each listing has as many numbers of methods as there are methods.
+-- Each listing has one number for each method.
 abbrev pub ArePaired : List t.Entity → List Listing → Type 0
 ArePaired es ls = (i : ℕ) (e : t.Entity) (l : Listing) → slice_get es i ≡ Some e → slice_get ls i ≡ Some l → length l.methods ≡ length e.methods
 

@@ -1,4 +1,4 @@
-//! What stands of 64 names in a row.
+//! A summary of the methods with 64 consecutive names.
 ghost use Rattle.std.specs.Prelude.{◌≡◌};
 ghost use Rattle.pc_tree.specs.View.{method_view};
 ghost use Rattle.pc_members.specs.Members.{is_takable as takes_over};
@@ -7,12 +7,12 @@ ghost use Rattle.pc_member_counts.specs.Blocks as spec;
 use pc_masks::Mask;
 use pc_tree::{EntityKind, MethodDef};
 
-/// For each of 64 names, what the first method of the name is in a list of methods.
+/// For each of 64 names, the properties of the first method with the name in a list of methods.
 #[derive(Clone, Copy)]
 pub(crate) struct Block {
-    /// No method has the name.
+    /// The names that no method has.
     pub(crate) absent: Mask,
-    /// The first method of the name has a body, and may stand in a class.
+    /// The names whose first method has a body and may be in a class.
     pub(crate) class: Mask,
     /// The same in an actor.
     pub(crate) actor: Mask,
@@ -33,7 +33,7 @@ impl Block {
         }
     }
 
-    /// The block of one method, whose name is that at this place.
+    /// The block of one method, whose name is at this place.
     pub(crate) fn single(place: u32, method: &MethodDef) -> Block
         ensures { result ≡ spec.single place (method_view method.now) }
     {
@@ -45,7 +45,7 @@ impl Block {
         }
     }
 
-    /// The block of these methods, and then those of the other.
+    /// The block of these methods followed by those of the other.
     pub(crate) fn followed(self, next: Block) -> Block
         ensures { result ≡ spec.followed self next }
     {
@@ -70,14 +70,14 @@ impl Block {
     }
 }
 
-// The set of this number, or the empty one.
+// The set with only this number, or the empty set.
 fn alone_if(there: bool, number: u32) -> Mask
     ensures { result ≡ spec.alone_if there number }
 {
     if there { Mask(0).with(number) } else { Mask(0) }
 }
 
-// Whether an entity of this kind takes the method over where its name is new.
+// Whether an entity of this kind takes the method over if its name is new.
 fn is_takable(kind: EntityKind, method: &MethodDef) -> bool
     ensures { result ≡ takes_over kind (method_view method.now) }
 {

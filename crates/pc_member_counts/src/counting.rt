@@ -16,7 +16,7 @@ use pc_members::{NameTable, has_added, own_part};
 use pc_tree::{Entity, File};
 use std::alloc::{AllocError, Global};
 
-// A count of nothing, for so many entities.
+// Zero for each of `count` entities.
 fn list_zeros(alloc: Global, count: usize) -> Result<List<usize>, AllocError>
     ensures { IfOk result (λ l. l ≡ replicate count 0) }
 {
@@ -27,7 +27,7 @@ fn list_zeros(alloc: Global, count: usize) -> Result<List<usize>, AllocError>
     Ok(counts)
 }
 
-// The counts with those of the names from this number on, of which there are no more than 64.
+// The counts increased for the names from this number on, at most 64 of them.
 fn count_window(
     alloc: Global,
     file: &File,
@@ -47,7 +47,7 @@ fn count_window(
     add_fresh(alloc, start, count, table.as_slice(), all, listings, counts)
 }
 
-// How many names each entity gets beside those that are written in it.
+// How many names each entity gets in addition to those written in it.
 fn count_got(alloc: Global, file: &File, plan: &Plan) -> Result<List<usize>, AllocError>
     requires { Plans (file_view file.now) plan.now }
     ensures got { IfOk result (λ l. l ≡ map (spec.got (file_view file.now).entities plan.now.names) (file_view file.now).entities) }
@@ -72,7 +72,7 @@ fn count_own(entity: &Entity) -> usize
     }
 }
 
-// The same with those that are written in each.
+// These counts, increased by the members written in each entity.
 fn add_own(alloc: Global, all: &[Entity], counts: &[usize]) -> Result<List<usize>, AllocError>
     requires counted { length counts.now ≡ length all.now }
     requires few { All (λ c. c < 2 ^ 32) counts.now }
@@ -86,8 +86,8 @@ fn add_own(alloc: Global, all: &[Entity], counts: &[usize]) -> Result<List<usize
     Ok(sums)
 }
 
-/// How many members each entity of a file has, in order, where these are the names of all entities, those that are built in
-/// first, and for each of them the entities to which a chain of `is` leads. The `Err` says that memory ran out.
+/// How many members each entity of a file has, in order, given the names of all entities, the built-in ones first, and
+/// for each the entities to which a chain of `is` leads. `Err` if memory runs out.
 pub fn count_members(
     alloc: Global,
     entities: &NameTable,

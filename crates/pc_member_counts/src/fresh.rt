@@ -1,4 +1,4 @@
-//! How many of 64 names each entity gets beside those that are written in it.
+//! How many of 64 names each entity gets in addition to those written in it.
 ghost use Rattle.std.specs.Prelude.{◌≡◌, ◌<◌, ◌^◌, [], map, length, All, IfOk};
 ghost use Rattle.pc_tree.specs.View.{entity_view};
 ghost use Rattle.pc_masks.specs.Masks.{empty};
@@ -13,7 +13,7 @@ use pc_masks::Mask;
 use pc_tree::{Entity, EntityKind};
 use std::alloc::{AllocError, Global};
 
-// The set without the number, which counts from the start.
+// The set without the number, counted from `start`.
 fn without_one(start: u32, set: Mask, number: u32) -> Mask
     ensures { result ≡ spec.without_one start set number }
 {
@@ -24,7 +24,7 @@ fn without_one(start: u32, set: Mask, number: u32) -> Mask
     }
 }
 
-// The set without these numbers, which count from the start.
+// The set without these numbers, counted from `start`.
 fn without_all(start: u32, set: Mask, numbers: &[u32]) -> Mask
     ensures { result ≡ spec.without_all start set numbers.now }
 {
@@ -91,7 +91,7 @@ fn count_fresh(
     }
 }
 
-/// The counts of these entities with so many names more, from this number on.
+/// The counts of these entities, increased for `count` more names from this number on.
 pub(crate) fn add_fresh(
     alloc: Global,
     start: u32,

@@ -1,10 +1,10 @@
-//! How many members each entity of a file has, without a list of them.
+//! The number of members of each entity of a file, without listing them.
 //!
 //! Proved: `count_members` gives for each entity the length of the list of its members.
 //!
-//! The names of a file's methods are numbered, and taken 64 at a time. For each trait and interface a block of masks says of
-//! each of these names what its first method is; so an entity that names it costs some operations on masks, however many
-//! methods it has.
+//! The names of a file's methods are numbered, and processed 64 at a time. For each trait and interface a block of
+//! masks describes the first method with each of these names; so an entity that names it costs a few operations on
+//! masks, whatever the number of its methods.
 #![tactic(auto)]
 
 mod block;

@@ -16,13 +16,13 @@ use std::alloc::{AllocError, Global};
 pub(crate) struct Listing {
     /// Its methods, in order.
     pub(crate) methods: List<u32>,
-    /// Its fields, and an added `create`. A name that no method has gets the number behind the last one.
+    /// Its fields, and an added `create`. A name that no method has gets the number after the last one.
     pub(crate) others: List<u32>,
     /// The entities that its `is` list names, by their numbers among all entities.
     pub(crate) targets: List<u32>,
 }
 
-// The number of an added `create` goes behind the others.
+// Appends the number of an added `create`.
 fn add_created(
     names: &NameTable,
     numbers: &mut List<u32>,
@@ -57,7 +57,7 @@ fn list_entity(
     })
 }
 
-/// The names of each of these entities, where these are the names of all entities, and those of their methods.
+/// The names of each of these entities, given the names of all entities and those of their methods.
 pub(crate) fn list_entities(
     alloc: Global,
     entities: &NameTable,

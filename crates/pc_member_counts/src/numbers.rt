@@ -9,7 +9,7 @@ use pc_members::{NameTable, add_methods};
 use pc_tree::{Entity, FieldDef, MethodDef};
 use std::alloc::{AllocError, Global};
 
-/// The names of all methods that are written in these entities, each once. The key is that of the table of all entities.
+/// The names of all methods written in these entities, each once. The key is that of the table of all entities.
 pub(crate) fn table_names(
     alloc: Global,
     entities: &NameTable,
@@ -24,7 +24,7 @@ pub(crate) fn table_names(
     Ok(names)
 }
 
-/// The number of a name, or the count of the names where it is none of them.
+/// The number of a name, or the number of names if it is none of them.
 pub(crate) fn number_in(names: &NameTable, text: &[u8]) -> u32
     ensures { result ≡ spec.number_in names.now text.now }
 {

@@ -1,4 +1,4 @@
-//! The traits and interfaces of a file, each behind those that it names.
+//! The traits and interfaces of a file, each after those that it names.
 ghost use Rattle.std.specs.Prelude.{◌≡◌, ◌++◌, map, OnOk, IfOk};
 ghost use Rattle.pc_tree.specs.View.{entity_view};
 ghost use Rattle.pc_member_counts.specs.Orders as spec;
@@ -8,14 +8,14 @@ use pc_members::rank_of;
 use pc_tree::Entity;
 use std::alloc::{AllocError, Global};
 
-// Whether the entity at this place is a trait or an interface with so many entities above it.
+// Whether the entity at this place is a trait or an interface with `rank` entities above it.
 fn is_of_rank(above: &[List<u32>], rank: usize, place: usize, entity: &Entity) -> bool
     ensures { result ≡ spec.is_of_rank above.now rank place (entity_view entity.now) }
 {
     entity.kind.is_abstract() && rank_of(above, place) == rank
 }
 
-// The places of the traits and interfaces with so many entities above them go behind the others.
+// Appends the places of the traits and interfaces with this number of entities above them.
 fn add_rank(
     above: &[List<u32>],
     all: &[Entity],
@@ -33,7 +33,7 @@ fn add_rank(
     Ok(())
 }
 
-/// The places of the traits and interfaces among these entities, by the count of the entities above them.
+/// The places of the traits and interfaces among these entities, ordered by the number of entities above them.
 pub(crate) fn list_order(
     alloc: Global,
     above: &[List<u32>],

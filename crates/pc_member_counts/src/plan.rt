@@ -1,4 +1,4 @@
-//! What is made of a file before its names are gone through.
+//! What is computed for a file before its names are gone through.
 ghost use Rattle.std.specs.Prelude.{◌≡◌, IfOk};
 ghost use Rattle.pc_tree.specs.View.{file_view};
 ghost use Rattle.pc_members.specs.Words.{entity_names};
@@ -12,8 +12,8 @@ use pc_members::NameTable;
 use pc_tree::File;
 use std::alloc::{AllocError, Global};
 
-/// The names of a file's methods, those of each entity by their numbers, and the places of the traits and interfaces, each
-/// behind those that it names.
+/// The names of a file's methods, those of each entity by their numbers, and the places of the traits and interfaces,
+/// each after those that it names.
 #[derive(Drop)]
 pub(crate) struct Plan {
     pub(crate) names: NameTable,
@@ -21,7 +21,7 @@ pub(crate) struct Plan {
     pub(crate) order: List<usize>,
 }
 
-/// The plan for a file, where these are the names of all entities, and those above each entity of the file.
+/// The plan for a file, given the names of all entities and what is above each entity of the file.
 pub(crate) fn make_plan(
     alloc: Global,
     entities: &NameTable,

@@ -10,7 +10,7 @@ use pc_caps::List;
 use pc_tree::{Entity, FIRST_OWN, MethodDef};
 use std::alloc::{AllocError, Global};
 
-/// How many names a block is about.
+/// How many names a block describes.
 pub(crate) const WIDTH: u32 = 64;
 
 /// Whether the number is one of the 64 from this one on.
@@ -20,7 +20,7 @@ pub(crate) fn is_within(start: u32, number: u32) -> bool
     start <= number && number - start < WIDTH
 }
 
-// The block with the method of this number behind the others.
+// The block followed by the method whose name has this number.
 fn with_own(start: u32, block: Block, number: u32, method: &MethodDef) -> Block
     ensures { result ≡ spec.with_own start block number (method_view method.now) }
 {
@@ -44,7 +44,7 @@ fn own_block(start: u32, numbers: &[u32], methods: &[MethodDef]) -> Block
     block
 }
 
-/// What the table has for the entity of this number.
+/// What the table has for the entity with this number.
 pub(crate) fn block_at(table: &[Block], number: u32) -> Block
     ensures { result ≡ spec.block_at table.now number }
 {
@@ -54,7 +54,7 @@ pub(crate) fn block_at(table: &[Block], number: u32) -> Block
     }
 }
 
-// The block with the methods of these entities behind its own.
+// The block of its own methods followed by the methods of these entities.
 fn with_named(table: &[Block], own: Block, targets: &[u32]) -> Block
     ensures { result ≡ spec.with_named table.now own targets.now }
 {
@@ -74,7 +74,7 @@ fn trait_block(start: u32, table: &[Block], entity: &Entity, listing: &Listing) 
     with_named(table, own, listing.targets.as_slice())
 }
 
-// Puts a block into a place of the table, if there is one.
+// Puts a block at a place of the table, if the table has that place.
 #[tactic(auto, using(crate::proofs::Sets::set_past))]
 fn put(table: &mut List<Block>, place: usize, block: Block)
     ensures { table.new ≡ slice_set table.old place block }
@@ -84,7 +84,7 @@ fn put(table: &mut List<Block>, place: usize, block: Block)
     }
 }
 
-// Nothing, for so many entities.
+// An empty block for each of `count` entities.
 fn list_nothing(alloc: Global, count: usize) -> Result<List<Block>, AllocError>
     ensures { IfOk result (λ l. l ≡ replicate count nothing) }
 {
@@ -95,7 +95,7 @@ fn list_nothing(alloc: Global, count: usize) -> Result<List<Block>, AllocError>
     Ok(table)
 }
 
-// Where the entity of this place is there, the table gets its block.
+// If there is an entity at this place, puts its block into the table.
 fn fill_place(
     start: u32,
     all: &[Entity],
@@ -116,7 +116,7 @@ fn fill_place(
     put(table, place, block);
 }
 
-/// The blocks of the traits and interfaces at these places, each behind those that it names, for the 64 names from this
+/// The blocks of the traits and interfaces at these places, each after those that it names, for the 64 names from this
 /// number on.
 pub(crate) fn list_blocks(
     alloc: Global,

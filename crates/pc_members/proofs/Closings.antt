@@ -1,4 +1,4 @@
--- The lists above the entities of a file are what chains of `is` lead to.
+-- The lists above the entities of a file contain what chains of `is` lead to.
 use Rattle.std.proofs.Common.{◌≡◌, ℕ, zero, suc, ◌+◌, List, [], ◌∷◌, ◌++◌, map, length, Option, Some, None, refl, sym, ap, ◌∙◌, subst, arith, inl, inr, ⊎_elim}
 use Rattle.std.specs.Prelude.{slice_get, option_to_list, position}
 use Rattle.std.specs.Str.{bytes_eq}
@@ -18,7 +18,7 @@ use Rattle.pc_members.proofs.Reached.{Within, above_length, above_get, ascending
 
 -- ---- one edge
 
--- One of the names is the entity of this number.
+-- One of the names is that of the entity with this number.
 abbrev pub NamedIn : List Text → List Name → ℕ → Type 0
 NamedIn names ns b = (n : Name) × Has ns n × (position (bytes_eq n.text) names ≡ Some b)
 
@@ -114,7 +114,7 @@ is_above file a =
     let e = edges_of file in
     (ascending_ascends (reached e a) (length e) 0, λ b. (λ h. chain_leads file (listed_led e a b h), λ l. led_listed e a b (edges_within file) (leads_chain file l)))
 
--- The lists that are made are those of the file.
+-- The lists that are computed are those of the file.
 pub closes : (file : t.File) → Closes file (above_all (edges_of file))
 closes file =
     let e = edges_of file in

@@ -17,9 +17,9 @@ use Rattle.pc_members.proofs.Differences.{equal_texts}
 use Rattle.pc_members.proofs.Ranks.{all_named}
 use Rattle.pc_members.proofs.Rounding.{knows_all}
 
--- ---- names that are known
+-- ---- known names
 
--- The same texts stand in both.
+-- Both have the same texts.
 abbrev pub SameTexts : List Text → List Text → Type 0
 SameTexts xs ys = (x : Text) → is_among x xs ≡ is_among x ys
 
@@ -34,7 +34,7 @@ among_parts x (y ∷ xs) ys = ap (λ b. bytes_eq x y || b) (among_parts x xs ys)
 same_push : (xs ys : List Text) (z : Text) → SameTexts xs ys → SameTexts (xs ++ z ∷ []) (ys ++ z ∷ [])
 same_push xs ys z s x = among_parts x xs (z ∷ []) ∙ ap (λ b. b || is_among x (z ∷ [])) (s x) ∙ sym (among_parts x ys (z ∷ []))
 
--- A name that is known adds nothing.
+-- A known name adds nothing.
 pub name_known : (names : List Text) (y : Text) → SameTexts (with_name names y) (names ++ y ∷ [])
 name_known names y x = by (is_among y names) refl
   where
@@ -117,7 +117,7 @@ completes file entities table i (e ∷ es) h =
     let here : completed entities table i e ≡ members file.entities e = ap (λ k. completed entities table k e) (let z : i ≡ i + 0 = omega arith in z) ∙ h 0 e refl in
     rw (here, completes file entities table (i + 1) es (λ j d g. ap (λ k. completed entities table k d) (let z : i + 1 + j ≡ i + suc j = omega arith in z) ∙ h (suc j) d g)) refl
 
--- Where the table knows all traits and interfaces, each entity gets its members.
+-- If the table has all traits and interfaces, each entity gets its members.
 pub all_completed : (file : t.File) (entities : List Text) (own : List (List ℕ)) (n : ℕ) (table : List (List Member)) → entities ≡ entity_names file → ClosesOwn file own → IsFounded file → n ≡ length file.entities → Knows file own n 0 table → completed_from entities table 0 file.entities ≡ map (members file.entities) file.entities
 all_completed file entities own n table names c founded same k =
     let has : HasMethods file table = knows_all file own table c founded (subst (λ m. Knows file own m 0 table) same k) in

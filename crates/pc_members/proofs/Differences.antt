@@ -39,7 +39,7 @@ among_has x (y ∷ xs) h = by (λ g. among_has x xs g) (bytes_eq x y) refl h
 pub has_among : (x : Text) (xs : List Text) → Has xs x → is_among x xs ≡ true
 has_among x xs h = among_at x xs h.0 h.1
 
--- A place in a list with one element more is a place of the list, or the last.
+-- A place in a list with one more element is a place of the list, or the last.
 push_places : (x y : Text) (xs : List Text) (i : ℕ) → slice_get (xs ++ x ∷ []) i ≡ Some y → (slice_get xs i ≡ Some y) ⊎ ((i ≡ length xs) × (y ≡ x))
 push_places x y [] zero h = inr (refl, sym (same_Some _ _ h))
 push_places x y [] (suc i) h = absurd (none-some y h)

@@ -1,4 +1,4 @@
--- The first member of each name, and what is taken over, part by part.
+-- The first member with each name, and what is taken over, part by part.
 use Rattle.std.proofs.Common.{◌≡◌, List, [], ◌∷◌, ◌++◌, Bool, true, false, refl, sym, ap, ◌∙◌, append_assoc, if◌then◌else◌}
 use Rattle.pc_tree.specs.declared.kinds.EntityKind.{EntityKind}
 use Rattle.pc_tree.specs.declared.names.Name.{Name}
@@ -19,7 +19,7 @@ first_parts known (m ∷ xs) ys = by (λ k. first_parts k xs ys) (is_among (memb
     by rest true = rest known
     by rest false = ap (λ ms. m ∷ ms) (rest (known ++ member_text m ∷ []))
 
--- One name more.
+-- One more name.
 pub first_turn : (entities known next : List Text) (table : List (List Member)) (ns rest : List Name) (x : Name) (whole old new : List Member) → ns ≡ x ∷ rest → whole ≡ old ++ first_members known (named_all entities table ns)
     → new ≡ old ++ first_members known (named_at table (find_name entities x.text)) → next ≡ with_names known (member_texts (named_at table (find_name entities x.text))) → whole ≡ new ++ first_members next (named_all entities table rest)
 first_turn entities known next table ns rest x whole old new e w n k =
@@ -44,7 +44,7 @@ taken_parts k known (m ∷ xs) ys = by (λ ks. taken_parts k ks xs ys) (is_taken
     by rest true = ap (λ ms. m ∷ ms) (rest (known ++ member_text m ∷ []))
     by rest false = rest known
 
--- One name more.
+-- One more name.
 pub taken_turn : (k : EntityKind) (entities known next : List Text) (table : List (List Member)) (ns rest : List Name) (x : Name) (whole old new : List Member) → ns ≡ x ∷ rest → whole ≡ old ++ taken_members k known (named_all entities table ns)
     → new ≡ old ++ taken_members k known (named_at table (find_name entities x.text)) → next ≡ with_taken k known (named_at table (find_name entities x.text)) → whole ≡ new ++ taken_members k next (named_all entities table rest)
 taken_turn k entities known next table ns rest x whole old new e w n s =

@@ -22,7 +22,7 @@ named_is (e ∷ es) name f h = by (λ g. named_is es name f g) (bytes_eq e.name.
     by rest true d g = ((0, g), ap (λ (x : t.Entity). x.name.text) (sym (same_Some e f g)) ∙ equal_texts e.name.text name d)
     by rest false d g = let r = rest g in (has_on e es f r.0, r.1)
 
--- Entities of one name are one.
+-- Entities with the same name are the same.
 pub one_entity : (file : t.File) (f g : t.Entity) → Differ (entity_names file) → Has file.entities f → Has file.entities g → f.name.text ≡ g.name.text → f ≡ g
 one_entity file f g d hf hg e =
     let at : (i : ℕ) (x : t.Entity) → slice_get file.entities i ≡ Some x → slice_get (entity_names file) (length built_in_names + i) ≡ Some x.name.text = λ i x h. get_append built_in_names (texts_of file.entities) i ∙ get_map (λ (y : t.Entity). y.name.text) file.entities i x h in

@@ -1,5 +1,5 @@
--- A trait has fewer entities above it than one that names it. So traits that are taken by the count of what is above them come
--- after those that they name.
+-- A trait has fewer entities above it than one that names it. So traits in the order of the number of entities above
+-- them come after those that they name.
 use Rattle.std.proofs.Common.{◌≡◌, ℕ, zero, suc, ◌+◌, ◌-◌, ◌<◌, ◌≤◌, List, [], ◌∷◌, ◌++◌, length, map, Option, Some, None, Bool, true, false, cond, refl, sym, ap, ◌∙◌, subst, arith, if◌then◌else◌}
 use Rattle.std.specs.Prelude.{slice_get, replicate, position}
 use Rattle.std.specs.List.{position_from}
@@ -43,7 +43,7 @@ module _ (xs ys : List ℕ) (d : Differ xs) (s : (b : ℕ) → Has xs b → Has 
   abbrev place : ℕ → ℕ
   place i = found_at i (slice_get xs i) refl
 
-  -- One is no longer than another that has all of its elements.
+  -- One list is no longer than another that has all of its elements.
   no_longer : length xs ≤ length ys
   no_longer = pigeonhole (length xs) (length ys) place
       (λ i l. let g = get_within xs i l in get_below ys (place i) g.0 (there i g.0 (slice_get xs i) refl g.1))
@@ -87,7 +87,7 @@ number_there at (suc k) (suc j) l =
     let r = number_there (suc at) k j (omega (arith, l)) in
     (suc r.0, r.1 ∙ ap (λ x. Some x) (let e : suc at + j ≡ at + suc j = omega arith in e))
 
--- How many entities are above that at this place of a file.
+-- How many entities are above the one at this place of a file.
 abbrev pub rank_at : List (List ℕ) → ℕ → ℕ
 rank_at above i = length (or_nil (slice_get above (first_own + i)))
 
@@ -102,7 +102,7 @@ found_from x (y ∷ xs) at k h = by (bytes_eq x y) refl (λ j g. found_from x xs
     by false e rest zero g = absurd (true_false (sym (ap (bytes_eq x) (same_Some _ _ g) ∙ same_text x) ∙ e))
     by false e rest (suc k) g = rest k g
 
--- In a list of names that differ, a name's number is its place.
+-- In a list of different names, a name's number is its place.
 pub name_place : (x : Text) (xs : List Text) (k : ℕ) → Differ xs → slice_get xs k ≡ Some x → find_name xs x ≡ Some k
 name_place x xs k d h =
     let f = found_from x xs 0 k h in
@@ -211,7 +211,7 @@ module _ (file : t.File) (above : List (List ℕ)) (founded : IsFounded file) (c
   pub named_by : (i : ℕ) (e : t.Entity) (n : Name) (q : Target file n) → slice_get file.entities i ≡ Some e → Has e.provides n → Names file (first_own + i) (first_own + q.place)
   named_by i e n q h hn = (e, number_at file i e h, (n, hn, q.number))
 
-  -- From chains as long as the rank on, nothing more is found.
+  -- For chains at least as long as the rank, nothing more is found.
   pub steady : (k i : ℕ) (e : t.Entity) → slice_get file.entities i ≡ Some e → rank_at above i < k → trait_methods k file.entities e ≡ trait_methods (suc k) file.entities e
   steady zero i e h l = absurd (omega (arith, l))
   steady (suc k) i e h l =
@@ -247,7 +247,7 @@ module _ (file : t.File) (above : List (List ℕ)) (founded : IsFounded file) (c
       ap (named_at table) q.number ∙ ap (λ i. or_none (slice_get table i)) back ∙ ap or_none r.1 ∙ ap (λ o. map written (of_entity (abstract_methods file.entities) o)) (sym q.named) in
       rw (here, named_written table ns (λ m k. h m (has_on n ns m k))) (sym (map-append written (of_entity (abstract_methods file.entities) (entity_named file.entities n.text)) (of_each (abstract_methods file.entities) file.entities ns)))
 
-  -- A trait's methods, of a table that has those of the traits with fewer entities above them.
+  -- The methods of a trait, from a table with those of the traits with fewer entities above them.
   pub gathers : (table : List (List Member)) (i : ℕ) (e : t.Entity) → slice_get file.entities i ≡ Some e → is_abstract e.kind ≡ true → ((j : ℕ) (d : t.Entity) → slice_get file.entities j ≡ Some d → is_abstract d.kind ≡ true → rank_at above j < rank_at above i → IsKnown table j d)
       → gathered (entity_names file) table e ≡ methods_written file e
   gathers table i e h is known =
@@ -258,7 +258,7 @@ module _ (file : t.File) (above : List (List ℕ)) (founded : IsFounded file) (c
       ∙ first_written [] (e.methods ++ of_each (abstract_methods file.entities) file.entities e.provides)
       ∙ ap (map written) (sym (steady (length file.entities) i e h (rank_few i e h is)))
 
-  -- A table that has the methods of all traits has those of what an `is` list names.
+  -- A table with the methods of all traits has those of what an `is` list names.
   pub all_named : (table : List (List Member)) (i : ℕ) (e : t.Entity) → slice_get file.entities i ≡ Some e → ((j : ℕ) (d : t.Entity) → slice_get file.entities j ≡ Some d → is_abstract d.kind ≡ true → IsKnown table j d)
       → named_all (entity_names file) table e.provides ≡ map written (of_each (abstract_methods file.entities) file.entities e.provides)
   all_named table i e h known = named_written table e.provides (λ n hn. let q = target e n (i, h) hn in (q, known q.place q.entity q.is_entity q.trait))

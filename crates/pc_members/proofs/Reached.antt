@@ -1,4 +1,4 @@
--- What is reached is exactly what chains of edges lead to, and its list in ascending order.
+-- What is reached is exactly what chains of edges lead to, listed in ascending order.
 use Rattle.std.proofs.Common.{◌≡◌, ℕ, zero, suc, ◌+◌, ◌≤◌, ◌<◌, List, [], ◌∷◌, ◌++◌, length, Option, Some, None, Bool, true, false, nat_eq, refl, sym, ap, ◌∙◌, subst, arith, inl, inr, ⊎_elim, ◌⊎◌, if◌then◌else◌}
 use Rattle.std.specs.Prelude.{slice_get}
 use Rattle.std.specs.List.{IsDistinct}
@@ -12,7 +12,7 @@ use Rattle.pc_members.proofs.Reaches.{any_has, has_in, get_in, in_get, only_led,
 use Rattle.pc_lists.proofs.Bools.{true_false}
 use Rattle.pc_lists.proofs.Elements.{ascends_none}
 
--- ---- what is found differs
+-- ---- what is found is different
 
 add_distinct : (found : List ℕ) (b : ℕ) → IsDistinct nat_eq found → IsDistinct nat_eq (add found b)
 add_distinct found b d = by (has found b) refl
@@ -39,7 +39,7 @@ reached_distinct e a = grow_distinct (length e + 1) e (add_all [] (next e a)) 0 
 
 -- ---- no more is found than there are numbers
 
--- No edge goes to a number without edges of its own, be they none.
+-- Every target of an edge has a list of edges itself, perhaps an empty one.
 abbrev pub Within : Edges → Type 0
 Within e = (a b : ℕ) → IsIn b (next e a) → b < length e
 

@@ -99,12 +99,12 @@ get_none [] i h = omega arith
 get_none (x ∷ xs) zero h = absurd (none-some x (sym h))
 get_none (x ∷ xs) (suc i) h = let r = get_none xs i h in omega (arith, r)
 
--- One edge more at the end of a chain.
+-- One more edge at the end of a chain.
 chain_on : (e : Edges) {a b c : ℕ} → Chain e a b → IsIn c (next e b) → Chain e a c
 chain_on e (link h) i = links h (link i)
 chain_on e (links h r) i = links h (chain_on e r i)
 
--- All of these are led to.
+-- Chains lead to all of these.
 abbrev AllLed : Edges → ℕ → List ℕ → Type 0
 AllLed e a xs = (b : ℕ) → IsIn b xs → Chain e a b
 
@@ -118,11 +118,11 @@ led : (k : ℕ) (e : Edges) (a : ℕ) (found : List ℕ) (at : ℕ) → AllLed e
 led zero e a found at h = h
 led (suc k) e a found at h = led_at k e a found at (slice_get found at) refl h (λ more g. led k e a more (suc at) g)
 
--- What is reached is led to.
+-- Chains lead to what is reached.
 pub only_led : (k : ℕ) (e : Edges) (a b : ℕ) → IsIn b (reached_in k e a) → Chain e a b
 only_led k e a b i = led k e a (add_all [] (next e a)) 0 (λ b i. ⊎_elim (λ j. absurd j) (λ j. link j) (all_only b [] (next e a) i)) b i
 
--- What the first numbers lead to at once is found; and what all of them do.
+-- The direct targets of the first numbers are found; and so are those of all numbers.
 abbrev Closed : Edges → List ℕ → ℕ → Type 0
 Closed e found at = (i x : ℕ) → i < at → slice_get found i ≡ Some x → (b : ℕ) → IsIn b (next e x) → IsIn b found
 
@@ -175,7 +175,7 @@ begin_at : (e : Edges) (found : List ℕ) {a b : ℕ} → Whole e found → ((d 
 begin_at e found {b = b} w first (link h) = first b h
 begin_at e found w first (links {b = d} h r) = follow e found w (first d h) r
 
--- What is led to is reached, with turns enough for what is found.
+-- What chains lead to is reached, with enough steps for what is found.
 pub all_led : (k : ℕ) (e : Edges) (a b : ℕ) → length (reached_in k e a) < k → Chain e a b → IsIn b (reached_in k e a)
 all_led k e a b few l =
     let first : List ℕ = add_all [] (next e a) in
@@ -199,7 +199,7 @@ one_turn n e found at a l h =
     let i : suc at ≡ at + 1 = omega arith in
     ap (λ k. grow k e found at) m ∙ ap (λ o. turn o found (λ a. grow (n - (at + 1)) e (add_all found (next e a)) (suc at))) h ∙ ap (λ k. grow (n - (at + 1)) e (add_all found (next e a)) k) i
 
--- ---- the turns of the loops
+-- ---- the iterations of the loops
 
 pub ascend_turn : (found : List ℕ) (at n : ℕ) → at < n → ascending found at (n - at) ≡ (if has found at then at ∷ ascending found (at + 1) (n - (at + 1)) else ascending found (at + 1) (n - (at + 1)))
 ascend_turn found at n l =
@@ -213,7 +213,7 @@ above_turn e at n l =
     let i : suc at ≡ at + 1 = omega arith in
     ap (above_from e at) m ∙ ap (λ k. ascending (reached e at) 0 (length e) ∷ above_from e k (n - (at + 1))) i
 
--- One element more, and the rest.
+-- One more element, and the rest.
 one_behind : {T : Type 0} → (xs ys : List T) (x : T) → (xs ++ x ∷ []) ++ ys ≡ xs ++ x ∷ ys
 one_behind xs ys x = append_assoc xs (x ∷ []) ys
 

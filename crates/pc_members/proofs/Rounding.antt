@@ -1,4 +1,4 @@
--- What a table of the methods of traits and interfaces knows, entity by entity.
+-- What a table of the methods of traits and interfaces has, entity by entity.
 use Rattle.std.proofs.Common.{◌≡◌, ◌≢◌, ℕ, ◌+◌, ◌<◌, List, length, drop, Some, Bool, true, false, nat_eq, refl, sym, ap, ◌∙◌, subst, arith, inl, inr}
 use Rattle.std.specs.Prelude.{slice_get, slice_set}
 use Rattle.std.proofs.lemmas.Option.{same_Some}
@@ -26,7 +26,7 @@ knows_none file own table same = record { count = same; known = λ j e h is r. n
     none j (inl l) = no_less _ l
     none j (inr p) = no_less _ p.1
 
--- One place on: what is asked is asked already, or it is this place.
+-- One place further: what is required is required already, or it is this place.
 pub one_place : {T : Type 0} → (above : List (List ℕ)) (r i j : ℕ) → IsReached above r (i + 1) j → (j ≡ i → rank above j ≡ r → T) → (IsReached above r i j → T) → T
 one_place above r i j (inl l) f g = g (inl l)
 one_place {T} above r i j (inr p) f g = by (nat_eq j i) refl
@@ -35,7 +35,7 @@ one_place {T} above r i j (inr p) f g = by (nat_eq j i) refl
     by true e = let same : j ≡ i = search (arith, e) in f same p.0
     by false e = g (inr (p.0, let n : j ≢ i = search (arith, e) in let l = p.1 in omega (arith, n, l)))
 
--- Here stands no trait with so many entities above it.
+-- There is no trait at this place with this number of entities above it.
 abbrev pub NotHere : t.File → List (List ℕ) → ℕ → ℕ → Type 0
 NotHere file above r i = (e : t.Entity) → slice_get file.entities i ≡ Some e → is_abstract e.kind ≡ true → rank above i ≡ r → ⊥
 
@@ -68,7 +68,7 @@ reach_new file entities own r i e ms table next names c founded h is g k same ne
 
 -- ---- ranks
 
--- When all places were gone through, so is the rank.
+-- When all places are done, so is the rank.
 pub next_rank : (file : t.File) (own : List (List ℕ)) (r n : ℕ) (table : List (List Member)) → n ≡ length file.entities → Knows file own r n table → Knows file own (r + 1) 0 table
 next_rank file own r n table same k = record { count = k.count; known = λ j e h is q. k.known j e h is (by j e h q) }
   where
@@ -80,7 +80,7 @@ next_rank file own r n table same k = record { count = k.count; known = λ j e h
         equal true d = inr (search (arith, d), let m = get_below file.entities j e h in omega (arith, m, same))
         equal false d = let o : rank own j ≢ r = search (arith, d) in inl (omega (arith, l, o))
 
--- When all ranks were gone through, so are all traits and interfaces.
+-- When all ranks are done, so are all traits and interfaces.
 pub knows_all : (file : t.File) (own : List (List ℕ)) (table : List (List Member)) → ClosesOwn file own → IsFounded file → Knows file own (length file.entities) 0 table
     → (j : ℕ) (e : t.Entity) → slice_get file.entities j ≡ Some e → is_abstract e.kind ≡ true → slice_get table j ≡ Some (methods_written file e)
 knows_all file own table c founded k j e h is =

@@ -6,7 +6,7 @@ use Rattle.pc_members.specs.Words.{field_texts, method_texts, has_added}
 use Rattle.pc_members.specs.Members.{added_text, own_texts}
 use Rattle.pc_members.specs.Tables.{with_name, with_names}
 
--- First the ones, then the others.
+-- The first ones, then the others.
 pub names_in_parts : (names xs ys : List Text) → with_names names (xs ++ ys) ≡ with_names (with_names names xs) ys
 names_in_parts names [] ys = refl
 names_in_parts names (x ∷ xs) ys = names_in_parts (with_name names x) xs ys

@@ -1,4 +1,4 @@
--- A list of keys, and the list of what they show.
+-- A list of keys, and the list of what they represent.
 use Rattle.std.proofs.Common.{◌≡◌, ℕ, zero, suc, ◌∙◌, ◌+◌, List, [], ◌∷◌, ◌++◌, Bool, true, false, not, cond, map, ◌||◌, Vec, Global, refl, ap}
 use Rattle.std.specs.List.{list_any, position, position_or_len, prefix_len}
 use Rattle.std.specs.Prelude.{Option, Some, None, nat_lt, slice_get}
@@ -22,12 +22,12 @@ module _ {K X : Type 0} (f : K → X) (p : X → Bool) where
   pub position_shown : (ks : List K) → position p (map f ks) ≡ position (λ k. p (f k)) ks
   position_shown ks = rw (position_or_len_shown ks) (ap (λ n. cond (nat_lt (position_or_len (λ k. p (f k)) ks) n) (Some (position_or_len (λ k. p (f k)) ks)) None) (length-map ks f))
 
-  -- what is shown behind a key goes last, where it is new
+  -- what a key represents is appended, if it is new
   push_new_shown : (ks : List K) (k : K) (b : Bool) → map f (cond b ks (ks ++ k ∷ [])) ≡ cond b (map f ks) (map f ks ++ f k ∷ [])
   push_new_shown ks k true = refl
   push_new_shown ks k false = map-append f ks (k ∷ [])
 
--- The vector is added unless its bytes are there: so is the name that it shows.
+-- The vector is added unless its bytes are there: and so is the name that it represents.
 pub added : (keys new : List (Vec ℕ Global)) (owned : Vec ℕ Global) (name : List ℕ) → owned.items ≡ name
     → new ≡ cond (list_any (λ v. bytes_eq owned.items v.items) keys) keys (keys ++ owned ∷ [])
     → map (λ (v : Vec ℕ Global). v.items) new ≡ with_name (map (λ (v : Vec ℕ Global). v.items) keys) name

@@ -1,4 +1,4 @@
--- Chains of `is`, from an entity to the traits and interfaces that it stands for.
+-- Chains of `is`, from an entity to the traits and interfaces that it provides.
 use Rattle.std.specs.Prelude.{◌≡◌, ◌↔◌, ℕ, ◌+◌, true, List, ◌++◌, map, length, Some, None, slice_get, replicate}
 use Rattle.pc_lists.specs.Places.{Each, Has, Ascends}
 use Rattle.pc_tree.specs.declared.names.Name.{Name}
@@ -7,7 +7,7 @@ use Rattle.pc_tree.specs.Tree as t
 use Rattle.pc_members.specs.Words.{entity_of}
 use Rattle.pc_tree.specs.BuiltIn.{first_own}
 
--- The entity of this number.
+-- The entity with this number.
 abbrev pub entity_at : t.File → ℕ → t.Entity → Type 0
 entity_at file a e = slice_get (replicate first_own None ++ map Some file.entities) a ≡ Some (Some e)
 
@@ -15,7 +15,7 @@ entity_at file a e = slice_get (replicate first_own None ++ map Some file.entiti
 abbrev pub Names : t.File → (entity above : ℕ) → Type 0
 Names file a b = (e : t.Entity) × entity_at file a e × ((n : Name) × Has e.provides n × (entity_of file n.text ≡ Some b))
 
--- A chain of at least one `is` leads from an entity to another.
+-- A chain of one or more `is` leads from one entity to another.
 pub data Leads (file : t.File) : (entity above : ℕ) → Type 0 where
   one : {a b : ℕ} → Names file a b → Leads file a b
   more : {a b c : ℕ} → Names file a b → Leads file b c → Leads file a c

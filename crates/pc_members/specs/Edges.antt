@@ -8,7 +8,7 @@ use Rattle.pc_members.specs.Reach.{Edges}
 use Rattle.std.specs.Str.{bytes_eq}
 use Rattle.pc_tree.specs.BuiltIn.{first_own}
 
--- The numbers of those names that are entities.
+-- The numbers of those of these names that are entities.
 abbrev pub numbers_of : List Text → List Name → List ℕ
 numbers_of entities [] = []
 numbers_of entities (n ∷ ns) = option_to_list (position (bytes_eq n.text) entities) ++ numbers_of entities ns
@@ -17,6 +17,6 @@ abbrev pub own_edges : List Text → List t.Entity → Edges
 own_edges entities [] = []
 own_edges entities (e ∷ es) = numbers_of entities e.provides ∷ own_edges entities es
 
--- For each entity, those that its `is` list names. The built-in ones have none.
+-- For each entity, those that its `is` list names. The built-in ones have no `is` list.
 abbrev pub edges_of : t.File → Edges
 edges_of file = replicate first_own [] ++ own_edges (entity_names file) file.entities

@@ -7,7 +7,8 @@ use Rattle.pc_members.specs.Words.{entity_names}
 use Rattle.pc_members.specs.Tables.{trait_names}
 use Rattle.pc_members.specs.Chains.{InCycle}
 
--- The names of the entities differ, each `is` list names traits and interfaces of the file alone, and none of these leads back to itself.
+-- The names of the entities differ, each `is` list names only traits and interfaces of the file, and none of these
+-- leads back to itself.
 pub record IsFounded (file : t.File) : Type 0 where
   pub names : Differ (entity_names file)
   pub provides : (e : t.Entity) (n : Name) → Has file.entities e → Has e.provides n → Has (trait_names file.entities) n.text

@@ -9,7 +9,7 @@ use Rattle.pc_lists.specs.Texts.{Text}
 use Rattle.pc_members.specs.Words.{is_among, has_added}
 use Rattle.pc_members.specs.Members.{Member, written, without_body, own_texts, is_takable, added_if}
 
--- Of methods of one name, the first. Those whose names are known are none of them.
+-- Of all methods with the same name, the first. Methods whose names are in `known` are left out.
 abbrev pub firsts : List Text → List t.Method → List t.Method
 firsts known [] = []
 firsts known (m ∷ ms) = if is_among m.name.text known then firsts known ms else m ∷ firsts (known ++ m.name.text ∷ []) ms
@@ -22,22 +22,22 @@ abbrev pub of_entity : (t.Entity → List t.Method) → Option t.Entity → List
 of_entity methods None = []
 of_entity methods (Some e) = methods e
 
--- What the entities of these names have, one after the other.
+-- The methods of the entities with these names, one after the other.
 abbrev pub of_each : (t.Entity → List t.Method) → List t.Entity → List Name → List t.Method
 of_each methods all [] = []
 of_each methods all (n ∷ ns) = of_entity methods (entity_named all n.text) ++ of_each methods all ns
 
--- The methods of a trait or an interface: its own, and then, for each name of its `is` list in order, those of that entity whose
--- names are not there yet. The number bounds the length of a chain of `is`.
+-- The methods of a trait or an interface: its own, and then, for each name of its `is` list in order, the methods of
+-- that entity whose names are new. The number bounds the length of a chain of `is`.
 abbrev pub trait_methods : ℕ → List t.Entity → t.Entity → List t.Method
 trait_methods zero all e = []
 trait_methods (suc k) all e = firsts [] (e.methods ++ of_each (trait_methods k all) all e.provides)
 
--- The same where no chain of `is` leads back to its start. Such a chain is no longer than there are entities.
+-- The same if no chain of `is` leads back to its start. Then no chain is longer than the number of entities.
 abbrev pub abstract_methods : List t.Entity → t.Entity → List t.Method
 abstract_methods all e = trait_methods (length all) all e
 
--- Those of these methods that it takes over: of each name the first, where the name is not known.
+-- Those of these methods that it takes over: the first with each name that is not in `known`.
 abbrev pub taken : EntityKind → List Text → List t.Method → List t.Method
 taken k known [] = []
 taken k known (m ∷ ms) = if is_takable k m && not (is_among m.name.text known) then m ∷ taken k (known ++ m.name.text ∷ []) ms else taken k known ms
@@ -48,7 +48,7 @@ taken_over all e = taken e.kind (own_texts e) (of_each (abstract_methods all) al
 
 -- ---- members
 
--- The first argument are the entities of the file.
+-- The first argument is the list of the file's entities.
 abbrev pub abstract_members : List t.Entity → t.Entity → List Member
 abstract_members all e = map (λ m. written (without_body m)) (abstract_methods all e)
 

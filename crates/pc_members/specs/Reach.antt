@@ -1,9 +1,9 @@
--- What is reached along edges, each number once, in the order in which it is found.
+-- What can be reached along edges, each number once, in the order in which it is found.
 use Rattle.std.specs.Prelude.{ℕ, zero, suc, ◌+◌, Bool, true, false, List, [], ◌∷◌, ◌++◌, length, Option, Some, None, slice_get, nat_eq, if◌then◌else◌}
 use Rattle.pc_lists.specs.Places.{IsIn}
 use Rattle.pc_members.specs.Words.{or_nil}
 
--- For each number, those to which an edge goes from it.
+-- For each number, those to which it has an edge.
 abbrev pub Edges : Type 0
 Edges = List (List ℕ)
 
@@ -14,7 +14,7 @@ abbrev pub has : List ℕ → ℕ → Bool
 has [] b = false
 has (x ∷ xs) b = if nat_eq b x then true else has xs b
 
--- A new one goes last.
+-- A new number is appended.
 abbrev pub add : List ℕ → ℕ → List ℕ
 add found b = if has found b then found else found ++ b ∷ []
 
@@ -22,7 +22,8 @@ abbrev pub add_all : List ℕ → List ℕ → List ℕ
 add_all found [] = found
 add_all found (b ∷ bs) = add_all (add found b) bs
 
--- From the found one at this place on, those behind its edges are added. The number bounds the turns.
+-- From the number found at this place on, the targets of each number's edges are added. The counter bounds the
+-- recursion.
 abbrev pub turn : Option ℕ → List ℕ → (ℕ → List ℕ) → List ℕ
 turn None found go = found
 turn (Some a) found go = go a
@@ -34,13 +35,13 @@ grow (suc k) e found at = turn (slice_get found at) found (λ a. grow k e (add_a
 abbrev pub reached_in : ℕ → Edges → ℕ → List ℕ
 reached_in k e a = grow k e (add_all [] (next e a)) 0
 
--- One turn more than there are numbers is always enough.
+-- One step more than there are numbers is always enough.
 abbrev pub reached : Edges → ℕ → List ℕ
 reached e a = reached_in (length e + 1) e a
 
 -- ---- in ascending order
 
--- Those of the numbers from `at` on that were found, for so many numbers.
+-- Those of the `count` numbers from `at` on that were found.
 abbrev pub ascending : (found : List ℕ) → (at count : ℕ) → List ℕ
 ascending found at zero = []
 ascending found at (suc k) = if has found at then at ∷ ascending found (suc at) k else ascending found (suc at) k
@@ -55,7 +56,7 @@ above_all e = above_from e 0 (length e)
 
 -- ---- chains
 
--- A chain of at least one edge leads from a number to another.
+-- A chain of one or more edges leads from one number to another.
 pub data Chain (e : Edges) : (from to : ℕ) → Type 0 where
   link : {a b : ℕ} → IsIn b (next e a) → Chain e a b
   links : {a b c : ℕ} → IsIn b (next e a) → Chain e b c → Chain e a c

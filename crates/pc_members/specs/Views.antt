@@ -1,4 +1,4 @@
--- The members of the definitions that those of the code are.
+-- The members of the definitions that the members of the code represent.
 use Rattle.std.specs.Prelude.{List, map, Option, Some, None}
 use Rattle.pc_tree.specs.View.{method_view}
 use Rattle.pc_members.specs.declared.member.Member.{Member}

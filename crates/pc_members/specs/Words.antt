@@ -1,4 +1,4 @@
--- Names of a file, and what is written of types.
+-- The names of a file, and names in written types.
 use Rattle.std.specs.Prelude.{ℕ, Bool, true, false, List, [], ◌∷◌, ◌++◌, map, Option, position, codes, if◌then◌else◌, Some, None}
 use Rattle.std.specs.List.{list_any}
 use Rattle.std.specs.Str.{bytes_eq}
@@ -8,11 +8,11 @@ use Rattle.pc_tree.specs.declared.kinds.MethodWord.TheVariants as word
 use Rattle.pc_tree.specs.Kinds.{may_stand}
 use Rattle.pc_tree.specs.Tree as t
 
--- The text stands in the list.
+-- The text is in the list.
 abbrev pub is_among : Text → List Text → Bool
 is_among text texts = list_any (bytes_eq text) texts
 
--- The entities that each program has, in the order of their numbers.
+-- The entities that every program has, in the order of their numbers.
 abbrev pub built_in_names : List Text
 built_in_names = codes "None" ∷ codes "U64" ∷ codes "Bool" ∷ codes "String" ∷ codes "Env" ∷ codes "OutStream" ∷ []
 
@@ -24,7 +24,7 @@ texts_of es = map (λ (e : t.Entity). e.name.text) es
 abbrev pub entity_names : t.File → List Text
 entity_names file = built_in_names ++ texts_of file.entities
 
--- The number of the entity of this name.
+-- The number of the entity with this name.
 abbrev pub entity_of : t.File → Text → Option ℕ
 entity_of file name = position (bytes_eq name) (entity_names file)
 
@@ -45,11 +45,11 @@ is_new word.New = true
 abbrev pub has_constructor : t.Entity → Bool
 has_constructor e = list_any (λ (m : t.Method). is_new m.word) e.methods
 
--- Where constructors may stand, in classes and actors, an entity without one has `create` added.
+-- An entity that may have constructors, a class or an actor, gets an added `create` if it has none.
 abbrev pub has_added : t.Entity → Bool
 has_added e = if has_constructor e then false else may_stand e.kind word.New
 
--- The numbers that a list of lists has at a place: none, if it does not have the place.
+-- The numbers that a list of lists has at a place, or none if it does not have the place.
 abbrev pub or_nil : Option (List ℕ) → List ℕ
 or_nil None = []
 or_nil (Some l) = l

@@ -7,7 +7,7 @@ ghost use Rattle.pc_members.specs.Words as spec;
 
 use pc_tree::{Entity, MethodDef, MethodWord};
 
-/// Whether the word is `new`.
+/// Whether the keyword is `new`.
 pub fn is_new(word: MethodWord) -> bool
     ensures { result ≡ spec.is_new word }
 {
@@ -26,7 +26,7 @@ fn has_constructor(methods: &[MethodDef]) -> bool
     false
 }
 
-/// Whether the constructor `create` is added to the entity: it is a class or an actor and has no constructor.
+/// Whether the constructor `create` is added to the entity: it is a class or an actor without a constructor.
 pub fn has_added(entity: &Entity) -> bool
     ensures { result ≡ spec.has_added (entity_view entity.now) }
 {

@@ -10,7 +10,7 @@ use pc_caps::List;
 use pc_tree::{Entity, FIRST_OWN, File, Name};
 use std::alloc::{AllocError, Global};
 
-/// The numbers of those names that are entities.
+/// The numbers of those of these names that are entities.
 pub fn number_names(
     alloc: Global,
     entities: &NameTable,
@@ -28,7 +28,7 @@ pub fn number_names(
     Ok(numbers)
 }
 
-// The built-in entities, which name none.
+// The built-in entities, which have no `is` list.
 fn add_built_in(alloc: Global, edges: &mut List<List<u32>>) -> Result<(), AllocError>
     requires { edges.old ≡ [] }
     ensures { OnOk result (edges.new ≡ replicate first_own []) }
@@ -39,7 +39,7 @@ fn add_built_in(alloc: Global, edges: &mut List<List<u32>>) -> Result<(), AllocE
     Ok(())
 }
 
-// The edges of these entities go behind the others.
+// Appends the edges of these entities.
 fn add_edges(
     alloc: Global,
     entities: &NameTable,
@@ -54,7 +54,7 @@ fn add_edges(
     Ok(())
 }
 
-// The edges of the built-in entities, and then those of these.
+// The edges of the built-in entities, followed by those of these entities.
 fn add_all_edges(
     alloc: Global,
     entities: &NameTable,

@@ -1,4 +1,4 @@
-//! The members of each entity of a file, with what it takes over.
+//! The members of each entity of a file, including what it takes over.
 ghost use Rattle.std.specs.Prelude.{◌≡◌, ◌≤◌, ◌++◌, map, drop, length, slice_get, IfOk, OnOk};
 ghost use Rattle.pc_tree.specs.View.{entity_view, file_view};
 ghost use Rattle.pc_members.specs.Chains.{Closes};
@@ -19,7 +19,7 @@ use pc_caps::List;
 use pc_tree::{Entity, EntityKind, FIRST_OWN, File, Name};
 use std::alloc::{AllocError, Global};
 
-// Those of these members that an entity of this kind takes over go behind the others, of each name the first.
+// Appends those of these members that an entity of this kind takes over, the first with each name.
 fn take<'a>(
     kind: EntityKind,
     known: &mut NameTable,
@@ -38,7 +38,7 @@ fn take<'a>(
     Ok(())
 }
 
-// The same of what the table has for the entity of this name.
+// The same for the members that the table has for the entity with this name.
 fn take_named<'a>(
     kind: EntityKind,
     entities: &NameTable,
@@ -56,7 +56,7 @@ fn take_named<'a>(
     }
 }
 
-// The same of what the table has for the entities of these names.
+// The same for the members that the table has for the entities with these names.
 #[tactic(auto, using(crate::proofs::Firsts::taken_turn))]
 fn take_all_named<'a>(
     kind: EntityKind,
@@ -74,7 +74,7 @@ fn take_all_named<'a>(
     Ok(())
 }
 
-// What the entity takes over goes behind its own members.
+// Appends to the entity's own members what it takes over.
 fn take_over<'a>(
     alloc: Global,
     entities: &NameTable,
@@ -96,7 +96,7 @@ fn take_over<'a>(
     )
 }
 
-// The members of a class, an actor or a primitive, where the table has the methods of the traits and interfaces.
+// The members of a class, an actor or a primitive, if the table has the methods of the traits and interfaces.
 fn concrete_members<'a>(
     alloc: Global,
     entities: &NameTable,
@@ -109,7 +109,7 @@ fn concrete_members<'a>(
     take_over(alloc, entities, table, &mut list, entity).and(Ok(list))
 }
 
-// These members without their bodies.
+// These members without bodies.
 fn without_bodies<'a>(alloc: Global, members: &[Member<'a>]) -> Result<List<Member<'a>>, AllocError>
     ensures { IfOk result (λ l. members_view l ≡ map spec.bodiless (members_view members.now)) }
 {
@@ -120,7 +120,7 @@ fn without_bodies<'a>(alloc: Global, members: &[Member<'a>]) -> Result<List<Memb
     Ok(list)
 }
 
-// The members of a trait or an interface, where the table has the methods of the one at this place.
+// The members of a trait or an interface, if the table has the methods of the one at this place.
 fn abstract_members<'a>(
     alloc: Global,
     table: &[List<Member<'a>>],
@@ -134,7 +134,7 @@ fn abstract_members<'a>(
     }
 }
 
-// The members of the entity at this place, where the table has the methods of the traits and interfaces.
+// The members of the entity at this place, if the table has the methods of the traits and interfaces.
 fn complete<'a>(
     alloc: Global,
     entities: &NameTable,
@@ -151,7 +151,7 @@ fn complete<'a>(
     }
 }
 
-// The same of each of these entities.
+// The same for each of these entities.
 fn complete_all<'a>(
     alloc: Global,
     entities: &NameTable,
@@ -168,7 +168,7 @@ fn complete_all<'a>(
     Ok(lists)
 }
 
-/// The part of a list of all entities that is about those of the file.
+/// The part of a list over all entities that belongs to those of the file.
 pub fn own_part(lists: &[List<u32>]) -> &[List<u32>]
     requires { first_own ≤ length lists.now }
     ensures { result.now ≡ drop first_own lists.now }
@@ -176,8 +176,8 @@ pub fn own_part(lists: &[List<u32>]) -> &[List<u32>]
     &lists[FIRST_OWN as usize..]
 }
 
-/// The members of each entity of a file, in order, where these are the names of all entities, those that are built in
-/// first, and for each of them the entities to which a chain of `is` leads. The `Err` says that memory ran out.
+/// The members of each entity of a file, in order, given the names of all entities, the built-in ones first, and for
+/// each the entities to which a chain of `is` leads. `Err` if memory runs out.
 pub fn list_members<'a>(
     alloc: Global,
     entities: &NameTable,

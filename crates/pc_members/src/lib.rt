@@ -1,7 +1,7 @@
-//! What a file's entities are called, which of them stands above which by the `is` lists, and the members of each.
+//! The names of a file's entities, which of them is above which by the `is` lists, and the members of each.
 //!
-//! Proved: `NameTable` finds exactly the names that it has, by number and by name; `close` of the `is` lists has for each
-//! entity exactly the entities to which a chain of `is` leads; `has_added` says exactly where `create` is added;
+//! Proved: `NameTable` finds exactly the names that it contains, by number and by name; `close` of the `is` lists gives
+//! for each entity exactly the entities to which a chain of `is` leads; `has_added` says whether `create` is added;
 //! `list_members` gives exactly the members of each entity: its own, an added `create`, and what it takes over.
 #![tactic(auto)]
 

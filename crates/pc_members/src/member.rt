@@ -13,11 +13,11 @@ use std::alloc::{AllocError, Global};
 /// A member of an entity.
 #[derive(Clone, Copy)]
 pub enum Member<'a> {
-    /// A method that is written, in the entity itself or in a trait or an interface from which it is taken over.
+    /// A written method, in the entity itself or in a trait or an interface from which it is taken over.
     Written(&'a MethodDef),
     /// A method of a trait or an interface, which has no body there.
     Bodiless(&'a MethodDef),
-    /// The constructor `create` of a class or actor that has none.
+    /// The constructor `create`, added to a class or actor without a constructor.
     Added,
 }
 
@@ -33,7 +33,7 @@ impl<'a> Member<'a> {
         }
     }
 
-    /// Where the member stands in an entity whose name stands here.
+    /// The span of the member, in an entity whose name has this span.
     pub fn span(&self, entity: Span) -> Span
         ensures { result ≡ spec.member_span entity (member_view self.now) }
     {
@@ -55,7 +55,7 @@ impl<'a> Member<'a> {
         }
     }
 
-    /// The same member of a trait or an interface, which has no bodies.
+    /// The same member in a trait or an interface, without its body.
     pub(crate) fn without_body(self) -> Member<'a>
         ensures { member_view result ≡ rounds.bodiless (member_view self.entry) }
     {
@@ -66,7 +66,8 @@ impl<'a> Member<'a> {
         }
     }
 
-    /// Whether an entity of this kind takes the member over where its name is new: a method with a body that may stand there.
+    /// Whether an entity of this kind takes the member over if its name is new: a method with a body that may be in
+    /// such an entity.
     pub(crate) fn is_takable(&self, kind: EntityKind) -> bool
         ensures { result ≡ rounds.member_takable kind (member_view self.now) }
     {
@@ -78,7 +79,7 @@ impl<'a> Member<'a> {
     }
 }
 
-/// These methods go behind the other members.
+/// Appends these methods to the members.
 pub(crate) fn add_written<'a>(
     members: &mut List<Member<'a>>,
     methods: &'a [MethodDef],
@@ -91,7 +92,7 @@ pub(crate) fn add_written<'a>(
     Ok(())
 }
 
-/// What is written in an entity, and its added `create`.
+/// The methods written in an entity, and its added `create`.
 pub(crate) fn own_members<'a>(
     alloc: Global,
     entity: &'a Entity,

@@ -1,4 +1,4 @@
-//! What entities lead to.
+//! What can be reached from each entity.
 ghost use Rattle.std.specs.Prelude.{◌≡◌, ◌<◌, ◌+◌, [], ◌++◌, ◌^◌, length, OnOk, IfOk, slice_get};
 ghost use Rattle.pc_members.specs.Reach as spec;
 
@@ -7,7 +7,7 @@ use pc_caps::List;
 use std::alloc::{AllocError, Global};
 use std::marker::Model;
 
-/// Numbers that differ, in the order in which they were found.
+/// Different numbers, in the order in which they were found.
 #[derive(Drop)]
 struct Found {
     numbers: IndexSet<u32>,
@@ -30,7 +30,7 @@ impl Found {
         }
     }
 
-    // The number goes behind the others, unless it is there.
+    // Appends the number, unless it is there already.
     #[tactic(auto, using(crate::proofs::Reaches::added))]
     fn add(&mut self, number: u32) -> Result<(), AllocError>
         ensures { OnOk result (self.new ≡ spec.add self.old number) }
@@ -48,7 +48,7 @@ impl Found {
         Ok(())
     }
 
-    // Those behind the edges of this number.
+    // Adds the targets of this number's edges.
     fn add_next(&mut self, edges: &[List<u32>], from: usize) -> Result<(), AllocError>
         ensures { OnOk result (self.new ≡ spec.add_all self.old (spec.next edges.now from)) }
     {
@@ -72,7 +72,7 @@ impl Found {
     }
 }
 
-// From the found one at each place on, those behind its edges are added.
+// From the number found at each place on, adds the targets of its edges.
 #[tactic(auto, using(crate::proofs::Reaches::one_turn))]
 fn grow(found: &mut Found, edges: &[List<u32>]) -> Result<(), AllocError>
     requires { length edges.now < 2 ^ 32 }
@@ -87,7 +87,7 @@ fn grow(found: &mut Found, edges: &[List<u32>]) -> Result<(), AllocError>
     Ok(())
 }
 
-// What is reached from this number, behind none.
+// Finds what can be reached from this number, starting with nothing found.
 fn find(found: &mut Found, edges: &[List<u32>], from: usize) -> Result<(), AllocError>
     requires few { length edges.now < 2 ^ 32 }
     requires none { found.old ≡ [] }
@@ -97,7 +97,7 @@ fn find(found: &mut Found, edges: &[List<u32>], from: usize) -> Result<(), Alloc
     grow(found, edges)
 }
 
-// Those of the first numbers that were found, in ascending order.
+// The numbers below a bound that were found, in ascending order.
 #[tactic(auto, using(crate::proofs::Reaches::ascend_turn))]
 fn sort_found(alloc: Global, found: &Found, count: u32) -> Result<List<u32>, AllocError>
     ensures { IfOk result (λ l. l ≡ spec.ascending found.now 0 count) }
@@ -111,7 +111,7 @@ fn sort_found(alloc: Global, found: &Found, count: u32) -> Result<List<u32>, All
     Ok(ascending)
 }
 
-// What is reached from this number, in ascending order.
+// What can be reached from this number, in ascending order.
 fn reach(alloc: Global, edges: &[List<u32>], from: usize) -> Result<List<u32>, AllocError>
     requires { length edges.now < 2 ^ 32 }
     ensures { IfOk result (λ l. l ≡ spec.ascending (spec.reached edges.now from) 0 (length edges.now)) }
@@ -121,7 +121,7 @@ fn reach(alloc: Global, edges: &[List<u32>], from: usize) -> Result<List<u32>, A
     sort_found(alloc, &found, edges.len() as u32)
 }
 
-// What is reached from each number goes behind the others.
+// Appends, for each number, what can be reached from it.
 #[tactic(auto, using(crate::proofs::Reaches::above_turn))]
 fn add_reached(
     alloc: Global,
@@ -137,7 +137,7 @@ fn add_reached(
     Ok(())
 }
 
-/// For each number, what is reached from it along the edges, in ascending order.
+/// For each number, what can be reached from it along the edges, in ascending order.
 pub fn close(alloc: Global, edges: &[List<u32>]) -> Result<List<List<u32>>, AllocError>
     requires { length edges.now < 2 ^ 32 }
     ensures { IfOk result (λ l. l ≡ spec.above_all edges.now) }

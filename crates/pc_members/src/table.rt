@@ -9,11 +9,11 @@ use pc_keyed::KeyedBy;
 use std::alloc::{AllocError, Global};
 use std::marker::Model;
 
-/// How many names a table may have. No memory holds so many.
+/// How many names a table may have. No memory could hold more.
 const MOST_NAMES: usize = 4_294_967_295;
 
-/// Names that differ, in the order of their first appearance. A name's number is its place. The key of the hash changes nothing
-/// of what a table holds and finds.
+/// Different names, in the order of their first appearance. The number of a name is its place. The hash key does not
+/// affect what a table contains and finds.
 #[derive(Drop)]
 pub struct NameTable {
     alloc: Global,
@@ -31,7 +31,7 @@ impl Model for NameTable {
 }
 
 impl NameTable {
-    /// A table without names, in which names are found by a hash with this key. It takes no memory.
+    /// A table without names, which looks names up by a hash with this key. Does not allocate.
     pub fn new(alloc: Global, key: KeyedBy) -> NameTable
         ensures { result ≡ [] }
     {
@@ -41,33 +41,33 @@ impl NameTable {
         }
     }
 
-    /// A table without names, with the key of this one. It takes no memory.
+    /// A table without names, with the key of this one. Does not allocate.
     pub fn new_like(&self, alloc: Global) -> NameTable
         ensures { result ≡ [] }
     {
         NameTable::new(alloc, self.key())
     }
 
-    /// The key of the hash by which names are found.
+    /// The key of the hash by which names are looked up.
     pub fn key(&self) -> KeyedBy {
         *self.names.hasher()
     }
 
-    /// How many names there are.
+    /// The number of names.
     pub fn len(&self) -> u32
         ensures { result ≡ length self.now }
     {
         self.names.len() as u32
     }
 
-    /// The number of the name. `None` exactly where it is not there. It takes no memory.
+    /// The number of the name. `None` iff it is not there. Does not allocate.
     pub fn find(&self, name: &[u8]) -> Option<u32>
         ensures { result ≡ find_name self.now name.now }
     {
         self.names.get_index_of(name).map(|number| number as u32)
     }
 
-    /// The name of this number. `None` exactly where there is none. It takes no memory.
+    /// The name with this number. `None` iff there is none. Does not allocate.
     #[tactic(auto, using(crate::proofs::Views::get_shown))]
     pub fn get(&self, number: u32) -> Option<&[u8]>
         ensures { option_copied result ≡ slice_get self.now number }
@@ -78,14 +78,14 @@ impl NameTable {
         }
     }
 
-    /// Whether the name is there. It takes no memory.
+    /// Whether the name is there. Does not allocate.
     pub fn has(&self, name: &[u8]) -> bool
         ensures { result ≡ is_among name.now self.now }
     {
         self.names.contains(name)
     }
 
-    /// Adds the name behind the others, unless it is there, which takes no memory. An `Err` changes nothing.
+    /// Appends the name, unless it is there already; then nothing is allocated. An `Err` changes nothing.
     pub fn add(&mut self, name: &[u8]) -> Result<(), AllocError>
         ensures ok { OnOk result (self.new ≡ with_name self.old name.now) }
         ensures err { OnErr result (self.new ≡ self.old) }

@@ -1,4 +1,4 @@
-//! The names that an entity has itself.
+//! An entity's own names.
 ghost use Rattle.std.specs.Prelude.{◌≡◌, [], ◌++◌, map, OnOk, IfOk};
 ghost use Rattle.pc_tree.specs.View.{entity_view, field_view, method_view};
 ghost use Rattle.pc_members.specs.Members.{added_text, own_texts};
@@ -11,7 +11,7 @@ use crate::table::NameTable;
 use pc_tree::{Entity, FieldDef, MethodDef};
 use std::alloc::{AllocError, Global};
 
-// The names of these fields go behind the others, each once.
+// Appends the names of these fields, each once.
 fn add_fields(table: &mut NameTable, fields: &[FieldDef]) -> Result<(), AllocError>
     ensures { OnOk result (table.new ≡ with_names table.old (field_texts (map field_view fields.now))) }
 {
@@ -21,7 +21,7 @@ fn add_fields(table: &mut NameTable, fields: &[FieldDef]) -> Result<(), AllocErr
     Ok(())
 }
 
-/// The names of these methods go behind the others, each once. After an `Err` some of them are there.
+/// Appends the names of these methods, each once. After an `Err` some of them are there.
 pub fn add_methods(table: &mut NameTable, methods: &[MethodDef]) -> Result<(), AllocError>
     ensures { OnOk result (table.new ≡ with_names table.old (method_texts (map method_view methods.now))) }
 {
@@ -31,7 +31,7 @@ pub fn add_methods(table: &mut NameTable, methods: &[MethodDef]) -> Result<(), A
     Ok(())
 }
 
-/// The names of the entity's fields and methods go behind the others, each once. After an `Err` some of them are there.
+/// Appends the names of the entity's fields and methods, each once. After an `Err` some of them are there.
 #[tactic(auto, using(crate::proofs::Tables::names_in_parts))]
 pub fn add_texts(table: &mut NameTable, entity: &Entity) -> Result<(), AllocError>
     ensures { OnOk result (table.new ≡ with_names table.old (field_texts (entity_view entity.now).fields ++ method_texts (entity_view entity.now).methods)) }
@@ -40,7 +40,7 @@ pub fn add_texts(table: &mut NameTable, entity: &Entity) -> Result<(), AllocErro
     add_methods(table, entity.methods.as_slice())
 }
 
-// The name of an added `create` goes behind the others, where it is none of them.
+// Appends the name of an added `create`, unless it is there already.
 fn add_created(table: &mut NameTable, entity: &Entity) -> Result<(), AllocError>
     ensures { OnOk result (table.new ≡ with_names table.old (added_text (words.has_added (entity_view entity.now)))) }
 {
@@ -51,7 +51,7 @@ fn add_created(table: &mut NameTable, entity: &Entity) -> Result<(), AllocError>
     }
 }
 
-// The names that the entity has itself, and no others.
+// Adds the entity's own names, and no others.
 fn add_own_texts(table: &mut NameTable, entity: &Entity) -> Result<(), AllocError>
     requires { table.old ≡ [] }
     ensures { OnOk result (table.new ≡ with_names [] (own_texts (entity_view entity.now))) }
@@ -60,8 +60,8 @@ fn add_own_texts(table: &mut NameTable, entity: &Entity) -> Result<(), AllocErro
     add_created(table, entity)
 }
 
-/// The names that an entity has itself: those of its fields and methods, and of an added `create`. The key is that of the
-/// table of all entities.
+/// An entity's own names: those of its fields and methods, and of an added `create`. The key is that of the table of
+/// all entities.
 pub(crate) fn own_names(
     alloc: Global,
     entities: &NameTable,

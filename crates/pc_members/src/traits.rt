@@ -1,4 +1,4 @@
-//! The methods of each trait and interface of a file, with what it takes over.
+//! The methods of each trait and interface of a file, including what it takes over.
 ghost use Rattle.std.specs.Prelude.{◌≡◌, ◌++◌, ◌+◌, [], map, length, IfOk, OnOk};
 ghost use Rattle.std.specs.Option.{option_copied};
 ghost use Rattle.pc_tree.specs.View.{entity_view, file_view};
@@ -15,7 +15,7 @@ use pc_caps::List;
 use pc_tree::{Entity, FIRST_OWN, File, Name};
 use std::alloc::{AllocError, Global};
 
-// Those of these members whose names are not known go behind the others, of each name the first.
+// Appends those of these members whose names are new, the first with each name.
 fn add_firsts<'a>(
     known: &mut NameTable,
     list: &mut List<Member<'a>>,
@@ -33,7 +33,7 @@ fn add_firsts<'a>(
     Ok(())
 }
 
-/// What the table has for the entity of this name.
+/// What the table has for the entity with this name.
 pub(crate) fn named_at<'t, 'a>(
     entities: &NameTable,
     table: &'t [List<Member<'a>>],
@@ -45,7 +45,7 @@ pub(crate) fn named_at<'t, 'a>(
     table.get((number as usize).saturating_sub(FIRST_OWN as usize))
 }
 
-// The same of what the table has for the entity of this name.
+// The same for the members that the table has for the entity with this name.
 fn add_named<'a>(
     entities: &NameTable,
     table: &[List<Member<'a>>],
@@ -62,7 +62,7 @@ fn add_named<'a>(
     }
 }
 
-// The same of what the table has for the entities of these names.
+// The same for the members that the table has for the entities with these names.
 #[tactic(auto, using(crate::proofs::Firsts::first_turn))]
 fn add_all_named<'a>(
     entities: &NameTable,
@@ -79,7 +79,7 @@ fn add_all_named<'a>(
     Ok(())
 }
 
-// The same of the entity's own methods.
+// The same for the entity's own methods.
 fn add_own_methods<'a>(
     alloc: Global,
     known: &mut NameTable,
@@ -94,7 +94,7 @@ fn add_own_methods<'a>(
     add_firsts(known, list, own.as_slice())
 }
 
-// The same of the entity's own methods, and then of what the table has for the entities that it names.
+// The same for the entity's own methods, and then for the members that the table has for the entities that it names.
 #[tactic(auto, using(crate::proofs::Firsts::first_parts))]
 fn add_gathered<'a>(
     alloc: Global,
@@ -112,8 +112,8 @@ fn add_gathered<'a>(
     add_all_named(entities, table, known, list, entity.provides.as_slice())
 }
 
-// The methods of a trait or an interface: its own, and then those that the table has for what it names, of each name the
-// first.
+// The methods of a trait or an interface: its own, and then those that the table has for what it names, the first with
+// each name.
 fn gather<'a>(
     alloc: Global,
     entities: &NameTable,
@@ -127,7 +127,7 @@ fn gather<'a>(
     add_gathered(alloc, entities, table, &mut known, &mut list, entity).and(Ok(list))
 }
 
-/// How many entities are above that at this place of the file.
+/// How many entities are above the one at this place of the file.
 pub fn rank_of(above: &[List<u32>], place: usize) -> usize
     ensures { result ≡ spec.rank above.now place }
 {
@@ -148,7 +148,8 @@ fn list_empty<'a>(alloc: Global, count: usize) -> Result<List<List<Member<'a>>>,
     Ok(table)
 }
 
-// Where the entity at this place is a trait or an interface with so many entities above it, the table gets its methods.
+// If the entity at this place is a trait or an interface with this number of entities above it, puts its methods into
+// the table.
 fn reach_place<'a>(
     alloc: Global,
     file: &'a File,
@@ -174,7 +175,7 @@ fn reach_place<'a>(
     Ok(())
 }
 
-// The table gets the methods of the traits and interfaces with so many entities above them.
+// Puts the methods of the traits and interfaces with this number of entities above them into the table.
 fn reach_rank<'a>(
     alloc: Global,
     file: &'a File,
@@ -195,9 +196,9 @@ fn reach_rank<'a>(
     Ok(())
 }
 
-/// For each entity of a file that is a trait or an interface, its methods with their bodies, where these are above each
-/// entity of the file. What is behind the place of another entity is not said. They are taken by the count of the entities
-/// above them, so that each comes behind those that it names.
+/// For each entity of a file that is a trait or an interface, its methods with their bodies, given what is above each
+/// entity of the file. Nothing is promised about the places of other entities. They are computed by the number of
+/// entities above them, so that each comes after those that it names.
 #[tactic(auto, using(crate::proofs::Rounding::knows_none))]
 pub(crate) fn list_methods<'a>(
     alloc: Global,

@@ -1,4 +1,4 @@
--- The passes over names behind the declarations: counts of methods, `Main`, and cycles.
+-- The passes over names after the declarations: numbers of methods, `Main`, and cycles.
 use Rattle.std.proofs.Common.{◌≡◌, ℕ, zero, suc, ◌+◌, ◌<◌, List, [], ◌∷◌, ◌++◌, map, Some, Bool, true, false, refl, sym, ap, ◌∙◌, inl, inr, ⊎_elim, arith, if◌then◌else◌}
 use Rattle.std.specs.Prelude.{◌⊎◌, slice_get, nat_lt, codes}
 use Rattle.std.specs.Str.{bytes_eq}
@@ -31,7 +31,7 @@ none_counted : (all es : List t.Entity) → methods_to all es 0 ≡ 0
 none_counted all [] = refl
 none_counted all (e ∷ es) = refl
 
--- Behind n methods.
+-- After n methods.
 abbrev Counted : List t.Entity → ℕ → List t.Entity → NameFault → Type 0
 Counted all n es f = (i : ℕ) × (e : t.Entity) × (slice_get es i ≡ Some e) × (method_limit < n + methods_to all es (suc i)) × (f ≡ fault.TooMany which.Methods e.name.span)
 
@@ -100,7 +100,7 @@ main_here e es b named is = by b is
     has : Has (e.name.text ∷ texts_of es) (codes "Main")
     has = (0, ap (λ (x : Text). Some x) named)
 
-    -- Only the first entity is looked at.
+    -- Only the first entity matters.
     only : (c : Bool) → is_main e ≡ c → (f : NameFault) → MainCase (e ∷ es) f → (f ≡ fault.BadMain e.name.span) × (c ≡ false)
     only c k f (inl a) = absurd (a.1 has)
     only c k f (inr a) = at c k f a.0 a.1 a.2 a.3 a.5 a.6
@@ -151,7 +151,7 @@ mains_list (e ∷ es) = by (bytes_eq e.name.text (codes "Main")) refl (mains_lis
 pub file_mains : (file : t.File) → Lists (main_faults file.entities) (IsMainFault file)
 file_mains file = mains_list file.entities
 
--- There is one fault of `Main` at most.
+-- There is at most one fault of `Main`.
 pub one_main : (es : List t.Entity) (f g : NameFault) → Heads (main_faults es) f → Has (main_faults es) g → f ≡ g
 one_main [] f g h has = one_of fault.NoMain has.0 h has.1
   where

@@ -56,12 +56,12 @@ entity_text e = e.name.text
 abbrev name_part : List Text → t.Entity → List NameFault
 name_part known e = either (is_among e.name.text known) (fault.Double e.name.span) (not (nat_lt (length known) spec.known_limit)) (fault.TooMany which.Entities e.name.span)
 
--- Behind known names: the list is one that is gone through.
+-- After known names: the list is one that is traversed.
 names_walk : (known : List Text) (es : List t.Entity) → spec.entity_name_faults known es ≡ walk entity_text name_part known es
 names_walk known [] = refl
 names_walk known (e ∷ es) = ap (λ l. name_part known e ++ l) (names_walk (known ++ e.name.text ∷ []) es)
 
--- An element among the names of the language and those before place i.
+-- An element among the built-in names and those before place i.
 tests_repeated : (x : Text) (es : List t.Entity) (i : ℕ) → Tests (is_among x (built_in_names ++ take i (texts_of es))) (Has built_in_names x ⊎ HasBefore (texts_of es) i x)
 tests_repeated x es i =
     let later = take i (texts_of es) in
@@ -148,7 +148,7 @@ stable : (b : Bool) (A : Type 0) → Tests b A → ((A → ⊥) → ⊥) → A
 stable true A a d = a
 stable false A a d = absurd (d a)
 
--- ---- the names behind `is`
+-- ---- the names after `is`
 
 abbrev name_text : Name → Text
 name_text n = n.text

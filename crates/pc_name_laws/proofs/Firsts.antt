@@ -1,4 +1,4 @@
--- The first fault of a list, and where it stands.
+-- The first fault of a list, and its place.
 use Rattle.std.proofs.Common.{◌≡◌, ℕ, zero, suc, ◌<◌, List, [], ◌∷◌, ◌++◌, Some, refl, sym, ap, ◌∙◌, inl, inr, arith}
 use Rattle.std.specs.Prelude.{◌⊎◌, slice_get}
 use Rattle.std.proofs.lemmas.Option.{same_Some, none-some}
@@ -11,7 +11,7 @@ use Rattle.pc_body_spec.proofs.Places.{Sub, Rising, rising}
 abbrev pub Heads : {T : Type 0} → List T → T → Type 0
 Heads fs f = slice_get fs 0 ≡ Some f
 
--- The first of two lists is that of the first, or where this is empty that of the second.
+-- The first element of two lists is that of the first, or if this is empty that of the second.
 pub heads_either : {T : Type 0} (fs gs : List T) (f : T) → Heads (fs ++ gs) f → Heads fs f ⊎ ((fs ≡ []) × Heads gs f)
 heads_either [] gs f h = inr (refl, h)
 heads_either (x ∷ fs) gs f h = inl h

@@ -1,4 +1,4 @@
--- Names and members joined: which fault of a file is told.
+-- Names and members together: which fault of a file is reported.
 use Rattle.std.proofs.Common.{◌≡◌, ℕ, suc, ◌+◌, ◌*◌, ◌<◌, ◌≤◌, ◌&&◌, Bool, true, false, List, [], ◌∷◌, ◌++◌, take, drop, length, Option, Some, None, refl, sym, ap, ◌∙◌, subst, inl, inr, ⊎_elim, arith}
 use Rattle.std.specs.Prelude.{slice_get, Result, Ok, Err}
 use Rattle.std.proofs.lemmas.Option.{same_Some, none-some}
@@ -215,7 +215,7 @@ body_start (unknown s) = refl
 body_start (double s) = refl
 body_start (long_text s) = refl
 
--- With a member that has no fault of its body, or few slots, so do those up to it.
+-- If a member has no fault of its body, or few enough slots, the same holds up to it.
 body_up_to : (file : t.File) (k : ℕ) (o : Owned) → slice_get (all_members file) k ≡ Some o → Passed file k → member_faults (context_of file o) o.owner o.member ≡ [] → (j : ℕ) → j ≤ k → Nothing file (body j)
 body_up_to file k o is p e j l = elim (cases_lt j k) [
   | inl less ↦ no_body file k p j less
@@ -294,7 +294,7 @@ module _ (file : t.File) (clear : Clear file 5) (collected : (above : List (List
     within = λ s h other. inl (same ∙ ap (λ (x : Owned). fault.TooMany which.Nodes (member_span x.owner.name.span x.member)) (sym (same_place file k o other.0 is other.1)) ∙ sym other.3);
   }
 
--- ---- the fault that is told
+-- ---- the fault that is reported
 
 with_names : (file : t.File) → name_faults file (above_all (edges_of file)) ≡ [] → Collected file (record { entities = entity_names file; texts = other_texts file.entities; above = above_all (edges_of file) })
 with_names file e = record { faults = e; entities = refl; above = closes file; texts = other_texts_differ file.entities }
@@ -327,7 +327,7 @@ pub told : (file : t.File) (f : NameFault) → IsTold file f → Told file f
 told file f (real, inl h) = told_names file h.0 h.1 f real (first_is f (name_faults file h.0) real h.2)
 told file f (real, inr h) = told_members file h.0 f h.1 (parts_fail file h.0.above f h.2)
 
--- ---- no fault is the want of memory
+-- ---- no fault is that memory ran out
 
 abbrev IsReal : NameFault → Type 0
 IsReal (fault.Double s) = Unit {0}
@@ -369,7 +369,7 @@ real_at file (body k) f at = subst IsReal (sym at.4) (real_body at.1)
 real_at file (slots k) f at = subst IsReal (sym at.4) tt
 real_at file (nodes k) f at = subst IsReal (sym at.3) tt
 
--- The first cycle is no want of memory.
+-- The first cycle is not a lack of memory.
 real_cycles : (a : ℕ) (es : List t.Entity) (ls : List (List ℕ)) (f : NameFault) → Heads (cycle_faults a es ls) f → IsReal f
 real_cycles a [] ls f h = absurd (none-some f h)
 real_cycles a (e ∷ es) [] f h = absurd (none-some f h)
@@ -402,7 +402,7 @@ real_heads file above f h =
       ]
     ]
 
--- ---- where there is a fault, one is told
+-- ---- if there is a fault, one is reported
 
 no_fault_at_all : (file : t.File) → Clear file 5 → (q : Parts) → parts_of file ≡ Ok q → (u : Turn) → Nothing file u
 no_fault_at_all file c q h u = by u

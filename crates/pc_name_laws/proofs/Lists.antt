@@ -1,4 +1,4 @@
--- A list has the faults of which a part speaks, and no others.
+-- A list has exactly the faults that a part describes.
 use Rattle.std.proofs.Common.{◌≡◌, ℕ, zero, suc, List, [], ◌∷◌, ◌++◌, map, length, take, Some, Bool, true, false, not, ◌||◌, refl, sym, ap, ◌∙◌, subst, inl, inr, ⊎_elim, append-nil, append_assoc}
 use Rattle.std.specs.Prelude.{◌⊎◌, ◌↔◌, slice_get}
 use Rattle.std.proofs.lemmas.Option.{same_Some, none-some}
@@ -37,7 +37,7 @@ lists_one g f = (told, λ e. (0, ap (λ (z : NameFault). Some z) (sym e)))
 
 -- ---- tests
 
--- The test says whether this holds.
+-- The test decides whether this holds.
 abbrev pub Tests : Bool → Type 0 → Type 0
 Tests true A = A
 Tests false A = A → ⊥
@@ -77,14 +77,14 @@ tests_before x xs i =
     tests_turned (is_among x (take i xs)) (Has (take i xs) x) (HasBefore xs i x)
     (λ h. let g = get_take xs i h.0 x h.1 in (h.0, g.0, g.1)) (λ h. (h.0, take_get xs i h.0 x h.1 h.2)) (tests_among x (take i xs))
 
--- ---- a list that is gone through with the names before each element
+-- ---- a list that is traversed with the names before each element
 
 module _ {T : Type 0} (text : T → Text) (part : List Text → T → List NameFault) where
   abbrev pub walk : List Text → List T → List NameFault
   walk known [] = []
   walk known (x ∷ xs) = part known x ++ walk (known ++ text x ∷ []) xs
 
-  -- The fault is of one of the elements.
+  -- The fault is that of one of the elements.
   abbrev pub AtOne : List Text → List T → NameFault → Type 0
   AtOne known xs f = (i : ℕ) × (x : T) × (slice_get xs i ≡ Some x) × Has (part (known ++ take i (map text xs)) x) f
 
@@ -105,13 +105,13 @@ module _ {T : Type 0} (text : T → Text) (part : List Text → T → List NameF
     λ g. ⊎_elim (λ a. has_front (part known x) (walk (known ++ text x ∷ []) xs) f a) (λ b. has_behind (part known x) (walk (known ++ text x ∷ []) xs) f ((lists_walk (known ++ text x ∷ []) xs f).1 b)) (back known x xs f g.0 g.1 g.2 g.3),
   )
 
-  -- Where the part of each element has these faults.
+  -- If the part of each element has these faults.
   pub lists_each : (xs : List T) (P : ℕ → T → NameFault → Type 0) → ((i : ℕ) (x : T) → slice_get xs i ≡ Some x → Lists (part (take i (map text xs)) x) (P i x)) → Lists (walk [] xs) (λ f. (i : ℕ) × (x : T) × (slice_get xs i ≡ Some x) × P i x f)
   lists_each xs P each =
       lists_turned (walk [] xs) (AtOne [] xs) (λ f. (i : ℕ) × (x : T) × (slice_get xs i ≡ Some x) × P i x f)
       (λ f h. (h.0, h.1, h.2, (each h.0 h.1 h.2 f).0 h.3)) (λ f h. (h.0, h.1, h.2, (each h.0 h.1 h.2 f).1 h.3)) (lists_walk [] xs)
 
--- So many are the first i of a list that goes on.
+-- The number of the first i elements of a list that continues.
 pub first_count : {T : Type 0} (text : T → Text) (xs : List T) (i : ℕ) (x : T) → slice_get xs i ≡ Some x → length (take i (map text xs)) ≡ i
 first_count text [] i x e = absurd (none-some x e)
 first_count text (y ∷ xs) zero x e = refl

@@ -1,4 +1,4 @@
--- What the tables of a body say of a name is what it means.
+-- What the tables of a body give for a name is what it means.
 use Rattle.std.proofs.Common.{◌≡◌, ℕ, zero, suc, ◌+◌, ◌<◌, List, [], ◌∷◌, map, Option, Some, None, Bool, true, false, refl, sym, ap, ◌∙◌, subst, inl, inr, ⊎_elim, arith, if◌then◌else◌}
 use Rattle.std.specs.Prelude.{◌⊎◌, slice_get, nat_eq, nat_le}
 use Rattle.std.specs.Str.{bytes_eq}
@@ -31,7 +31,7 @@ first_or_later x xs n (suc i, e) = inr (i, e)
 differs : (x n : Text) → bytes_eq x n ≡ false → x ≡ n → ⊥
 differs x n b e = true_false (sym (same_text n) ∙ ap (λ (z : Text). bytes_eq z n) (sym e) ∙ b)
 
--- The answer of a search for a name, of which b says whether one of these names is it.
+-- The result of a search for a name; b says whether one of these names is it.
 abbrev pub Answers : Bool → List Text → Text → Type 0
 Answers true xs n = Has xs n
 Answers false xs n = Has xs n → ⊥
@@ -128,7 +128,7 @@ looked c n = by (search_from 0 c.entities n)
     by (inl r) = inl (r.0, r.1, r.2, r.3 ∙ ap (λ k. value_at k r.1) (let z : 0 + r.0 ≡ r.0 = omega arith in z))
     by (inr r) = inr r
 
--- Two first entities of one name are one.
+-- There is only one first entity with a name.
 one_named : (c : Context) (n : Text) (i j : ℕ) (x y : Known) → IsNamed c n i x → IsNamed c n j y → (i ≡ j) × (x ≡ y)
 one_named c n i j x y a b = by (cases_three i j)
   where
@@ -142,7 +142,7 @@ one_named c n i j x y a b = by (cases_three i j)
 
 -- ---- what a type name means
 
--- What is said of a name by its meaning as a type.
+-- What its meaning as a type says of a name.
 abbrev pub Says : Context → Text → TypeMeaning → Type 0
 Says c n (primitive e) = IsPrimitive c n × ((x : Known) → IsCreated c n x → ⊥)
 Says c n (created actor cs) = (x : Known) × IsCreated c n x × (x.constructors ≡ cs) × ((y : Known) → IsCreated c n y → y ≡ x) × (IsPrimitive c n → ⊥)
@@ -181,7 +181,7 @@ is_primitive kind.Trait = false
 is_primitive kind.Interface = false
 
 module _ (c : Context) (n : Text) (i : ℕ) (x : Known) (at : IsNamed c n i x) where
-  -- Where the entity of the name is none that creates, none is.
+  -- If the entity with the name is not one that makes objects, none is.
   not_created : is_class x.kind ≡ false → (y : Known) → IsCreated c n y → ⊥
   not_created k y h =
       let same = one_named c n i h.0 x y at h.1 in
@@ -223,7 +223,7 @@ says c n = by (looked c n)
     by (inl r) = subst (Says c n) (sym r.3) (says_value c n r.0 r.1 r.2)
     by (inr r) = subst (Says c n) (sym r.1) (λ h. r.0 h.0 h.1 h.2.0 h.2.1, λ y h. r.0 h.0 y h.1.0 h.1.1)
 
--- A constructor of the name is found, or there is none.
+-- A constructor with the name is found, or there is none.
 abbrev pub Constructs : Option ℕ → Known → Text → Type 0
 Constructs (Some m) x n = HasConstructor x n
 Constructs None x n = HasConstructor x n → ⊥
@@ -255,7 +255,7 @@ in_known [] i x n e s = absurd (none-some x e)
 in_known (y ∷ xs) zero x n e s = (0, ap (λ (z : Known). Some z.name) (same_Some y x e) ∙ ap (λ (z : Text). Some z) s)
 in_known (y ∷ xs) (suc i) x n e s = has_on y.name (known_names xs) n (in_known xs i x n e s)
 
--- An entity of the name is known, or there is none.
+-- An entity with the name is known, or there is none.
 abbrev pub Knows : Bool → List Known → Text → Type 0
 Knows true xs n = (x : Known) × Has xs x × (x.name ≡ n)
 Knows false xs n = (x : Known) × Has xs x × (x.name ≡ n) → ⊥

@@ -1,4 +1,4 @@
--- What becomes of the members of a file, one after the other, up to the first that has a fault.
+-- The outcomes of the members of a file, one after the other, up to the first with a fault.
 use Rattle.std.proofs.Common.{◌≡◌, ℕ, suc, ◌+◌, ◌<◌, List, [], ◌∷◌, take, length, Option, Some, None, refl, sym, ap, ◌∙◌, subst, inl, inr, arith}
 use Rattle.std.specs.Prelude.{slice_get, Result, Ok, Err}
 use Rattle.std.proofs.lemmas.Option.{same_Some}
@@ -100,9 +100,9 @@ stop file (o ∷ os) p f h = by (and_member (context_of file o) p o) refl (λ q.
         }
     by (Err x) e rest g = record { place = 0; owned = o; parts = p; is_member = refl; before = refl; here = e ∙ g }
 
--- ---- what it stops at
+-- ---- why it stops
 
--- A fault of its body; or else its 65th slot; or else, its nodes are too many.
+-- A fault of its body; or else its 65th slot; or else that there are too many nodes.
 pub data StopsAt (file : t.File) (o : Owned) (before : List Node) (f : NameFault) : Type 0 where
   at_body : (g : Fault) (gs : List Fault) → member_faults (context_of file o) o.owner o.member ≡ g ∷ gs → f ≡ body_fault g → StopsAt file o before f
   at_slot : (n : Name) → member_faults (context_of file o) o.owner o.member ≡ [] → slice_get (member_names o.owner o.member) 63 ≡ Some n → f ≡ fault.TooMany which.Slots n.span → StopsAt file o before f

@@ -1,4 +1,4 @@
--- The names of the entities of a file that tokens spell stand in the order of the tokens.
+-- The names of the entities of a file that tokens spell are in the order of the tokens.
 use Rattle.std.proofs.Common.{List, [], ◌∷◌, map, ℕ}
 use Rattle.pc_lists.specs.Places.{Ascends}
 use Rattle.pc_tree.specs.Tree as t

@@ -1,4 +1,4 @@
--- The places of the declarations of a file stand in the order of the text, one entity after the other.
+-- The places of the declarations of a file are in the order of the text, one entity after the other.
 use Rattle.std.proofs.Common.{◌≡◌, ℕ, zero, suc, ◌+◌, ◌<◌, List, [], ◌∷◌, ◌++◌, map, length, Some, refl, sym, ap, ◌∙◌, subst, arith}
 use Rattle.std.specs.Prelude.{slice_get}
 use Rattle.std.proofs.lemmas.Option.{same_Some, none-some}
@@ -58,7 +58,7 @@ earlier_entity (x ∷ es) zero (suc j) e d a b h l he hd ha hb =
     ascends_across (places x) (all_places es) a b h (subst (λ (y : t.Entity). Has (places y) a) (sym (same_Some x e he)) ha) (has_place es j d b hd hb)
 earlier_entity (x ∷ es) (suc i) (suc j) e d a b h l he hd ha hb = earlier_entity es i j e d a b (ascends_right (places x) (all_places es) h) (omega (arith, l)) he hd ha hb
 
--- ---- each fault of an entity stands at one of its places
+-- ---- each fault of an entity is at one of its places
 
 field_at : (fs : List t.Field) (i : ℕ) (f : t.Field) → slice_get fs i ≡ Some f → Has (field_places fs) (start_of f.name) × Has (field_places fs) (start_of f.ty.name)
 field_at [] i f at = absurd (none-some f at)

@@ -1,4 +1,4 @@
--- Nodes are put where they are not too many.
+-- Nodes are appended if there are not too many.
 use Rattle.std.proofs.Common.{◌≡◌, ℕ, zero, suc, ◌+◌, ◌<◌, ◌≤◌, List, [], ◌∷◌, ◌++◌, take, length, Some, None, Bool, true, false, refl, sym, ap, ◌∙◌, subst, inl, inr, arith, if◌then◌else◌}
 use Rattle.std.specs.Prelude.{slice_get, nat_lt}
 use Rattle.std.proofs.lemmas.Bool.{cases_lt}
@@ -14,7 +14,7 @@ use Rattle.pc_tree.specs.Tree as t
 use Rattle.pc_file_spec.specs.Members.{Owned}
 use Rattle.pc_name_laws.specs.Turns.{size, sizes, owned_size, nodes_of}
 
--- So many nodes are there, or they are too many.
+-- There is this number of nodes, or there are too many.
 abbrev pub Counts : {A : Type 0} → Numbered A → ℕ → Type 0
 Counts None n = node_limit < n
 Counts (Some r) n = length r.1 ≡ n

@@ -1,4 +1,4 @@
--- The faults of names and declarations stand at the places of the tree, in their order.
+-- The faults of names and declarations are at the places of the tree, in their order.
 use Rattle.std.proofs.Common.{◌≡◌, ℕ, Bool, true, false, not, ◌||◌, ◌&&◌, List, [], ◌∷◌, ◌++◌, map, length, Option, Some, None, refl, subst}
 use Rattle.std.specs.Prelude.{nat_lt, codes}
 use Rattle.pc_caps.specs.Limits.{field_limit}
@@ -17,7 +17,7 @@ use Rattle.pc_names.specs.Laws.{fault_start, start_of, result_places, field_plac
 use Rattle.pc_body_spec.proofs.Places.{Sub, none, skip, take, sub_join}
 use Rattle.pc_name_laws.proofs.Orders.{entity_start}
 
--- A list with its places, of which either is told by the other.
+-- A list with its places, each of which determines the other.
 record Stand (fs : List NameFault) (ns : List ℕ) : Type 0 where
   sub : Sub fault_start fs ns
 

@@ -15,7 +15,7 @@ use Rattle.pc_name_laws.specs.Missing.{Means, place, IsTaken, IsLong, IsAtFault}
 abbrev pub FaultIn : Context → (Spot → Type 0) → Fault → Type 0
 FaultIn c P f = (x : Spot) × P x × IsAtFault c x f
 
--- The list has the faults of the spots of a part, and no others; and they stand at some of these places, in this order.
+-- The list has exactly the faults of the spots of a part, and they are at some of these places, in this order.
 pub record Tells (c : Context) (fs : List Fault) (P : Spot → Type 0) (ns : List ℕ) : Type 0 where
   pub just : (f : Fault) → Has fs f ↔ FaultIn c P f
   pub order : Sub fault_start fs ns
@@ -35,14 +35,14 @@ either {c} {fs} {gs} {P} {Q} {ns} {ms} p q = record {
   order = sub_join fault_start fs gs ns ms p.order q.order;
 }
 
--- Another part that is at the same spots.
+-- Another part with the same spots.
 pub turned : {c : Context} {fs : List Fault} {P : Spot → Type 0} {ns : List ℕ} (Q : Spot → Type 0) → ((x : Spot) → P x → Q x) → ((x : Spot) → Q x → P x) → Tells c fs P ns → Tells c fs Q ns
 turned Q there back h = record {
   just = λ f. (λ has. let g = (h.just f).0 has in (g.0, there g.0 g.1, g.2), λ g. (h.just f).1 (g.0, back g.0 g.1, g.2));
   order = h.order;
 }
 
--- ---- a use alone
+-- ---- a use on its own
 
 pub no_fault_here : (c : Context) (visible : List Text) (u : Use) (ns : List ℕ) → ((f : Fault) → IsAtFault c (spot visible u) f → ⊥) → Tells c [] (Here visible u) ns
 no_fault_here c visible u ns never = record {
@@ -60,7 +60,7 @@ fault_here c visible u f at only = record {
     told g (zero, e) = (spot visible u, refl, subst (IsAtFault c (spot visible u)) (same_Some f g e) at)
     told g (suc i, e) = absurd (none-some g e)
 
--- A use whose name can be neither taken nor too long.
+-- A use whose name cannot be taken or too long.
 pub meant : (c : Context) (visible : List Text) (u : Use) → (IsTaken c visible u → ⊥) → (IsLong u → ⊥) → Means c visible u → Tells c [] (Here visible u) ((place u).start ∷ [])
 meant c visible u free short m = no_fault_here c visible u ((place u).start ∷ []) (λ f at. ⊎_elim (λ a. a.1 m) (λ b. ⊎_elim (λ d. free d.1) (λ d. short d.1) b) at)
 

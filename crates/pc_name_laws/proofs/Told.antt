@@ -1,4 +1,4 @@
--- The fault that is told is the least of all.
+-- The fault that is reported is the least of all.
 use Rattle.std.proofs.Common.{◌≡◌, ℕ, zero, suc, ◌+◌, ◌<◌, ◌≤◌, List, [], ◌∷◌, map, drop, Some, refl, sym, ap, ◌∙◌, subst, inl, inr, ⊎_elim, arith}
 use Rattle.std.specs.Prelude.{◌⊎◌, slice_get}
 use Rattle.std.proofs.lemmas.Option.{same_Some, none-some}
@@ -37,7 +37,7 @@ use Rattle.pc_name_laws.proofs.Counting.{counts_at, file_counts, file_mains, one
 abbrev pub Nothing : t.File → Turn → Type 0
 Nothing file u = (g : NameFault) → At file u g → ⊥
 
--- The fault is one of a turn, before which there is none, and in which it has the smallest start.
+-- The fault is one of a turn before which there is none, and has the smallest start in it.
 pub record Told (file : t.File) (f : NameFault) : Type 0 where
   pub turn : Turn
   pub at : At file turn f
@@ -129,7 +129,7 @@ pub no_declared : (file : t.File) → declaration_faults file ≡ [] → Nothing
 no_declared file none g at =
     none_has (declaration_faults file) g none (has_entity (entity_names file) (trait_names file.entities) file.entities at.1.0 at.0 g at.1.1 ((entity_lists file at.0 g).1 at.2))
 
--- In its entity the fault has the smallest start, and a later entity stands behind it.
+-- In its entity the fault has the smallest start, and later entities come after it.
 within_declared : (file : t.File) (f : NameFault) → FirstOf (entity_names file) (trait_names file.entities) file.entities f → Spelled file → (g : NameFault) (j : ℕ) (d : t.Entity) → slice_get file.entities j ≡ Some d → IsDeclarationFault file d g → Least fault_start f g
 within_declared file f r s g j d at bad = elim (cases_order j r.place) [
   | inl e ↦
@@ -174,7 +174,7 @@ own file (suc (suc (suc (suc (suc (suc i)))))) e h =
     let r = map_get Some file.entities i (Some e) h in
     (i, omega arith, r.1 ∙ r.2)
 
--- Of two entities of which the second is not before the first: it is the first, or its name starts later.
+-- Of two entities, the second of which is not before the first: the second is the first, or its name starts later.
 start_order : (es : List t.Entity) (i j : ℕ) (d e : t.Entity) → Ascends (map entity_start es) → slice_get es i ≡ Some d → slice_get es j ≡ Some e → (j < i → ⊥) → Least entity_start d e
 start_order es i j d e a hd he l = elim (cases_order i j) [
   | inl same ↦ inl (same_Some d e (sym hd ∙ ap (slice_get es) same ∙ he))
@@ -207,7 +207,7 @@ told_cycle file above f real c clear h =
           ];
     }
 
--- ---- counts, and Main
+-- ---- numbers of methods, and Main
 
 pub no_counts : (file : t.File) → count_faults file.entities 0 file.entities ≡ [] → Nothing file method_counts
 no_counts file none g at = none_has (count_faults file.entities 0 file.entities) g none ((file_counts file g).1 at)

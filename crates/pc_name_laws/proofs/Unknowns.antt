@@ -1,4 +1,4 @@
--- The laws on the fault that is told, and on unknown names.
+-- The laws of the fault that is reported, and of unknown names.
 use Rattle.std.proofs.Common.{◌≡◌, refl, sym, ap, ◌∙◌, subst, inl, inr, arith}
 use Rattle.std.specs.Prelude.{Option, Some, None}
 use Rattle.std.proofs.lemmas.Option.{same_Some, none-some}
@@ -28,7 +28,7 @@ use Rattle.pc_name_laws.proofs.Joined.{told, fault_is_told}
 is_before : (file : t.File) (f : NameFault) (x : Told file f) → Spelled file → (u : Turn) (g : NameFault) → At file u g → IsBefore x.turn f u g
 is_before file f x s u g at = ((λ early. x.before u early g at), (λ same. x.within s g (subst (λ v. At file v g) (sym same) at)))
 
--- What comes before a fault is not behind its start.
+-- What comes before a fault is not after its start.
 not_behind : (t u : Turn) (f g : NameFault) → IsBefore t f u g → NotBehind t f u (fault_start g)
 not_behind t u f g b = (
   b.0,
@@ -46,7 +46,7 @@ told_is_least file ts f spells order is =
 pub told_of_text_is_least : ToldOfTextIsLeast
 told_of_text_is_least text file ts f tokens spells is = told_is_least file ts f spells (tokens_ascend text ts tokens) is
 
--- ---- a fault that is no unknown name
+-- ---- a fault that is not an unknown name
 
 abbrev unknown_at : NameFault → Option Span
 unknown_at (fault.Double s) = None
@@ -57,7 +57,7 @@ unknown_at (fault.Cycle s) = None
 unknown_at (fault.TooMany w s) = None
 unknown_at fault.Memory = None
 
--- A fault that is told as unknown is none of the others.
+-- A fault that is reported as unknown is none of the others.
 other_fault : (f : NameFault) (s : Span) → unknown_at f ≡ None → fault.Unknown s ≡ f → ⊥
 other_fault f s none e = none-some s (sym none ∙ sym (ap unknown_at e))
 
@@ -105,7 +105,7 @@ missing_at file (nodes k) s at = none-some s (sym (ap unknown_at at.3))
 pub unknown_is_missing : UnknownIsMissing
 unknown_is_missing file s is = let x = told file (fault.Unknown s) is in (x.turn, missing_at file x.turn s x.at)
 
--- ---- a name whose meaning is missing
+-- ---- a name without a meaning
 
 at_missing_name : (file : t.File) (u : Turn) (s : Span) → IsMissingAt file u s → At file u (fault.Unknown s)
 at_missing_name file entity_names s m = absurd m

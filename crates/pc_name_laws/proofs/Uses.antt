@@ -1,4 +1,4 @@
--- A use is at fault where the definition of a body's faults says so.
+-- A use is at fault iff the definition of a body's faults says so.
 use Rattle.std.proofs.Common.{◌≡◌, ℕ, ◌<◌, List, [], ◌∷◌, length, Option, Some, None, Bool, true, false, refl, sym, ◌∙◌, subst, inl, inr, ⊎_elim, if◌then◌else◌, arith}
 use Rattle.std.specs.Prelude.{nat_lt}
 use Rattle.std.proofs.lemmas.Bool.{ltb-true}
@@ -18,7 +18,7 @@ use Rattle.pc_name_laws.specs.Missing.{IsCreated, IsPrimitive, HasConstructor, M
 use Rattle.pc_name_laws.proofs.Telling.{Tells, no_spot, no_fault_here, fault_here, meant, missing}
 use Rattle.pc_name_laws.proofs.Meanings.{names, Answers, is_some, among, slots_answer, Says, says, Constructs, constructs, Knows, knows}
 
--- ---- what follows differs
+-- ---- what follows is different
 
 abbrev IsArguments : Next → Type 0
 IsArguments arguments = Unit {0}
@@ -32,7 +32,7 @@ IsDotName end = ⊥
 
 -- ---- bare names
 
--- Nothing has the name, but for what this says of methods.
+-- Nothing has the name, except as `next` allows for methods.
 unknown_name : (c : Context) (visible : List Text) (n : Name) (next : Next) → (Has visible n.text → ⊥) → (Has c.fields n.text → ⊥) → ((next ≡ arguments) × Has c.methods n.text → ⊥) → Means c visible (u.bare n next) → ⊥
 unknown_name c visible n next v f m means = ⊎_elim v (λ r. ⊎_elim f m r) means
 
@@ -76,7 +76,7 @@ type_by c visible n next no_value s =
 pub type_tells : (c : Context) (visible : List Text) (n : Name) (next : Next) → Tells c (start_faults (with_type (type_meaning c n.text)) next (type_faults (type_meaning c n.text) n.span)) (Here visible (u.type_value n next)) (n.span.start ∷ [])
 type_tells c visible n next = type_by c visible n next (type_meaning c n.text) (says c n.text)
 
--- ---- behind a type name
+-- ---- after a type name
 
 named_by : (c : Context) (visible : List Text) (of n : Name) (x : Known) (o : Option ℕ) → IsCreated c of.text x → ((y : Known) → IsCreated c of.text y → y ≡ x) → Constructs o x n.text
     → Tells c (unless_some o (unknown n.span)) (Here visible (u.member_of of n arguments)) (n.span.start ∷ [])

@@ -40,12 +40,12 @@ begins c sc (t.while_ cond b s) = refl
 begins c sc (t.recover k b s) = refl
 begins c sc (t.assign l r s) = refl
 
--- A local more is visible.
+-- One more local is visible.
 names_after : (c : Context) (sc : Scope) (i : t.Item) → names (scope_after c sc i) ≡ visible_after (names sc) i
 names_after c sc (t.local fixed n ty e s) = map-append (λ (v : Visible). v.name) sc (defined c n ∷ [])
 names_after c sc (t.plain e) = refl
 
--- Behind the end of an expression nothing follows.
+-- After the end of an expression nothing follows.
 at_end : {c : Context} {P : Spot → Type 0} {ns : List ℕ} (st : Start) (fs : List Fault) → Tells c (start_faults st end fs) P ns → Tells c fs P ns
 at_end (with_method n) fs h = h
 at_end (with_type (primitive e)) fs h = h
@@ -135,7 +135,7 @@ initials_tell c (x ∷ fs) = turned (InInitials (x ∷ fs)) there back (either (
     back : (s : Spot) → InInitials (x ∷ fs) s → InValue x.value s ⊎ InInitials fs s
     back s r = at s r.0 r.1 r.2
 
--- Of a method that is no constructor there are none.
+-- A method that is not a constructor has none.
 abbrev IsNew : MethodWord → Type 0
 IsNew word.Fun = ⊥
 IsNew word.Be = ⊥

@@ -1,4 +1,4 @@
--- Which fault of a file is told.
+-- Which fault of a file is reported.
 use Rattle.std.specs.Prelude.{◌≡◌, ◌⊎◌, ◌↔◌, ℕ, List, slice_get, Some}
 use Rattle.pc_lists.specs.Places.{Has, Ascends}
 use Rattle.pc_caps.specs.declared.span.Span.{Span}
@@ -29,8 +29,8 @@ use Rattle.pc_name_laws.specs.Turns.{Turn, entity_names, declarations, cycles, m
 
 -- ---- what the passes look for
 
--- The faults that each pass lists, of which it tells the first, are those that are said here, and no others: of the names of
--- entities, of the declarations of an entity, of counts of methods, of `Main`, and of the body of a member.
+-- The faults that each pass lists, of which it reports the first, are exactly those defined here: of the names of
+-- entities, of the declarations of an entity, of the number of methods, of `Main`, and of the body of a member.
 abbrev pub EntitiesAreListed : Type 0
 EntitiesAreListed = (file : t.File) (f : NameFault) → Has (entity_name_faults built_in_names file.entities) f ↔ IsEntityFault file f
 
@@ -49,31 +49,31 @@ BodiesAreListed = (c : Context) (e : t.Entity) (m : t.Method) (f : Fault) → Ha
 abbrev pub AddedBodiesAreListed : Type 0
 AddedBodiesAreListed = (c : Context) (e : t.Entity) (f : Fault) → Has (initial_faults c e.fields) f ↔ IsBodyFault c e added f
 
--- ---- the fault that is told
+-- ---- the fault that is reported
 
--- The fault that is told of a file: the first fault of its names, or where they have none that of its members.
+-- The fault that is reported for a file: the first fault of its names, or if they have none that of its members.
 abbrev pub IsTold : t.File → NameFault → Type 0
 IsTold file f = OfFile f × (IsNameFault file f ⊎ IsElabFault file f)
 
--- The fault is one of this turn, and comes before all other faults of all turns.
+-- The fault is one of this turn, and precedes all other faults of all turns.
 abbrev pub IsLeast : t.File → Turn → NameFault → Type 0
 IsLeast file t f = At file t f × ((u : Turn) (g : NameFault) → At file u g → IsBefore t f u g)
 
--- Of a file that tokens spell in the order of a text, the fault that is told is the least of all.
+-- For a file that tokens spell in the order of a text, the reported fault is the least of all.
 abbrev pub ToldIsLeast : Type 0
 ToldIsLeast = (file : t.File) (ts : List Token) (f : NameFault) → SpellsFile file ts → Ascends (starts ts) → IsTold file f → (t : Turn) × IsLeast file t f
 
--- So it is with the tokens of every text.
+-- The same for the tokens of any text.
 abbrev pub ToldOfTextIsLeast : Type 0
 ToldOfTextIsLeast = (text : List ℕ) (file : t.File) (ts : List Token) (f : NameFault) → Tokens text ts → SpellsFile file ts → IsTold file f → (t : Turn) × IsLeast file t f
 
--- Where a file has a fault, one is told.
+-- If a file has a fault, one is reported.
 abbrev pub FaultIsTold : Type 0
 FaultIsTold = (file : t.File) (t : Turn) (g : NameFault) → At file t g → (f : NameFault) × IsTold file f
 
 -- ---- unknown names
 
--- The meaning of a name at this place is missing: in the declarations of an entity, or in the body of a member.
+-- The name at this place has no meaning: in the declarations of an entity, or in the body of a member.
 abbrev pub IsMissingAt : t.File → Turn → Span → Type 0
 IsMissingAt file entity_names s = ⊥
 IsMissingAt file declarations s = (e : t.Entity) × (n : Name) × Has file.entities e × IsMissingName file e n × (s ≡ n.span)
@@ -84,11 +84,11 @@ IsMissingAt file (body k) s = (o : Owned) × (x : Spot) × (slice_get (all_membe
 IsMissingAt file (slots k) s = ⊥
 IsMissingAt file (nodes k) s = ⊥
 
--- A name that is told as unknown is one whose meaning is missing.
+-- A name reported as unknown has no meaning.
 abbrev pub UnknownIsMissing : Type 0
 UnknownIsMissing = (file : t.File) (s : Span) → IsTold file (fault.Unknown s) → (t : Turn) × IsMissingAt file t s
 
--- Where the meaning of a name is missing, a fault is told that is not behind the name.
+-- If a name has no meaning, a fault is reported that is not after the name.
 abbrev pub MissingIsTold : Type 0
 MissingIsTold =
     (file : t.File) (ts : List Token) (t : Turn) (s : Span) → SpellsFile file ts → Ascends (starts ts) → IsMissingAt file t s

@@ -1,5 +1,4 @@
--- Which uses in a body are at fault: the names whose meaning is missing, the locals whose name is taken, and the texts that are
--- too long.
+-- Which uses in a body are at fault: names without a meaning, locals whose name is taken, and texts that are too long.
 use Rattle.std.specs.Prelude.{◌≡◌, ◌⊎◌, ℕ, ◌<◌, ◌≤◌, List, length, Some, slice_get, codes}
 use Rattle.pc_lists.specs.Places.{Has}
 use Rattle.pc_caps.specs.declared.span.Span.{Span}
@@ -15,18 +14,18 @@ use Rattle.pc_name_laws.specs.Uses.{Use, bare, consumed, type_value, member_of, 
 
 -- ---- what type names mean
 
--- Entity number i is the first of this name.
+-- Entity number i is the first with this name.
 abbrev pub IsNamed : Context → Text → ℕ → Known → Type 0
 IsNamed c n i x = (slice_get c.entities i ≡ Some x) × (x.name ≡ n) × ((j : ℕ) (y : Known) → j < i → slice_get c.entities j ≡ Some y → y.name ≡ n → ⊥)
 
--- Of the entities of the language, None alone is a value or makes one.
+-- Of the built-in entities only None is a value or makes one.
 abbrev pub HasValue : ℕ → Type 0
 HasValue i = (i ≡ none_entity) ⊎ (first_own ≤ i)
 
 abbrev pub IsPrimitive : Context → Text → Type 0
 IsPrimitive c n = (i : ℕ) × (x : Known) × IsNamed c n i x × HasValue i × (x.kind ≡ kind.Primitive)
 
--- A class or an actor, of which objects are made.
+-- A class or an actor, of which objects can be made.
 abbrev pub IsCreated : Context → Text → Known → Type 0
 IsCreated c n x = (i : ℕ) × IsNamed c n i x × HasValue i × ((x.kind ≡ kind.Class) ⊎ (x.kind ≡ kind.Actor))
 
@@ -35,9 +34,9 @@ HasConstructor x n = (k : Constructor) × Has x.constructors k × (k.name ≡ n)
 
 -- ---- what uses mean
 
--- A bare name is a visible local or parameter, a field of the entity, or, directly before arguments, a method of the entity. A type
--- name is a primitive, or a class or actor with a constructor `create`, which it may lack directly before a `.`. Behind the `.` of a class
--- or actor stands one of its constructors, before arguments.
+-- A bare name is a visible local or parameter, a field of the entity, or, directly before arguments, a method of the
+-- entity. A type name is a primitive, or a class or actor with a constructor `create`, which may be missing directly
+-- before a `.`. After the `.` of a class or actor comes one of its constructors, before arguments.
 abbrev pub Means : Context → List Text → Use → Type 0
 Means c visible (bare n next) = Has visible n.text ⊎ Has c.fields n.text ⊎ ((next ≡ arguments) × Has c.methods n.text)
 Means c visible (consumed n) = Has visible n.text
@@ -47,7 +46,7 @@ Means c visible (local n) = Unit {0}
 Means c visible (local_type n) = (x : Known) × Has c.entities x × (x.name ≡ n.text)
 Means c visible (literal b s) = Unit {0}
 
--- Where a use stands.
+-- The span of a use.
 abbrev pub place : Use → Span
 place (bare n next) = n.span
 place (consumed n) = n.span
@@ -80,7 +79,7 @@ IsLong (local n) = ⊥
 IsLong (local_type n) = ⊥
 IsLong (literal b s) = text_limit < length b
 
--- The use is at fault, with this fault.
+-- The use has this fault.
 abbrev pub IsAtFault : Context → Spot → Fault → Type 0
 IsAtFault c x f =
     ((f ≡ unknown (place x.what)) × IsMissing c x) ⊎ ((f ≡ double (place x.what)) × IsTaken c x.visible x.what) ⊎ ((f ≡ long_text (place x.what)) × IsLong x.what)

@@ -1,5 +1,5 @@
--- In which turn each fault of a file is looked for. There are five passes over its names, and then its members have their turns: the
--- body of a member, its slots, and its nodes.
+-- The turn in which each fault of a file is looked for. There are five passes over its names, and then its members have
+-- their turns: the body of a member, its slots, and its nodes.
 use Rattle.std.specs.Prelude.{◌≡◌, ◌⊎◌, ℕ, suc, ◌+◌, ◌*◌, ◌<◌, ◌≤◌, false, List, [], ◌∷◌, take, Option, Some, None, slice_get, codes, ◌-◌}
 use Rattle.pc_caps.specs.Limits.{method_limit, node_limit, slot_limit}
 use Rattle.pc_lists.specs.Places.{Has}
@@ -40,7 +40,7 @@ pub data Turn : Type 0 where
   slots : ℕ → Turn
   nodes : ℕ → Turn
 
--- Turns come one after the other, those of a member before those of the next one.
+-- Turns come one after the other, those of a member before those of the next member.
 abbrev pub pass : Turn → ℕ
 pass entity_names = 0
 pass declarations = 1
@@ -70,7 +70,7 @@ Earlier a b = (pass a < pass b) ⊎ ((pass a ≡ pass b) × (part a < part b))
 abbrev pub IsCycleFault : t.File → NameFault → Type 0
 IsCycleFault file f = (a : ℕ) × (e : t.Entity) × InCycle file a × entity_at file a e × (f ≡ fault.Cycle e.name.span)
 
--- How many methods the first k of these entities have. The first argument are all entities.
+-- How many methods the first k of these entities have. The first argument is the list of all entities.
 abbrev pub methods_to : List t.Entity → List t.Entity → ℕ → ℕ
 methods_to all (e ∷ es) (suc k) = method_count all e + methods_to all es k
 methods_to all es k = 0
@@ -79,8 +79,8 @@ methods_to all es k = 0
 abbrev pub IsCountFault : t.File → NameFault → Type 0
 IsCountFault file f = (i : ℕ) × (e : t.Entity) × (slice_get file.entities i ≡ Some e) × (method_limit < methods_to file.entities file.entities (suc i)) × (f ≡ fault.TooMany which.Methods e.name.span)
 
--- No entity is called `Main`; or the first that is so called is no actor, or has no constructor `create` with exactly one parameter, of
--- `Env val`.
+-- No entity is called `Main`; or the first one called so is not an actor, or has no constructor `create` with exactly
+-- one parameter, of type `Env val`.
 abbrev pub IsMainFault : t.File → NameFault → Type 0
 IsMainFault file f =
     ((f ≡ fault.NoMain) × (Has (texts_of file.entities) (codes "Main") → ⊥))
@@ -91,7 +91,7 @@ IsMainFault file f =
 abbrev pub all_members : t.File → List Owned
 all_members file = members_from file.entities first_own file.entities
 
--- The names of a member's slots, behind that of `this`.
+-- The names of a member's slots, after that of `this`.
 abbrev pub slots_named : t.Entity → Member → List Name
 slots_named e (written m) = slot_names e.fields m
 slots_named e added = local_names (initial_locals e.fields)
@@ -134,10 +134,12 @@ At file (body k) f = (o : Owned) × (g : Fault) × (slice_get (all_members file)
 At file (slots k) f = (o : Owned) × (n : Name) × (slice_get (all_members file) k ≡ Some o) × (slice_get (slots_named o.owner o.member) (slot_limit - 1) ≡ Some n) × (f ≡ fault.TooMany which.Slots n.span)
 At file (nodes k) f = (o : Owned) × (slice_get (all_members file) k ≡ Some o) × (node_limit < nodes_of file (take (suc k) (all_members file))) × (f ≡ fault.TooMany which.Nodes (member_span o.owner.name.span o.member))
 
--- A fault in a turn comes before another in a turn, or is it: its turn is not later, and in one turn it has the smaller start.
+-- A fault in a turn precedes another in a turn, or equals it: its turn is not later, and within one turn it has the
+-- smaller start.
 abbrev pub IsBefore : Turn → NameFault → Turn → NameFault → Type 0
 IsBefore t f u g = (Earlier u t → ⊥) × (t ≡ u → (f ≡ g) ⊎ (fault_start f < fault_start g))
 
--- A fault in a turn is not behind a place in another: its turn is not later, and in one turn it does not start later.
+-- A fault in a turn is not after a place in another: its turn is not later, and within one turn it does not start
+-- later.
 abbrev pub NotBehind : Turn → NameFault → Turn → ℕ → Type 0
 NotBehind t f u start = (Earlier u t → ⊥) × (t ≡ u → fault_start f ≤ start)

@@ -11,15 +11,15 @@ use Rattle.pc_lists.specs.Texts.{Text}
 use Rattle.pc_body_spec.specs.Faults.{Next, end, next_of}
 use Rattle.pc_members.specs.Members.{Member, written, added}
 
--- What may be at fault in a body.
+-- What can be at fault in a body.
 pub data Use : Type 0 where
   -- a bare name, and what follows it directly
   bare : Name → Next → Use
-  -- the name behind `consume`
+  -- the name after `consume`
   consumed : Name → Use
   -- a type name as an expression, and what follows it directly
   type_value : Name → Next → Use
-  -- a type name that begins a chain, the name behind its `.`, and what follows that directly
+  -- a type name that starts a chain, the name after its `.`, and what follows that directly
   member_of : Name → Name → Next → Use
   -- the name of a local, at its definition
   local : Name → Use
@@ -38,7 +38,7 @@ spot visible u = record { visible = visible; what = u }
 abbrev pub Here : List Text → Use → Spot → Type 0
 Here visible u x = x ≡ spot visible u
 
--- The type name with which a chain begins.
+-- The type name with which a chain starts.
 abbrev pub type_name_of : t.Expr → Option Name
 type_name_of (t.type_name n) = Some n
 type_name_of e = None
@@ -56,7 +56,7 @@ abbrev pub visible_after : List Text → t.Item → List Text
 visible_after visible (t.local fixed n ty e s) = visible ++ n.text ∷ []
 visible_after visible (t.plain e) = visible
 
--- The spot is in the expression, before which these names are visible and which this follows.
+-- The spot is in the expression, where these names are visible before it and this follows it.
 abbrev mutual
   pub In : List Text → Next → t.Expr → Spot → Type 0
   In visible next (t.number n s) x = ⊥
@@ -79,7 +79,7 @@ abbrev mutual
   InExprs visible t.no_exprs x = ⊥
   InExprs visible (t.expr e es) x = In visible end e x ⊎ InExprs visible es x
 
-  -- Directly behind a type name, if there is one.
+  -- Directly after a type name, if there is one.
   pub InSuffixes : List Text → Option Name → t.Suffixes → Spot → Type 0
   InSuffixes visible of t.no_suffixes x = ⊥
   InSuffixes visible of (t.suffix (t.dot n) ss) x = BehindDot visible of n (next_of ss) x ⊎ InSuffixes visible None ss x
@@ -122,7 +122,7 @@ InBody visible (Some b) x = InSeq visible b x
 abbrev pub param_texts : List ParamDef → List Text
 param_texts ps = map (λ (p : ParamDef). p.name.text) ps
 
--- Initial values are a part of each constructor.
+-- Initial values are part of each constructor.
 abbrev pub InMember : t.Entity → Member → Spot → Type 0
 InMember e (written m) x = ((m.word ≡ word.New) × InInitials e.fields x) ⊎ InBody (param_texts m.params) m.body x
 InMember e added x = InInitials e.fields x

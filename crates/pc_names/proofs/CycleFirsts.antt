@@ -1,4 +1,4 @@
--- The fault of a cycle is at the first trait that a chain of `is` leads back to itself.
+-- The fault of a cycle is at the first trait from which a chain of `is` leads back to it.
 use Rattle.std.proofs.Common.{◌≡◌, ℕ, zero, suc, ◌+◌, ◌<◌, Bool, true, false, ◌&&◌, List, [], ◌∷◌, ◌++◌, map, drop, Some, refl, sym, ap, ◌∙◌, subst, arith}
 use Rattle.std.specs.Prelude.{slice_get}
 use Rattle.std.proofs.lemmas.Option.{same_Some, none-some, slice_get_within}
@@ -20,7 +20,7 @@ use Rattle.pc_names.proofs.Ones.{first_is}
 use Rattle.std.proofs.lemmas.Bool.{and_parts}
 use Rattle.pc_lists.proofs.Bools.{no_both}
 
--- Entity number a is a trait that stands above itself.
+-- Entity number a is a trait that is above itself.
 abbrev pub bad : ℕ → t.Entity → List ℕ → Bool
 bad a e l = is_abstract e.kind && has l a
 
@@ -79,7 +79,7 @@ first_bad n (e ∷ es) (l ∷ ls) f h = by (bad n e l) refl (λ g. first_bad (n 
     by true is rec g = bad_here n e l es ls f is (sym (same_Some _ _ g))
     by false is rec g = bad_on n e l es ls f is (rec g)
 
--- Where there is no fault, no entity is.
+-- If there is no fault, no entity is.
 all_clear : (n i : ℕ) (es : List t.Entity) (ls : List (List ℕ)) → cycle_faults n es ls ≡ [] → Clear n es ls i
 all_clear n i [] ls h j d m l ed em = absurd (none-some d ed)
 all_clear n i (e ∷ es) [] h j d m l ed em = absurd (none-some m em)

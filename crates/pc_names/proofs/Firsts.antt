@@ -1,4 +1,4 @@
--- The first element of a list that goes on.
+-- The first element of a list that continues.
 use Rattle.std.proofs.Common.{◌≡◌, List, [], ◌∷◌, ◌++◌, Some}
 use Rattle.std.specs.Prelude.{slice_get}
 use Rattle.std.proofs.lemmas.Option.{none-some}
@@ -10,7 +10,7 @@ first_goes_on : {T : Type 0} → (xs ys : List T) (x : T) → slice_get xs 0 ≡
 first_goes_on [] ys x e = absurd (none-some x e)
 first_goes_on (y ∷ xs) ys x e = e
 
--- The first fault of a list is that of the list that goes on.
+-- The first fault of a list is that of the list that continues it.
 pub is_first_on : (f : NameFault) (xs ys : List NameFault) → IsFirst f xs → IsFirst f (xs ++ ys)
 is_first_on (fault.Double s) xs ys e = first_goes_on xs ys (fault.Double s) e
 is_first_on (fault.Unknown s) xs ys e = first_goes_on xs ys (fault.Unknown s) e

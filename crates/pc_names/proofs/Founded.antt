@@ -1,4 +1,4 @@
--- A file whose names and declarations have no fault, and no cycle, is one whose members can be listed.
+-- The members can be listed for a file whose names and declarations have no fault, and which has no cycle.
 use Rattle.std.proofs.Common.{◌≡◌, ℕ, zero, suc, ◌+◌, ◌<◌, ◌≤◌, List, [], ◌∷◌, ◌++◌, length, Bool, true, false, not, refl, sym, subst, arith, append-nil}
 use Rattle.std.specs.Prelude.{nat_lt, drop}
 use Rattle.std.proofs.lemmas.Bool.{ltb-true, not-false}
@@ -40,7 +40,7 @@ either_none false f c g h = (refl, where_none c g h)
 
 -- ---- texts that differ
 
--- Each of these texts is none of those before it.
+-- None of these texts is one of those before it.
 abbrev pub Adds : List Text → List Text → Type 0
 Adds base [] = Unit {0}
 Adds base (x ∷ xs) = (is_among x base ≡ false) × Adds (base ++ x ∷ []) xs
@@ -71,7 +71,7 @@ all_differ file h =
     let few = r.1 in
     (adds_differ built_in_names (texts_of file.entities) (adds_differ [] built_in_names differ_none built_in_adds) r.0, omega (arith, few))
 
--- ---- what stands behind `is`
+-- ---- the names after `is`
 
 pub provided_are : (traits known : List Text) (ns : List Name) → provided_faults traits known ns ≡ [] → (n : Name) → Has ns n → Has traits n.text
 provided_are traits known [] h n g = absurd (none-some n g.1)
@@ -102,7 +102,7 @@ founded file above closed names declared cycles = record {
   straight = no_cycle file above closed cycles;
 }
 
--- So is a file whose names were collected.
+-- The same for a file whose names were collected.
 pub collected_founded : (file : t.File) (names : NamesData) → Collected file names → IsFounded file
 collected_founded file names c =
     let es = file.entities in

@@ -1,4 +1,4 @@
--- The faults of an entity stand in the order of its places.
+-- The faults of an entity are in the order of its places.
 use Rattle.std.proofs.Common.{◌≡◌, ℕ, zero, suc, ◌≤◌, ◌<◌, Bool, true, false, not, ◌||◌, List, [], ◌∷◌, ◌++◌, map, length, Option, Some, None, refl, sym, ap, ◌∙◌, subst, arith}
 use Rattle.std.specs.Prelude.{slice_get, nat_lt, codes, ◌&&◌}
 use Rattle.std.proofs.lemmas.Option.{same_Some, none-some}
@@ -18,7 +18,7 @@ use Rattle.pc_names.specs.Faults.{where_, either}
 use Rattle.pc_names.specs.Laws.{FirstIsLeast, fault_start, start_of, result_places, field_places, param_places, method_places, places}
 use Rattle.pc_names.proofs.Ones.{ascends_tail, first_is}
 
--- The faults stand at some of the places, in their order, one at a place.
+-- The faults are at some of the places, in their order, at most one at a place.
 data At : List NameFault → List ℕ → Type 0 where
   done : {ps : List ℕ} → At [] ps
   skip : {fs : List NameFault} {ps : List ℕ} {p : ℕ} → At fs ps → At fs (p ∷ ps)

@@ -1,4 +1,4 @@
--- What a file's names are, and which fault is the first, is one thing.
+-- A file determines its names, and the first fault of them.
 use Rattle.std.proofs.Common.{◌≡◌, ℕ, zero, suc, ◌≤◌, ◌<◌, List, [], ◌∷◌, length, Some, refl, sym, ap, ◌∙◌, arith, inl, inr, ⊎_elim, ◌⊎◌}
 use Rattle.std.specs.Prelude.{slice_get}
 use Rattle.std.proofs.lemmas.Option.{same_Some, none-some}
@@ -16,7 +16,7 @@ use Rattle.pc_names.specs.Laws.{OneClosing, OneFault, NotBoth}
 pub ascends_tail : (x : ℕ) (xs : List ℕ) → Ascends (x ∷ xs) → Ascends xs
 ascends_tail x xs h i j a b l ea eb = h (suc i) (suc j) a b (omega (arith, l)) ea eb
 
--- An element of an ascending list is its first or a greater one of those behind.
+-- An element of an ascending list is its first element, or a greater one among the later ones.
 head_or : (x : ℕ) (xs : List ℕ) (b : ℕ) → Ascends (x ∷ xs) → Has (x ∷ xs) b → (b ≡ x) ⊎ ((x < b) × Has xs b)
 head_or x xs b h (zero, e) = inl (sym (same_Some _ _ e))
 head_or x xs b h (suc i, e) = let l : x < b = h 0 (suc i) x b (omega arith) refl e in inr (l, (i, e))
@@ -46,7 +46,7 @@ ascends_one (x ∷ xs) (y ∷ ys) hx hy s r =
     let rest = ascends_one xs ys (ascends_tail x xs hx) (ascends_tail y ys hy) (tails_in x y xs ys e hx hy s) (tails_in y x ys xs (sym e) hy hx r) in
     ap (λ z. z ∷ xs) e ∙ ap (λ zs. y ∷ zs) rest
 
--- ---- lists of which each element is one
+-- ---- lists whose elements are each determined
 
 each_tail : {T : Type 0} (P : ℕ → T → Type 0) (x : T) (xs : List T) → Each P (x ∷ xs) → Each (λ i. P (suc i)) xs
 each_tail P x xs h i y e = h (suc i) y e

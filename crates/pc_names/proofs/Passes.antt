@@ -1,4 +1,4 @@
--- The passes over a file's names, joined.
+-- The passes over a file's names, combined.
 use Rattle.std.proofs.Common.{◌≡◌, ℕ, ◌+◌, ◌-◌, ◌<◌, ◌≤◌, ◌^◌, List, [], ◌++◌, length, map, drop, sym, ap, ◌∙◌, subst, arith}
 use Rattle.std.proofs.lemmas.List.{length-map, length-drop}
 use Rattle.pc_tree.specs.declared.file.File.{File}
@@ -19,11 +19,11 @@ use Rattle.pc_names.proofs.Firsts.{is_first_on}
 use Rattle.pc_members.proofs.Closings.{closes, edges_length}
 use Rattle.pc_names.proofs.OtherTexts.{other_texts_differ}
 
--- The first fault of a list behind an empty one.
+-- The first fault of a list after an empty one.
 is_first_behind : (f : NameFault) (xs ys : List NameFault) → xs ≡ [] → IsFirst f ys → IsFirst f (xs ++ ys)
 is_first_behind f xs ys e h = subst (λ zs. IsFirst f (zs ++ ys)) (sym e) h
 
--- The faults of the first pass, of the second, and of the others with the lists that are made.
+-- The faults of the first pass, of the second, and of the others with the lists that are computed.
 abbrev pub pass_names : t.File → List NameFault
 pass_names file = entity_name_faults built_in_names file.entities
 
@@ -58,7 +58,7 @@ own_faults file lists e = ap (λ ls. above_faults file.entities (drop first_own 
 
 -- ---- lengths
 
--- The lists of the file's own entities are as many as these.
+-- There are as many lists of the file's own entities as there are of these.
 pub own_lengths : (f : File) (above own : List (List ℕ)) → Closes (file_view f) above → own ≡ drop first_own above → length own ≡ length f.entities
 own_lengths f above own c e =
     let l : length above ≡ first_own + length (map entity_view f.entities) = c.0 in

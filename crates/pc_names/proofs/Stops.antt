@@ -38,7 +38,7 @@ method_stops entities fields before known all i x e l is left fresh first =
     let same = left ∙ ap (λ ys. method_faults entities fields known (map method_view ys)) (from_here all i x l is) ∙ ap (λ b. where_ b (fault.Double x.name.span) ++ (signature_faults entities fields (method_view x) ++ rest)) fresh in
     subst (λ fs. IsFirst e fs) (sym same) (is_first_on e (signature_faults entities fields (method_view x)) rest first)
 
--- What is wrong with the name of a field.
+-- The faults of the name of a field.
 abbrev pub field_name_faults : List Text → Name → List NameFault
 field_name_faults known n = either (is_among n.text known) (fault.Double n.span) (not (nat_lt (length known) field_limit)) (fault.TooMany which.Fields n.span)
 

@@ -7,7 +7,7 @@ use Rattle.pc_names.specs.declared.fault.NameFault.TheVariants as fault
 use Rattle.pc_names.specs.Faults.{where_}
 use Rattle.pc_members.specs.Reach.{has}
 
--- Traits and interfaces, from entity number a on, that stand above themselves; each entity comes with what is above it.
+-- Traits and interfaces, from entity number a on, that are above themselves; each entity comes with what is above it.
 abbrev pub cycle_faults : ℕ → List t.Entity → List (List ℕ) → List NameFault
 cycle_faults a (e ∷ es) (above ∷ lists) = where_ (is_abstract e.kind && has above a) (fault.Cycle e.name.span) ++ cycle_faults (a + 1) es lists
 cycle_faults a es lists = []

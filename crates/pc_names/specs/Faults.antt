@@ -1,5 +1,5 @@
--- The faults of a file's names, pass by pass. Each pass has the list of its faults in the order of the text, of which the
--- first is told.
+-- The faults of a file's names, pass by pass. Each pass has the list of its faults in the order of the text; the first
+-- of them is reported.
 use Rattle.std.specs.Prelude.{◌≡◌, ℕ, Bool, true, false, ◌&&◌, ◌||◌, not, List, [], ◌∷◌, ◌++◌, length, Option, Some, None, Result, Ok, Err, slice_get, nat_lt, codes, ◌+◌}
 use Rattle.pc_caps.specs.Limits.{entity_limit, field_limit}
 use Rattle.pc_tree.specs.declared.file.ParamDef.{ParamDef}
@@ -14,12 +14,12 @@ use Rattle.pc_lists.specs.Texts.{Text}
 use Rattle.pc_members.specs.Words.{is_among, entity_names, field_texts, method_texts, has_added}
 use Rattle.pc_members.specs.Tables.{trait_names}
 
--- A fault where the test holds.
+-- A fault if the test holds.
 abbrev pub where_ : Bool → NameFault → List NameFault
 where_ true f = f ∷ []
 where_ false f = []
 
--- One fault or the other, the first before the second, or none.
+-- One fault or the other, the first taking precedence, or none.
 abbrev pub either : Bool → NameFault → Bool → NameFault → List NameFault
 either true f b g = f ∷ []
 either false f b g = where_ b g
@@ -29,18 +29,18 @@ abbrev pub IsFirst : NameFault → List NameFault → Type 0
 IsFirst fault.Memory fs = Unit {0}
 IsFirst f fs = slice_get fs 0 ≡ Some f
 
--- The first fault of a list is told, and none where the list is empty.
+-- The first fault of a list is reported, and none if the list is empty.
 abbrev pub Tells : {A : Type 0} → Result A NameFault → List NameFault → Type 0
 Tells (Ok x) fs = fs ≡ []
 Tells (Err f) fs = IsFirst f fs
 
 -- ---- the names of entities
 
--- how many entities there may be, with those that are built in
+-- how many entities there may be, including the built-in ones
 abbrev pub known_limit : ℕ
 known_limit = first_own + entity_limit
 
--- An entity whose name is known already, or one too many.
+-- An entity whose name is already taken, or one too many.
 abbrev pub entity_name_faults : List Text → List t.Entity → List NameFault
 entity_name_faults known [] = []
 entity_name_faults known (e ∷ es) =
@@ -49,7 +49,7 @@ entity_name_faults known (e ∷ es) =
 
 -- ---- declarations, entity by entity
 
--- A type that is no entity.
+-- A type that names no entity.
 abbrev pub type_faults : List Text → TypeRef → List NameFault
 type_faults entities ty = where_ (not (is_among ty.name.text entities)) (fault.Unknown ty.name.span)
 
@@ -57,46 +57,46 @@ abbrev pub result_faults : List Text → Option TypeRef → List NameFault
 result_faults entities None = []
 result_faults entities (Some ty) = type_faults entities ty
 
--- A name after `is` that is no trait, or that stands there already.
+-- A name after `is` that is not a trait, or that occurs there before.
 abbrev pub provided_faults : List Text → List Text → List Name → List NameFault
 provided_faults traits known [] = []
 provided_faults traits known (n ∷ ns) =
     either (not (is_among n.text traits)) (fault.Unknown n.span) (is_among n.text known) (fault.Double n.span)
     ++ provided_faults traits (known ++ n.text ∷ []) ns
 
--- A field whose name a field before it has, the 65th field, and the field's type.
+-- A field whose name an earlier field has, the 65th field, and the field's type.
 abbrev pub field_faults : List Text → List Text → List t.Field → List NameFault
 field_faults entities known [] = []
 field_faults entities known (f ∷ fs) =
     either (is_among f.name.text known) (fault.Double f.name.span) (not (nat_lt (length known) field_limit)) (fault.TooMany which.Fields f.name.span)
     ++ (type_faults entities f.ty ++ field_faults entities (known ++ f.name.text ∷ []) fs)
 
--- A parameter whose name a field or a parameter before it has, and its type.
+-- A parameter whose name a field or an earlier parameter has, and its type.
 abbrev pub param_faults : List Text → List Text → List Text → List ParamDef → List NameFault
 param_faults entities fields known [] = []
 param_faults entities fields known (p ∷ ps) =
     where_ (is_among p.name.text fields || is_among p.name.text known) (fault.Double p.name.span)
     ++ (type_faults entities p.ty ++ param_faults entities fields (known ++ p.name.text ∷ []) ps)
 
--- What is wrong inside a method: its parameters, and its result.
+-- The faults inside a method: in its parameters and its result.
 abbrev pub signature_faults : List Text → List Text → t.Method → List NameFault
 signature_faults entities fields m = param_faults entities fields [] m.params ++ result_faults entities m.result
 
--- A method whose name a field or a method before it has, and what is wrong inside.
+-- A method whose name a field or an earlier method has, and the faults inside it.
 abbrev pub method_faults : List Text → List Text → List Text → List t.Method → List NameFault
 method_faults entities fields known [] = []
 method_faults entities fields known (m ∷ ms) =
     where_ (is_among m.name.text fields || is_among m.name.text known) (fault.Double m.name.span)
     ++ (signature_faults entities fields m ++ method_faults entities fields (known ++ m.name.text ∷ []) ms)
 
--- An added `create` comes behind all fields and methods, and its name stands at the entity's.
+-- An added `create` comes after all fields and methods, and its name is at that of the entity.
 abbrev pub is_taken : Text → t.Entity → Bool
 is_taken text e = is_among text (field_texts e.fields) || is_among text (method_texts e.methods)
 
 abbrev pub added_faults : t.Entity → List NameFault
 added_faults e = where_ (has_added e && is_taken (codes "create") e) (fault.Double e.name.span)
 
--- What is wrong in an entity, with the names of all entities and those of all traits.
+-- The faults of an entity, given the names of all entities and those of all traits.
 abbrev pub entity_faults : List Text → List Text → t.Entity → List NameFault
 entity_faults entities traits e =
     added_faults e

@@ -1,4 +1,4 @@
--- What holds of the names of every file.
+-- Laws of the names of every file.
 use Rattle.std.specs.Prelude.{◌≡◌, ℕ, ◌≤◌, ◌<◌, List, [], ◌∷◌, ◌++◌, map, drop, Option, Some, None}
 use Rattle.pc_lists.specs.Places.{Has, Ascends}
 use Rattle.pc_tree.specs.declared.file.ParamDef.{ParamDef}
@@ -27,7 +27,7 @@ NotBoth = (file : t.File) (f : NameFault) (names : NamesData) → OfFile f → I
 
 -- ---- the fault with the smallest start
 
--- Where a fault stands. What has no place counts as the start of the text.
+-- The start of a fault. A fault without a place counts as at the start of the text.
 abbrev pub fault_start : NameFault → ℕ
 fault_start (fault.Double s) = s.start
 fault_start (fault.Unknown s) = s.start
@@ -37,7 +37,7 @@ fault_start (fault.Cycle s) = s.start
 fault_start (fault.TooMany w s) = s.start
 fault_start fault.Memory = 0
 
--- The places at which an entity's declarations may have a fault, in the order in which a text has them.
+-- The places at which an entity's declarations may have a fault, in the order in which they occur in a text.
 abbrev pub start_of : Name → ℕ
 start_of n = n.span.start
 
@@ -60,7 +60,7 @@ method_places (m ∷ ms) = start_of m.name ∷ ((param_places m.params ++ result
 abbrev pub places : t.Entity → List ℕ
 places e = start_of e.name ∷ (map start_of e.provides ++ (field_places e.fields ++ method_places e.methods))
 
--- Where an entity's places ascend, the first of its faults has the smallest start.
+-- If an entity's places ascend, the first of its faults has the smallest start.
 abbrev pub FirstIsLeast : Type 0
 FirstIsLeast =
     (entities traits : List Text) (e : t.Entity) (f g : NameFault) → Ascends (places e)
@@ -68,12 +68,12 @@ FirstIsLeast =
 
 -- ---- cycles
 
--- The trait from which a chain of `is` leads back to it, where none before it is such a trait.
+-- The trait from which a chain of `is` leads back to it, if no earlier one is such a trait.
 abbrev pub FirstCycle : t.File → ℕ → Type 0
 FirstCycle file a = InCycle file a × ((b : ℕ) → b < a → InCycle file b → ⊥)
 
--- With the lists above a file's entities, the first fault of cycles is that of the first trait in a cycle, and there is none
--- where no trait is in a cycle.
+-- With the lists of what is above a file's entities, the first fault of cycles is that of the first trait in a cycle,
+-- and there is none if no trait is in a cycle.
 abbrev pub CycleIsFirst : Type 0
 CycleIsFirst =
     (file : t.File) (above : List (List ℕ)) (f : NameFault) → Closes file above → OfFile f → IsFirst f (cycle_faults first_own file.entities (drop first_own above))

@@ -1,4 +1,4 @@
--- The entity Main, with which a program begins.
+-- The entity Main, with which a program starts.
 use Rattle.std.specs.Prelude.{Bool, true, false, ◌&&◌, List, [], ◌∷◌, Option, Some, None, codes, if◌then◌else◌}
 use Rattle.std.specs.List.{list_any}
 use Rattle.std.specs.Str.{bytes_eq}
@@ -20,7 +20,7 @@ is_actor kind.Primitive = false
 is_actor kind.Trait = false
 is_actor kind.Interface = false
 
--- `val`, which is also what an `Env` without a capability is.
+-- `val`, which is also the capability of an `Env` without one.
 abbrev pub is_val : Option Cap → Bool
 is_val None = true
 is_val (Some cap.Val) = true
@@ -29,19 +29,19 @@ is_val (Some k) = false
 abbrev pub is_env : TypeRef → Bool
 is_env ty = bytes_eq ty.name.text (codes "Env") && is_val ty.cap
 
--- Exactly one parameter, of `Env val`.
+-- Exactly one parameter, of type `Env val`.
 abbrev pub takes_env : List ParamDef → Bool
 takes_env (p ∷ []) = is_env p.ty
 takes_env ps = false
 
--- The constructor with which a program begins.
+-- The constructor with which a program starts.
 abbrev pub begins : t.Method → Bool
 begins m = is_new m.word && (bytes_eq m.name.text (codes "create") && takes_env m.params)
 
 abbrev pub is_main : t.Entity → Bool
 is_main e = is_actor e.kind && list_any begins e.methods
 
--- The first entity of this name.
+-- The first entity with this name.
 abbrev pub main_faults : List t.Entity → List NameFault
 main_faults [] = fault.NoMain ∷ []
 main_faults (e ∷ es) = if bytes_eq e.name.text (codes "Main") then (if is_main e then [] else fault.BadMain e.name.span ∷ []) else main_faults es

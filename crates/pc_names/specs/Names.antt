@@ -1,4 +1,4 @@
--- What is collected of a file.
+-- What is collected from a file.
 use Rattle.std.specs.Prelude.{◌≡◌, ℕ, List, [], ◌++◌, drop}
 use Rattle.pc_lists.specs.Places.{Differ}
 use Rattle.pc_tree.specs.Tree as t
@@ -19,18 +19,19 @@ pub record NamesData : Type 0 where
   pub texts : List Text
   pub above : List (List ℕ)
 
--- The faults that rest on the members of these entities, the entities of a file, and then those on what is above each.
+-- The faults that depend on the members of these entities, the entities of a file, and then those that depend on what
+-- is above each.
 abbrev pub member_faults : List t.Entity → List NameFault
 member_faults all = count_faults all 0 all ++ main_faults all
 
 abbrev pub above_faults : List t.Entity → List (List ℕ) → List NameFault
 above_faults all above = cycle_faults first_own all above ++ member_faults all
 
--- All faults of a file's names, pass by pass, where these are the entities above each.
+-- All faults of a file's names, pass by pass, given the entities above each.
 abbrev pub name_faults : t.File → List (List ℕ) → List NameFault
 name_faults file above = entity_name_faults built_in_names file.entities ++ (declaration_faults file ++ above_faults file.entities (drop first_own above))
 
--- The file's names have no fault, and this is what they are.
+-- The file's names have no fault, and these are the names.
 pub record Collected (file : t.File) (names : NamesData) : Type 0 where
   pub faults : name_faults file names.above ≡ []
   pub entities : names.entities ≡ entity_names file

@@ -1,4 +1,4 @@
-//! The names of a file, or the first thing that is wrong with them.
+//! The names of a file, or their first fault.
 ghost use Rattle.std.specs.Prelude.{◌≡◌, ◌+◌, ◌<◌, ◌^◌, [], drop, length, IfOk, IfErr};
 ghost use Rattle.pc_tree.specs.View.{file_view};
 ghost use Rattle.pc_members.specs.Chains.{Closes};
@@ -25,7 +25,7 @@ use pc_members::{NameTable, close, list_edges, own_part};
 use pc_tree::{FIRST_OWN, File};
 use std::alloc::{AllocError, Global};
 
-// The declarations of a file whose entities have these names.
+// Checks the declarations of a file whose entities have these names.
 fn check_declarations(alloc: Global, entities: &NameTable, file: &File) -> Result<(), NameFault>
     requires { entities.now ≡ entity_names (file_view file.now) }
     ensures { Tells result (declaration_faults (file_view file.now)) }
@@ -49,7 +49,7 @@ fn list_above(
     close(alloc, edges.as_slice())
 }
 
-// No trait or interface of a file stands above itself, where these are the entities above each.
+// No trait or interface of a file is above itself, given the entities above each.
 #[tactic(auto, using(crate::proofs::Passes::own_lengths, crate::proofs::Passes::own_few))]
 fn check_own_cycles(file: &File, above: &[List<u32>]) -> Result<(), NameFault>
     requires closes { Closes (file_view file.now) above.now }
@@ -59,7 +59,7 @@ fn check_own_cycles(file: &File, above: &[List<u32>]) -> Result<(), NameFault>
     check_cycles(FIRST_OWN, file.entities.as_slice(), own_part(above))
 }
 
-// A file without a cycle has not too many methods, and a `Main`.
+// A file without a cycle does not have too many methods, and has a `Main`.
 #[tactic(auto, using(crate::proofs::Firsts::is_first_on))]
 fn check_members(
     alloc: Global,
@@ -77,8 +77,8 @@ fn check_members(
     check_main(file.entities.as_slice())
 }
 
-// No cycle, not too many methods, and a `Main`, where these are above each entity of a file whose names and declarations
-// have no fault.
+// No cycle, not too many methods, and a `Main`, given the entities above each entity of a file whose names and
+// declarations have no fault.
 #[tactic(auto, using(crate::proofs::Firsts::is_first_on))]
 fn check_above(
     alloc: Global,
@@ -97,10 +97,10 @@ fn check_above(
     check_members(alloc, entities, above, file)
 }
 
-/// The names of a file. It is `Err` exactly where something is wrong with them, and then it names the first of these, in
-/// this order: a name of an entity that stands already, and the 1,001st entity; a fault of a declaration, entity by
-/// entity; the first trait from which a chain of `is` leads back to it; the entity with which the file has more than
-/// 10,000 methods; and what `Main` lacks. Memory may run out at any time.
+/// The names of a file. `Err` iff they have a fault, and then the first in this order: an entity's name that is already
+/// taken, or the 1,001st entity; a fault of a declaration, entity by entity; the first trait from which a chain of `is`
+/// leads back to it; the entity with which the file has more than 10,000 methods; and what `Main` lacks. Memory may run
+/// out at any time.
 pub fn collect(alloc: Global, file: &File) -> Result<Names, NameFault>
     ensures ok { IfOk result (λ n. Collected (file_view file.now) n) }
     ensures err { IfErr result (λ f. IsNameFault (file_view file.now) f) }

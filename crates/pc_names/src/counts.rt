@@ -8,7 +8,7 @@ use crate::fault::{NameFault, Which};
 use pc_caps::METHOD_LIMIT;
 use pc_tree::Entity;
 
-// These entities, of which each has so many members, have no more members than a file may have.
+// These entities, with these numbers of members, do not have more members than a file may have.
 fn add_counts(all: &[Entity], counts: &[usize]) -> Result<(), NameFault>
     requires { length counts.now ≡ length all.now }
     ensures { Tells result (spec.faults_by_count 0 (map entity_view all.now) counts.now) }
@@ -25,7 +25,7 @@ fn add_counts(all: &[Entity], counts: &[usize]) -> Result<(), NameFault>
     Ok(())
 }
 
-/// The entities of a file, of which each has so many members, have no more methods than a file may have.
+/// The entities of a file, with these numbers of members, do not have more methods than a file may have.
 #[tactic(auto, using(crate::proofs::Counted::counts_alike, crate::proofs::Counted::counted))]
 pub(crate) fn check_counts(all: &[Entity], counts: &[usize]) -> Result<(), NameFault>
     requires { counts.now ≡ map (spec.method_count (map entity_view all.now)) (map entity_view all.now) }

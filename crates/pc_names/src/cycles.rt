@@ -22,14 +22,14 @@ fn has(numbers: &[u32], wanted: u32) -> bool
     false
 }
 
-// Whether the entity of this number is a trait or an interface that stands among those above it.
+// Whether the entity with this number is a trait or an interface that is among those above it.
 fn is_in_cycle(entity: &Entity, above: &[u32], number: u32) -> bool
     ensures { result ≡ (is_abstract entity.now.kind && reach.has above.now number) }
 {
     entity.kind.is_abstract() && has(above, number)
 }
 
-/// No trait or interface of these entities, of which the first has this number, stands above itself.
+/// No trait or interface among these entities, of which the first has this number, is above itself.
 pub(crate) fn check_cycles(
     first: u32,
     entities: &[Entity],

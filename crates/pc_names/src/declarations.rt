@@ -1,4 +1,4 @@
-//! What is wrong with the declarations of an entity.
+//! The faults of an entity's declarations.
 ghost use Rattle.std.specs.Prelude.{◌≡◌, ◌||◌, ◌++◌, [], not, length, map, nat_lt, OnOk};
 ghost use Rattle.pc_caps.specs.Limits.{field_limit};
 ghost use Rattle.pc_tree.specs.View.{entity_view, field_view, method_view};
@@ -13,7 +13,7 @@ use pc_members::{NameTable, has_added};
 use pc_tree::{Entity, FieldDef, MethodDef, Name, ParamDef, TypeRef};
 use std::alloc::Global;
 
-// The type is an entity.
+// The type names an entity.
 fn check_type(entities: &NameTable, ty: &TypeRef) -> Result<(), NameFault>
     ensures { spec.Tells result (spec.type_faults entities.now ty.now) }
 {
@@ -24,7 +24,7 @@ fn check_type(entities: &NameTable, ty: &TypeRef) -> Result<(), NameFault>
     }
 }
 
-// The type, if one is written, is an entity.
+// The type, if one is written, names an entity.
 fn check_result(entities: &NameTable, ty: &Option<TypeRef>) -> Result<(), NameFault>
     ensures { spec.Tells result (spec.result_faults entities.now ty.now) }
 {
@@ -42,7 +42,7 @@ fn check_provided(alloc: Global, traits: &NameTable, provides: &[Name]) -> Resul
     add_provided(traits, &mut known, provides)
 }
 
-// The same where the table has the names before these, which go behind them.
+// The same, if the table has the names before these; they are appended to it.
 fn add_provided(
     traits: &NameTable,
     known: &mut NameTable,
@@ -62,8 +62,8 @@ fn add_provided(
     Ok(())
 }
 
-// The names of the fields differ from each other and from those that are known, there are not too many, and their types are
-// entities. The names go behind the others.
+// The names of the fields are new and differ from each other, there are not too many of them, and their types name
+// entities. The names are appended to the table.
 fn add_fields(
     entities: &NameTable,
     known: &mut NameTable,
@@ -80,7 +80,7 @@ fn add_fields(
     Ok(())
 }
 
-// The name of a field is none of those that are known, and these are not too many.
+// The name of a field is new, and the table does not have too many names.
 fn check_field_name(known: &NameTable, name: &Name) -> Result<(), NameFault>
     ensures { spec.Tells result (spec.either (is_among name.now.text known.now) (Double name.now.span) (not (nat_lt (length known.now) field_limit)) (TooMany Fields name.now.span)) }
 {
@@ -93,7 +93,7 @@ fn check_field_name(known: &NameTable, name: &Name) -> Result<(), NameFault>
     Ok(())
 }
 
-// The names of the parameters are no fields' and differ, and their types are entities.
+// The names of the parameters are not those of fields, and differ, and their types name entities.
 fn check_params(
     alloc: Global,
     entities: &NameTable,
@@ -106,7 +106,7 @@ fn check_params(
     add_params(entities, fields, &mut known, params)
 }
 
-// The same where the table has the names before these, which go behind them.
+// The same, if the table has the names before these; they are appended to it.
 fn add_params(
     entities: &NameTable,
     fields: &NameTable,
@@ -147,7 +147,7 @@ fn check_signature(
     check_result(entities, &method.result)
 }
 
-// The names of the methods are no fields' and differ, and what is inside each is right.
+// The names of the methods are not those of fields, and differ, and each method has no fault inside it.
 fn check_methods(
     alloc: Global,
     entities: &NameTable,
@@ -160,7 +160,7 @@ fn check_methods(
     add_methods(alloc, entities, fields, &mut known, methods)
 }
 
-// The same where the table has the names before these, which go behind them.
+// The same, if the table has the names before these; they are appended to it.
 fn add_methods(
     alloc: Global,
     entities: &NameTable,
@@ -181,7 +181,7 @@ fn add_methods(
     Ok(())
 }
 
-// The name of an added `create` is no field's and no method's.
+// The name of an added `create` is not that of a field or a method.
 fn check_added(entity: &Entity) -> Result<(), NameFault>
     ensures { spec.Tells result (spec.added_faults (entity_view entity.now)) }
 {
@@ -229,7 +229,7 @@ fn check_members(alloc: Global, entities: &NameTable, entity: &Entity) -> Result
     add_members(alloc, entities, &mut fields, entity)
 }
 
-// The same, where the names of the fields go into a table without names.
+// The same, with the names of the fields added to a table without names.
 #[tactic(auto, using(crate::proofs::Firsts::is_first_on))]
 fn add_members(
     alloc: Global,

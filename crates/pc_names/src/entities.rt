@@ -12,10 +12,10 @@ use pc_members::NameTable;
 use pc_tree::{Entity, FIRST_OWN, File};
 use std::alloc::{AllocError, Global};
 
-/// How many entities there may be, with those that are built in.
+/// How many entities there may be, including the built-in ones.
 const KNOWN_LIMIT: u32 = FIRST_OWN + ENTITY_LIMIT;
 
-// The names of the entities that each program has go into a table without names.
+// Adds the names of the built-in entities to a table without names.
 fn add_built_in(table: &mut NameTable) -> Result<(), AllocError>
     requires { table.old ≡ [] }
     ensures { OnOk result (table.new ≡ built_in_names) }
@@ -24,7 +24,7 @@ fn add_built_in(table: &mut NameTable) -> Result<(), AllocError>
     add_last_built_in(table)
 }
 
-// The first three of them.
+// Adds the first three of them.
 fn add_first_built_in(table: &mut NameTable) -> Result<(), AllocError>
     requires { table.old ≡ [] }
     ensures { OnOk result (table.new ≡ take 3 built_in_names) }
@@ -34,7 +34,7 @@ fn add_first_built_in(table: &mut NameTable) -> Result<(), AllocError>
     table.add(b"Bool")
 }
 
-// The last three of them.
+// Adds the last three of them.
 fn add_last_built_in(table: &mut NameTable) -> Result<(), AllocError>
     requires { table.old ≡ take 3 built_in_names }
     ensures { OnOk result (table.new ≡ built_in_names) }
@@ -44,7 +44,7 @@ fn add_last_built_in(table: &mut NameTable) -> Result<(), AllocError>
     table.add(b"OutStream")
 }
 
-// Puts the names of these entities behind the others.
+// Appends the names of these entities.
 fn add_entities(table: &mut NameTable, entities: &[Entity]) -> Result<(), NameFault>
     requires { length table.old ≤ known_limit }
     ensures tells { Tells result (entity_name_faults table.old (map entity_view entities.now)) }
@@ -63,7 +63,7 @@ fn add_entities(table: &mut NameTable, entities: &[Entity]) -> Result<(), NameFa
     Ok(())
 }
 
-// Puts the names of all entities, the built-in ones first, into a table without names.
+// Adds the names of all entities, the built-in ones first, to a table without names.
 fn add_all(table: &mut NameTable, entities: &[Entity]) -> Result<(), NameFault>
     requires { table.old ≡ [] }
     ensures tells { Tells result (entity_name_faults built_in_names (map entity_view entities.now)) }
@@ -73,8 +73,8 @@ fn add_all(table: &mut NameTable, entities: &[Entity]) -> Result<(), NameFault>
     add_entities(table, entities)
 }
 
-/// The names of all entities of a file in the order of their numbers, the built-in ones first. The key is made of all names of
-/// the file.
+/// The names of all entities of a file in the order of their numbers, the built-in ones first. The key is made of all
+/// names of the file.
 pub(crate) fn table_entities(alloc: Global, file: &File) -> Result<NameTable, NameFault>
     ensures tells { Tells result (entity_name_faults built_in_names (file_view file.now).entities) }
     ensures names { IfOk result (λ t. t ≡ entity_names (file_view file.now)) }
@@ -84,7 +84,7 @@ pub(crate) fn table_entities(alloc: Global, file: &File) -> Result<NameTable, Na
     Ok(table)
 }
 
-// Puts the names of the traits and interfaces among these entities behind the others.
+// Appends the names of the traits and interfaces among these entities.
 fn add_traits(table: &mut NameTable, entities: &[Entity]) -> Result<(), AllocError>
     ensures { OnOk result (table.new ≡ with_traits table.old (map entity_view entities.now)) }
 {

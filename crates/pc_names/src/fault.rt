@@ -1,4 +1,4 @@
-//! What may be wrong with the names of a file.
+//! The faults of a file's names.
 
 ghost use Rattle.std.specs.Prelude.{◌≡◌};
 
@@ -10,7 +10,7 @@ use std::alloc::AllocError;
 pub enum Which {
     /// More than 1,000 entities.
     Entities,
-    /// More than 10,000 methods, with those that entities take over and constructors that are added.
+    /// More than 10,000 methods, counting those that entities take over and added constructors.
     Methods,
     /// More than 64 slots of a method.
     Slots,
@@ -22,20 +22,20 @@ pub enum Which {
     Text,
 }
 
-/// What is wrong with a name, and where it stands.
+/// A fault of a name, and its place.
 #[derive(Clone, Copy, Debug, PartialEq, Eq)]
 pub enum NameFault {
-    /// A name that stands already.
+    /// A name that is already taken.
     Double(Span),
-    /// A name that nothing has.
+    /// A name that is not defined.
     Unknown(Span),
     /// There is no entity `Main`.
     NoMain,
-    /// `Main` is no actor, or has no constructor `create` with exactly one parameter, of `Env val`.
+    /// `Main` is not an actor, or has no constructor `create` with exactly one parameter, of type `Env val`.
     BadMain(Span),
     /// A trait from which a chain of `is` leads back to it.
     Cycle(Span),
-    /// One of a kind too many.
+    /// One too many of this kind.
     TooMany(Which, Span),
     /// Memory ran out.
     Memory,

@@ -1,14 +1,14 @@
-//! What holds of the names of every file.
+//! Laws of the names of every file.
 ghost use Rattle.pc_names.specs.Laws.{CycleIsFirst, FirstIsLeast, NoCycle, NotBoth, OneClosing, OneFault};
 
-/// What a file's names are, and which fault of them is the first, is one thing.
+/// A file determines its names, and the first fault of them.
 pub fn names_are_one()
     ensures closing { OneClosing }
     ensures fault { OneFault }
     ensures apart { NotBoth }
 {}
 
-/// Where the names and types of an entity stand in the text in the order of the tree, its first fault has the smallest
+/// If the names and types of an entity are in the text in the order of the tree, its first fault has the smallest
 /// start.
 pub fn first_is_least()
     ensures { FirstIsLeast }

@@ -1,10 +1,10 @@
 //! The names of a file: the numbers of its entities, what is above each by its `is` lists, and that it has a `Main`.
 //!
 //! Proved: `collect` gives the numbers of a file's entities, its other texts, and the entities above each by its `is`
-//! lists, exactly where its names have no fault; and else the first fault, pass by pass. `entity` is exact. What is
-//! above each entity is determined by the file; a file has one first fault or its names (`specs/Laws.antt`).
+//! lists if its names have no fault, and otherwise the first fault, pass by pass. `entity` is exact. The file
+//! determines what is above each entity; a file has either a first fault or its names (`specs/Laws.antt`).
 //!
-//! Only tested: names and limits at their number and one past it.
+//! Only tested: names and limits, at the limit and one past it.
 #![tactic(auto)]
 
 mod collecting;

@@ -10,7 +10,7 @@ use pc_caps::Cap;
 use pc_members::is_new;
 use pc_tree::{Entity, EntityKind, MethodDef, ParamDef, TypeRef};
 
-// Whether this is `val`, which is also what an `Env` without a capability is.
+// Whether this is `val`, which is also the capability of an `Env` without one.
 fn is_val(cap: Option<Cap>) -> bool
     ensures { result ≡ spec.is_val cap }
 {
@@ -24,7 +24,7 @@ fn is_env(ty: &TypeRef) -> bool
     ty.name.text.as_slice() == b"Env".as_slice() && is_val(ty.cap)
 }
 
-// Whether this is one parameter, of `Env val`.
+// Whether this is exactly one parameter, of type `Env val`.
 fn takes_env(params: &[ParamDef]) -> bool
     ensures { result ≡ spec.takes_env params.now }
 {
@@ -34,7 +34,7 @@ fn takes_env(params: &[ParamDef]) -> bool
     }
 }
 
-// Whether a program may begin with this method.
+// Whether a program may start with this method.
 fn begins(method: &MethodDef) -> bool
     ensures { result ≡ spec.begins (method_view method.now) }
 {
@@ -43,7 +43,7 @@ fn begins(method: &MethodDef) -> bool
             && takes_env(method.params.as_slice()))
 }
 
-// Whether a program may begin with one of these methods.
+// Whether a program may start with one of these methods.
 fn has_beginning(methods: &[MethodDef]) -> bool
     ensures { result ≡ list_any spec.begins (map method_view methods.now) }
 {
@@ -55,14 +55,14 @@ fn has_beginning(methods: &[MethodDef]) -> bool
     false
 }
 
-// Whether a program may begin with this entity.
+// Whether a program may start with this entity.
 fn is_main(entity: &Entity) -> bool
     ensures { result ≡ spec.is_main (entity_view entity.now) }
 {
     matches!(entity.kind, EntityKind::Actor) && has_beginning(entity.methods.as_slice())
 }
 
-/// The first of these entities that is named `Main` is one with which a program may begin.
+/// The first of these entities that is named `Main` is one with which a program may start.
 pub(crate) fn check_main(entities: &[Entity]) -> Result<(), NameFault>
     ensures { Tells result (spec.main_faults (map entity_view entities.now)) }
 {

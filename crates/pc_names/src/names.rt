@@ -1,4 +1,4 @@
-//! The names of a file, as they are collected.
+//! The collected names of a file.
 ghost use Rattle.std.specs.Prelude.{◌≡◌, length, slice_get};
 ghost use Rattle.std.specs.Option.{option_copied};
 ghost use Rattle.pc_members.specs.Tables.{find_name};
@@ -7,7 +7,7 @@ use pc_caps::List;
 use pc_members::NameTable;
 use std::marker::Model;
 
-/// The names of a file: its entities by their numbers, the other texts, and which entities stand above which.
+/// The names of a file: its entities by their numbers, the other texts, and which entities are above which.
 ///
 /// The six built-in entities have the numbers 0 to 5, the file's entities those from 6 on, in order.
 #[derive(Drop)]
@@ -26,7 +26,7 @@ impl Model for Names {
 }
 
 impl Names {
-    /// What was collected, of its three parts.
+    /// The collected names, from their three parts.
     pub(crate) fn of(entities: NameTable, texts: NameTable, above: List<List<u32>>) -> Names
         ensures { result ≡ record { entities = entities; texts = texts; above = above } }
     {
@@ -37,22 +37,22 @@ impl Names {
         }
     }
 
-    /// The number of the entity of this name. `None` exactly where there is none. It takes no memory.
+    /// The number of the entity with this name. `None` iff there is none. Does not allocate.
     pub fn entity(&self, name: &[u8]) -> Option<u32>
         ensures { result ≡ find_name self.now.entities name.now }
     {
         self.entities.find(name)
     }
 
-    /// The number of this text, which is no entity's name. `None` exactly where it is not there. It takes no memory.
+    /// The number of this text, which is not an entity's name. `None` iff it is not there. Does not allocate.
     pub fn text(&self, name: &[u8]) -> Option<u32>
         ensures { result ≡ find_name self.now.texts name.now }
     {
         self.texts.find(name)
     }
 
-    /// The numbers of the entities to which a chain of `is` leads from the entity of this number, ascending. `None`
-    /// exactly where no entity has the number.
+    /// The numbers of the entities to which a chain of `is` leads from the entity with this number, ascending. `None`
+    /// iff no entity has the number.
     pub fn above(&self, entity: u32) -> Option<&[u32]>
         ensures { option_copied result ≡ slice_get self.now.above entity }
     {
@@ -76,7 +76,7 @@ impl Names {
         self.above.as_slice()
     }
 
-    /// How many entities there are, with the six that are built in.
+    /// How many entities there are, including the six built-in ones.
     pub fn entity_count(&self) -> u32
         ensures { result ≡ length self.now.entities }
     {

@@ -1,4 +1,4 @@
-//! The texts of a file that are no entities' names.
+//! The texts of a file that are not entities' names.
 ghost use Rattle.std.specs.Prelude.{◌≡◌, [], map, OnOk, IfOk};
 ghost use Rattle.pc_tree.specs.View.{entity_view, file_view};
 ghost use Rattle.pc_members.specs.Tables.{with_names};
@@ -8,7 +8,7 @@ use pc_members::{NameTable, add_texts};
 use pc_tree::{Entity, File};
 use std::alloc::{AllocError, Global};
 
-// The names that each program has go behind the others.
+// Appends the names that every program has.
 fn add_built_in(table: &mut NameTable) -> Result<(), AllocError>
     ensures { OnOk result (table.new ≡ with_names table.old spec.built_in_texts) }
 {
@@ -17,8 +17,7 @@ fn add_built_in(table: &mut NameTable) -> Result<(), AllocError>
     table.add(b"create")
 }
 
-/// The names of the fields and methods of these entities go behind the others, each once. After an `Err` some of them are
-/// there.
+/// Appends the names of the fields and methods of these entities, each once. After an `Err` some of them are there.
 pub fn add_member_texts(table: &mut NameTable, entities: &[Entity]) -> Result<(), AllocError>
     ensures { OnOk result (table.new ≡ spec.with_members table.old (map entity_view entities.now)) }
 {
@@ -28,7 +27,7 @@ pub fn add_member_texts(table: &mut NameTable, entities: &[Entity]) -> Result<()
     Ok(())
 }
 
-// The names that each program has, and those of these entities' fields and methods, go into a table without names.
+// Adds the names that every program has, and those of these entities' fields and methods, to a table without names.
 fn add_all(table: &mut NameTable, entities: &[Entity]) -> Result<(), AllocError>
     requires { table.old ≡ [] }
     ensures { OnOk result (table.new ≡ spec.other_texts (map entity_view entities.now)) }
@@ -37,7 +36,7 @@ fn add_all(table: &mut NameTable, entities: &[Entity]) -> Result<(), AllocError>
     add_member_texts(table, entities)
 }
 
-/// The texts of a file that are no entities' names. The key is that of the table of all entities.
+/// The texts of a file that are not entities' names. The key is that of the table of all entities.
 pub(crate) fn table_texts(
     alloc: Global,
     entities: &NameTable,

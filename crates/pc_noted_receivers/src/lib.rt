@@ -1,8 +1,8 @@
-//! The entities that a valid annotation notes, which tell the truth of every run.
+//! The entities that a valid annotation notes, which are right in every run.
 //!
-//! Proved: `entities` gives the entity of each node's noted type. Over every list of actors, where an actor's next task is a call,
-//! the receiver's own entity is the one that is noted at its node, or conforms to it (`accepted_held`). This needs no invariant
-//! of its own: it is true of each configuration that is well typed.
+//! Proved: `entities` returns the entity of each node's noted type. Over every list of actors, if an actor's next task
+//! is a call, the receiver's own entity is the one that is noted at its node, or conforms to it (`accepted_held`). This
+//! needs no invariant of its own: it holds in every well-typed configuration.
 #![tactic(auto)]
 
 mod laws;

@@ -10,7 +10,7 @@ use pc_caps::List;
 use pc_core::Core;
 use std::alloc::{AllocError, Global};
 
-// The entity of a note's type, where it has one.
+// The entity of a note's type, if it has one.
 fn noted_in(note: &Note) -> Option<u32>
     ensures { result ≡ spec.noted_in note.now }
 {
@@ -28,18 +28,18 @@ fn all_noted(alloc: Global, notes: &[Note]) -> Result<List<Option<u32>>, AllocEr
     Ok(entities)
 }
 
-/// For each node the entity of its noted type, or none where the note has no type. The annotation is valid.
+/// For each node, the entity of its noted type, or none if the note has no type. The annotation has to be valid.
 ///
 /// # Errors
-/// At want of memory.
+/// If memory runs out.
 pub fn entities(alloc: Global, core: &Core, ann: &Ann) -> Result<List<Option<u32>>, AllocError>
     requires valid { Valid core.now ann.now }
 
     ensures noted { IfOk result (λ entities. entities ≡ spec.entities ann.now) }
     ensures whole { IfOk result (λ entities. length entities ≡ length core.now.nodes) }
 
-    // Over every list of actors, where an actor's next task is a call, the receiver's own entity is the noted one, or conforms
-    // to it.
+    // Over every list of actors, if an actor's next task is a call, the receiver's own entity is the noted one, or
+    // conforms to it.
     ensures held { IfOk result (λ entities. Held core.now entities) }
 {
     core.formed();

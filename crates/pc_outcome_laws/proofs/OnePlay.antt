@@ -1,4 +1,4 @@
--- A seed has one play.
+-- A seed has only one play.
 use Rattle.std.proofs.Common.{◌≡◌, ◌≤◌, ℕ, List, ◌++◌, length, sym, ap, ◌∙◌, arith}
 use Rattle.pc_core.specs.CoreData.{CoreData}
 use Rattle.pc_semantics.specs.Runs.{after, outcomes}

@@ -1,4 +1,4 @@
--- There is one answer to which outcomes the seeds below a count have.
+-- There is only one answer to which outcomes the seeds below a count have.
 use Rattle.std.specs.Prelude.{◌≡◌, ◌≢◌, ℕ, List, Result, Err}
 use Rattle.pc_core.specs.CoreData.{CoreData}
 use Rattle.pc_outcomes.specs.Tables.{Answers}
@@ -6,7 +6,7 @@ use Rattle.pc_outcomes.specs.declared.entry.Entry.{Entry}
 use Rattle.pc_outcomes.specs.declared.fault.OutcomesFault.{OutcomesFault}
 use Rattle.pc_outcomes.specs.declared.fault.OutcomesFault.TheVariants.{Memory}
 
--- Of two answers, neither of them that memory ran out, none differs from the other.
+-- Any two answers are equal, unless memory ran out for one of them.
 abbrev pub AnswersAreOne : Type 0
 AnswersAreOne =
     (core : CoreData) (count : ℕ) (a b : Result (List Entry) OutcomesFault) → a ≢ Err Memory → b ≢ Err Memory → Answers core count a → Answers core count b → a ≡ b

@@ -3,7 +3,8 @@ ghost use Rattle.pc_outcome_laws.specs.Laws.{AnswersAreOne};
 
 use pc_choose::lists_are_one;
 
-/// There is one table of the outcomes of the seeds below a count, or else one seed that passes a limit, and one limit.
+/// There is exactly one table of the outcomes of the seeds below a count, or else exactly one seed that passes a limit,
+/// and one limit.
 pub fn answers_are_one()
     ensures { AnswersAreOne }
 {

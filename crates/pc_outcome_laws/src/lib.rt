@@ -1,7 +1,7 @@
-//! The law on tables of outcomes: a core and a count have one answer.
+//! The law about tables of outcomes: a core and a count have only one answer.
 //!
-//! Proved: whatever is answered to a core and a count, a table or the seed that passes a limit, it is the one answer, unless
-//! memory ran out (`answers_are_one`).
+//! Proved: whatever is answered for a core and a count, a table or the seed that passes a limit, it is the only answer,
+//! unless memory ran out (`answers_are_one`).
 #![tactic(auto)]
 
 mod laws;

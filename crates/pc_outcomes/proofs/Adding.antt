@@ -1,4 +1,4 @@
--- A play comes to a table under way.
+-- A play is added to a table in the making.
 use Rattle.std.proofs.Common.{◌≡◌, ◌^◌, ℕ, zero, suc, ◌+◌, ◌<◌, ◌≤◌, Bool, true, false, cond, not, nat_lt, List, [], ◌∷◌, ◌++◌, length, get_or, Option, Some, None, Err, refl, sym, ap, ◌∙◌, subst, arith, length-append}
 use Rattle.std.specs.Prelude.{◌||◌, IfSome, slice_get, slice_set, position}
 use Rattle.std.specs.List.{list_any, position_or_len, AllByRecursion}

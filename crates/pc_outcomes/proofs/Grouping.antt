@@ -1,4 +1,4 @@
--- A play comes to the entries of others.
+-- A play is added to the entries of others.
 use Rattle.std.proofs.Common.{◌≡◌, ℕ, zero, suc, ◌+◌, ◌<◌, ◌≤◌, Bool, true, false, cond, List, [], ◌∷◌, ◌++◌, length, take, get_or, Option, Some, None, refl, sym, ap, ◌∙◌, arith}
 use Rattle.std.specs.Prelude.{◌&&◌, ◌||◌, IsSomeAnd, slice_get, slice_set}
 use Rattle.std.specs.List.{AllByRecursion, count_by, list_any}

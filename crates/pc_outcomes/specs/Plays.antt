@@ -11,7 +11,7 @@ use Rattle.pc_outcomes.specs.declared.entry.Ending.{Ending}
 use Rattle.pc_outcomes.specs.declared.entry.Ending.TheVariants.{Done, Cut, TooLong}
 use Rattle.pc_outcomes.specs.declared.entry.Play.{Play}
 
--- How a run ended, by how many actors are able after it and by the step that ended it, if one did.
+-- How a run ended, given how many actors are able after it and the step that ended it, if one did.
 abbrev pub ended : (able : ℕ) → Option (ℕ × Outcome) → Ending
 ended zero None = Done
 ended (suc n) None = Cut
@@ -43,6 +43,6 @@ same_ending Cut TooLong = false
 same_ending TooLong Done = false
 same_ending TooLong Cut = false
 
--- The play has this outcome: it printed the text, and ended so.
+-- The play has this outcome: it printed this text and ended in this way.
 abbrev pub has_outcome : List ℕ → Ending → Play → Bool
 has_outcome text ending play = bytes_eq text play.text && same_ending ending play.ending

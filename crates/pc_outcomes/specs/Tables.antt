@@ -8,11 +8,11 @@ use Rattle.pc_outcomes.specs.declared.fault.OutcomesFault.{OutcomesFault}
 use Rattle.pc_outcomes.specs.declared.fault.OutcomesFault.TheVariants as fault
 use Rattle.pc_outcomes.specs.Plays.{ArePlays, IsPlay, has_outcome}
 
--- how many steps all plays may have
+-- how many steps all plays may have together
 abbrev pub steps_limit : ℕ
 steps_limit = 100000000
 
--- how many bytes the texts of all entries may have
+-- how many bytes the texts of all entries may have together
 abbrev pub texts_limit : ℕ
 texts_limit = 67108864
 
@@ -34,7 +34,7 @@ pub record IsEntry (plays : List Play) (e : Entry) : Type 0 where
   pub none_before : count_by (shows e) (take e.seed plays) ≡ 0
   pub number : e.number ≡ count_by (shows e) plays
 
--- The first seeds ascend, from one on.
+-- The first seeds ascend, from a lower bound on.
 abbrev pub Ascend : ℕ → List Entry → Type 0
 Ascend low [] = ⊤
 Ascend low (e ∷ es) = (low ≤ e.seed) × Ascend (e.seed + 1) es
@@ -43,7 +43,7 @@ Ascend low (e ∷ es) = (low ≤ e.seed) × Ascend (e.seed + 1) es
 abbrev pub Differs : Entry → Entry → Type 0
 Differs e f = has_outcome e.text e.ending (record { text = f.text; ending = f.ending; steps = f.steps }) ≡ false
 
--- No two entries have one outcome.
+-- No two entries have the same outcome.
 abbrev pub AllDiffer : List Entry → Type 0
 AllDiffer [] = ⊤
 AllDiffer (e ∷ es) = AllByRecursion (Differs e) es × AllDiffer es
@@ -71,7 +71,7 @@ pub record Told (core : CoreData) (count : ℕ) (entries : List Entry) : Type 0 
   pub few_steps : total_steps plays ≤ steps_limit
   pub few_bytes : total_texts entries ≤ texts_limit
 
--- With the play of this seed the plays have too many steps, and those of the seeds below it have not.
+-- The plays have too many steps with the play of this seed, and do not without it.
 pub record StepsPass (core : CoreData) (seed : ℕ) : Type 0 where
   pub entries : List Entry
   pub told : Told core seed entries
@@ -79,7 +79,7 @@ pub record StepsPass (core : CoreData) (seed : ℕ) : Type 0 where
   pub is : IsPlay core seed play
   pub passes : steps_limit < total_steps told.plays + play.steps
 
--- This seed has a new outcome, with whose text the entries have too many bytes; those of the seeds below it have not.
+-- This seed has a new outcome, with whose text the entries have too many bytes; without it they do not.
 pub record TextsPass (core : CoreData) (seed : ℕ) : Type 0 where
   pub entries : List Entry
   pub told : Told core seed entries
@@ -89,7 +89,7 @@ pub record TextsPass (core : CoreData) (seed : ℕ) : Type 0 where
   pub new : list_any (λ e. shows e play) entries ≡ false
   pub passes : texts_limit < total_texts entries + length play.text
 
--- What `outcomes` answers: the table, or the seed that passes a limit. Out of memory is free.
+-- What `outcomes` returns: the table, or the seed that passes a limit. Running out of memory is always allowed.
 abbrev pub Answers : CoreData → (count : ℕ) → Result (List Entry) OutcomesFault → Type 0
 Answers core count (Ok entries) = Told core count entries
 Answers core count (Err (fault.Steps seed)) = (seed < count) × StepsPass core seed

@@ -4,7 +4,7 @@ use Rattle.pc_outcomes.specs.declared.entry.Ending.{Ending}
 use Rattle.pc_outcomes.specs.declared.entry.Ending.TheVariants.{Done, Cut, TooLong}
 use Rattle.pc_outcomes.specs.declared.entry.Entry.{Entry}
 
--- How a play ended, if it did not come to its end.
+-- How a play ended, if it did not run to its end.
 abbrev pub ending_words : Ending → List ℕ
 ending_words Done = []
 ending_words Cut = codes " (cut)"
@@ -15,12 +15,12 @@ abbrev pub numbers_of : (count seed number steps : ℕ) → List ℕ
 numbers_of count seed number steps =
     codes "seed " ++ (decimal seed ++ (codes ": " ++ (decimal number ++ (codes " of " ++ (decimal count ++ (codes ", " ++ (decimal steps ++ codes " steps")))))))
 
--- The two blanks before a byte with which a line begins.
+-- Two blanks before a byte that begins a line.
 abbrev pub margin : Bool → List ℕ
 margin true = 32 ∷ 32 ∷ []
 margin false = []
 
--- Bytes with two blanks before each line that begins among them; the first byte begins one or does not.
+-- Bytes with two blanks before each line that begins among them; the first byte may begin one.
 abbrev pub indented_from : Bool → List ℕ → List ℕ
 indented_from begins [] = []
 indented_from begins (b ∷ bs) = margin begins ++ b ∷ indented_from (b == 10) bs
@@ -29,10 +29,10 @@ indented_from begins (b ∷ bs) = margin begins ++ b ∷ indented_from (b == 10)
 abbrev pub indented : List ℕ → List ℕ
 indented text = indented_from true text
 
--- The head of an entry, its numbers and how the play ended, and its text.
+-- The head of an entry, with its numbers and how the play ended, and its text.
 abbrev pub entry_text : (count : ℕ) → Entry → List ℕ
 entry_text count e = numbers_of count e.seed e.number e.steps ++ ending_words e.ending ++ 10 ∷ [] ++ indented e.text
 
--- The text of a table: that of each entry, one after the other.
+-- The text of a table: the texts of its entries, one after another.
 abbrev pub text_of : (count : ℕ) → List Entry → List ℕ
 text_of count entries = flat_map (entry_text count) entries

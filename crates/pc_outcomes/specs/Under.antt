@@ -1,4 +1,4 @@
--- A table under way.
+-- A table in the making.
 use Rattle.std.specs.Prelude.{◌≡◌, ℕ, ◌+◌, List, Result, Ok, Err, ⊤}
 use Rattle.pc_core.specs.CoreData.{CoreData}
 use Rattle.pc_outcomes.specs.declared.entry.Entry.{Entry}
@@ -12,7 +12,7 @@ use Rattle.pc_outcomes.specs.Tables.{Told, StepsPass, TextsPass, total_steps, to
 abbrev pub one_more : Entry → Entry
 one_more e = record { seed = e.seed; number = e.number + 1; steps = e.steps; text = e.text; ending = e.ending }
 
--- The entry of a play whose outcome no other has.
+-- The entry of a play with a new outcome.
 abbrev pub entry_of : (seed : ℕ) → Play → Entry
 entry_of seed p = record { seed = seed; number = 1; steps = p.steps; text = p.text; ending = p.ending }
 
@@ -22,7 +22,7 @@ pub record Under (core : CoreData) (seed : ℕ) (entries : List Entry) (totals :
   pub steps : totals.steps ≡ total_steps told.plays
   pub texts : totals.texts ≡ total_texts entries
 
--- What the play of a seed makes of them.
+-- The entries and totals after adding the play of a seed.
 abbrev pub AddsTo : CoreData → (seed : ℕ) → List Entry → Result Totals OutcomesFault → Type 0
 AddsTo core seed entries (Ok totals) = Under core (seed + 1) entries totals
 AddsTo core seed entries (Err (fault.Steps s)) = (s ≡ seed) × StepsPass core seed

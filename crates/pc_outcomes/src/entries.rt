@@ -10,7 +10,8 @@ use pc_caps::List;
 use std::alloc::{AllocError, Global};
 use std::marker::Model;
 
-/// The outcomes of some seeds, in the order of their first seeds. They are found by a hash of the text and the ending.
+/// The outcomes of some seeds, in the order of their first seeds. They are looked up by a hash of the text and the
+/// ending.
 #[derive(Drop)]
 pub struct Entries {
     seeds: IndexMap<Outcome, Seeds>,
@@ -52,7 +53,7 @@ fn entry(outcome: Outcome, seeds: Seeds) -> Entry
 }
 
 impl Entries {
-    /// No outcomes. Does not allocate.
+    /// No outcomes. It does not allocate.
     pub fn new(alloc: Global) -> Entries
         ensures { result ≡ [] }
     {
@@ -61,14 +62,14 @@ impl Entries {
         }
     }
 
-    /// The place of an outcome. `None` exactly if no seed so far has it.
+    /// The place of an outcome. `None` iff no seed so far has it.
     pub fn place_of(&self, outcome: &Outcome) -> Option<usize>
         ensures { result ≡ position (λ e. shows e (play_with outcome.now 0)) self.now }
     {
         self.seeds.get_index_of(outcome)
     }
 
-    /// One seed more has the outcome at a place.
+    /// One more seed has the outcome at a place.
     pub fn count_at(&mut self, at: usize)
         requires there { at < length self.old }
         requires few { IfSome (slice_get self.old at) (λ e. e.number + 1 < 2 ^ 32) }
@@ -78,7 +79,7 @@ impl Entries {
         seeds.number += 1;
     }
 
-    /// The first seed with an outcome, which no seed so far has.
+    /// The first seed with an outcome that no seed so far has.
     pub fn push(&mut self, seed: u32, steps: u32, outcome: Outcome) -> Result<(), AllocError>
         requires { position (λ e. shows e (play_with outcome 0)) self.old ≡ None }
         ensures { OnOk result (self.new ≡ self.old ++ entry_of seed (play_with outcome steps) ∷ []) }

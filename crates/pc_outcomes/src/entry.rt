@@ -5,15 +5,15 @@ use pc_caps::List;
 /// How a play ended.
 #[derive(Clone, Copy, Debug, PartialEq, Eq, Hash)]
 pub enum Ending {
-    /// No actor has anything to do.
+    /// No actor has anything left to do.
     Done,
-    /// It has as many steps or turns as it may have, and some actor has something to do.
+    /// It has as many steps or turns as it may have, and some actor still has something to do.
     Cut,
     /// Its last step would have made too long a text.
     TooLong,
 }
 
-/// A play of a seed: its outcome, which is what was printed and how it ended, and how many steps it has.
+/// A play of a seed: its outcome, that is, what was printed and how it ended, and how many steps it has.
 #[derive(Debug, Drop)]
 pub struct Play {
     /// What was printed, each text with a line end.
@@ -37,7 +37,7 @@ pub struct Seeds {
     pub first: u32,
     /// How many there are.
     pub number: u32,
-    /// How many steps the play of the first has.
+    /// How many steps the play of the first one has.
     pub steps: u32,
 }
 

@@ -1,11 +1,12 @@
-//! The outcomes of a program: what the plays of some seeds print and how they end, each different one once.
-//! `docs/schedules.md` says what an outcome is.
+//! The outcomes of a program: what the plays of some seeds print and how they end, each different outcome once.
+//! `docs/schedules.md` explains what an outcome is.
 //!
-//! Proved: `outcomes` gives the table of the seeds below a count: each entry has the outcome and the steps of its first seed and
-//! the number of seeds with this outcome, every seed's outcome is in it, no two are equal, and first seeds ascend; or it names
-//! the seed whose play passes one of the two limits, or memory ran out. `text_of` writes a table as text.
+//! Proved: `outcomes` returns the table of the seeds below a count, or it names the seed whose play passes one of the
+//! two limits, or memory ran out. Each entry of the table has the outcome and the steps of its first seed and the
+//! number of seeds with this outcome, every seed's outcome is in it, no two are equal, and the first seeds ascend.
+//! `text_of` writes a table as text.
 //!
-//! Not proved: that these are all outcomes that a program has. The seeds are a sample of its schedules.
+//! Not proved: that these are all outcomes of a program. The seeds are a sample of its schedules.
 #![tactic(auto)]
 
 mod entries;

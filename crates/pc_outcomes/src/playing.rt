@@ -17,7 +17,7 @@ use pc_play::play_through;
 use pc_run::Progress;
 use std::alloc::{AllocError, Global};
 
-// Puts a text with its line end after others.
+// Appends a text with its line end.
 fn push_line(all: &mut Vec<u8>, text: &[u8]) -> Result<(), AllocError>
     ensures { OnOk result (all.new.items ≡ all.old.items ++ (text.now ++ line_end)) }
 {
@@ -26,7 +26,7 @@ fn push_line(all: &mut Vec<u8>, text: &[u8]) -> Result<(), AllocError>
     Ok(())
 }
 
-// Texts as one, each with its line end.
+// All texts joined, each with its line end.
 fn joined(alloc: Global, texts: &[List<u8>]) -> Result<List<u8>, AllocError>
     ensures { IfOk result (λ all. all ≡ lines texts.now) }
 {
@@ -37,7 +37,7 @@ fn joined(alloc: Global, texts: &[List<u8>]) -> Result<List<u8>, AllocError>
     Ok(List::from_vec(all))
 }
 
-// How a play ended, by how many actors are able after it.
+// How a play ended, given how many actors are able after it.
 fn ending_of(progress: Progress, able: u32) -> Ending
     ensures { (core : CoreData) (list : Sequence ℕ) (c : Configuration) → Reached core list c [] progress → result ≡ ended able (end_of (run.outcomes core list)) }
 {
@@ -47,7 +47,7 @@ fn ending_of(progress: Progress, able: u32) -> Ending
     }
 }
 
-/// The play of a seed. Over no list of actors does a step of the core lack anything.
+/// The play of a seed. No step of the core lacks anything, over any list of actors.
 pub fn play_of(alloc: Global, core: &Core, seed: u32) -> Result<Play, AllocError>
     requires never_lacks { NeverLacks core.now }
     ensures { IfOk result (IsPlay core.now seed) }

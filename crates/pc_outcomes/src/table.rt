@@ -16,13 +16,13 @@ use pc_caps::List;
 use pc_core::Core;
 use std::alloc::Global;
 
-/// How many steps all plays may have.
+/// How many steps all plays may have together.
 const STEPS_LIMIT: u64 = 100_000_000;
 
-/// How many bytes the texts of all entries may have.
+/// How many bytes the texts of all entries may have together.
 const TEXTS_LIMIT: u64 = 67_108_864;
 
-// What the plays and the entries so far have.
+// Totals of the plays and the entries so far.
 #[derive(Clone, Copy)]
 pub struct Totals {
     // The steps of all plays.
@@ -31,7 +31,7 @@ pub struct Totals {
     pub texts: u64,
 }
 
-// A play whose outcome no entry has comes to the entries. The totals have its steps, and not yet its text.
+// Adds a play with a new outcome to the entries. The totals have its steps, but not its text yet.
 fn add_new(
     entries: &mut Entries,
     totals: Totals,
@@ -54,7 +54,7 @@ fn add_new(
     })
 }
 
-// The play of a seed comes to the entries of the seeds below it.
+// Adds the play of a seed to the entries of the seeds below it.
 fn add(
     entries: &mut Entries,
     totals: Totals,
@@ -89,13 +89,15 @@ fn add(
     }
 }
 
-/// The outcomes of the seeds below a count, in the order of their first seeds. Over no list of actors does a step of the core
-/// lack anything.
+/// The outcomes of the seeds below a count, in the order of their first seeds. No step of the core lacks anything, over
+/// any list of actors.
 ///
 /// # Errors
-/// - `Steps(seed)` if the plays of the seeds up to this one have more than 100,000,000 steps, and those below it do not.
-/// - `Texts(seed)` if the different texts of the seeds up to this one have more than 67,108,864 bytes, and those below it do not.
-/// - `Memory` when out of memory.
+/// - `Steps(seed)` if the plays of the seeds up to this one have more than 100,000,000 steps, and those below it do
+///   not.
+/// - `Texts(seed)` if the different texts of the seeds up to this one have more than 67,108,864 bytes, and those below
+///   it do not.
+/// - `Memory` if memory ran out.
 pub fn outcomes(alloc: Global, core: &Core, count: u32) -> Result<List<Entry>, OutcomesFault>
     requires few { count < 2 ^ 31 }
     requires never_lacks { NeverLacks core.now }

@@ -6,7 +6,7 @@ use crate::entry::{Ending, Entry};
 use pc_caps::List;
 use std::alloc::{AllocError, Global};
 
-// How a play ended, if it did not come to its end.
+// How a play ended, if it did not run to its end.
 fn ending_words(ending: Ending) -> &'static str
     ensures { result.now ≡ spec.ending_words ending }
 {
@@ -30,7 +30,7 @@ fn head_of(
     format!(in alloc; "seed {seed}: {number} of {count}, {steps} steps")
 }
 
-// Puts a text with two blanks before each of its lines after others.
+// Appends a text with two blanks before each of its lines.
 fn push_indented(all: &mut Vec<u8>, text: &[u8]) -> Result<(), AllocError>
     ensures { OnOk result (all.new.items ≡ all.old.items ++ spec.indented text.now) }
 {
@@ -45,7 +45,7 @@ fn push_indented(all: &mut Vec<u8>, text: &[u8]) -> Result<(), AllocError>
     Ok(())
 }
 
-// Puts the head and the text of an entry after others.
+// Appends the head and the text of an entry.
 fn push_entry(alloc: Global, all: &mut Vec<u8>, count: u32, entry: &Entry) -> Result<(), AllocError>
     ensures { OnOk result (all.new.items ≡ all.old.items ++ spec.entry_text count entry.now) }
 {
@@ -56,8 +56,8 @@ fn push_entry(alloc: Global, all: &mut Vec<u8>, count: u32, entry: &Entry) -> Re
     push_indented(all, entry.text.as_slice())
 }
 
-/// The text of a table: for each entry a head, `seed S: N of COUNT, M steps` with ` (cut)` or ` (too long)` if its play ended
-/// so, and then its text, each line with two blanks before it.
+/// The text of a table: for each entry, a head `seed S: N of COUNT, M steps`, with ` (cut)` or ` (too long)` if its
+/// play ended so, and then its text, with two blanks before each line.
 pub fn text_of(alloc: Global, count: u32, entries: &[Entry]) -> Result<List<u8>, AllocError>
     ensures { IfOk result (λ text. text ≡ spec.text_of count entries.now) }
 {

@@ -1,4 +1,4 @@
--- A loop that begins with nothing.
+-- A repetition that begins with nothing.
 use Rattle.std.proofs.Common.{◌≡◌, List, [], ◌++◌, length, Option, Ok, Err, refl, sym, subst, arith}
 use Rattle.pc_token.specs.declared.kinds.Token.{Token}
 use Rattle.pc_grammar.specs.Reading.{Outcome, Parser, and_then, pure, all, many}

@@ -1,4 +1,4 @@
--- A rule with a loop reads as its parts do.
+-- A rule with a repetition reads as its parts do.
 use Rattle.std.proofs.Common.{◌≡◌, Bool, true, false, List, [], ◌∷◌, refl, sym, ◌∙◌, if◌then◌else◌}
 use Rattle.pc_tree.specs.Tree as t
 use Rattle.pc_token.specs.declared.kinds.Token.{Token}

@@ -1,4 +1,4 @@
--- From the reading to what the public call promises.
+-- From reading to the promises of the public call.
 use Rattle.std.proofs.Common.{◌≡◌, ℕ, ◌<◌, ◌≤◌, List, [], ◌∷◌, drop, length, Ok, Err, sym, ap, ◌∙◌, subst, arith, length-drop}
 use Rattle.pc_tree.specs.Tree as t
 use Rattle.pc_tree.specs.declared.file.File.{File}
@@ -18,7 +18,7 @@ use Rattle.pc_expr.specs.Gives.{Stops}
 use Rattle.pc_expr.specs.Answers.{Names}
 use Rattle.pc_parse.specs.Answers.{StopsRight, Refuses, Is}
 
--- ---- what is read, by how much is left
+-- ---- what is read, by the number of tokens left
 
 nothing_left : (ts rest : List Token) (f : t.File) → length rest ≤ 0 → AnswersFor ts (Ok (f, rest)) → IsFileAnswer ts (spelled f)
 nothing_left ts [] f none h = h

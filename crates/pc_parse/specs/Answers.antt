@@ -1,4 +1,4 @@
--- What the parser answers.
+-- What the parser returns.
 use Rattle.std.specs.Prelude.{◌≡◌, ℕ, ◌<◌, List, ◌∷◌, drop, length, Result, Ok, Err}
 use Rattle.pc_token.specs.declared.kinds.Token.{Token}
 use Rattle.pc_tree.specs.declared.file.File.{File}
@@ -10,21 +10,21 @@ use Rattle.pc_expr.specs.declared.fault.ParseFault.{ParseFault}
 use Rattle.pc_expr.specs.declared.fault.ParseFault.TheVariants as fault
 use Rattle.pc_expr.specs.Answers.{Places}
 
--- Why there is no tree, by the first byte of the token at which no file begins any more, or at which only deeper ones
--- begin. Or memory ran out.
+-- Why there is no tree, by the first byte of the token with which no file begins any more, or with which only deeper
+-- ones begin. Or memory ran out.
 abbrev pub Refuses : List Token → ParseFault → Type 0
 Refuses tokens (fault.Unexpected p) = (k : ℕ) × Places tokens k p × IsFileAnswer tokens (unexpected (drop k tokens))
 Refuses tokens (fault.TooDeep p) = (k : ℕ) × Places tokens k p × IsFileAnswer tokens (too_deep (drop k tokens))
 Refuses tokens fault.Memory = Unit {0}
 
--- The result is this answer, a fault told by the first byte of its token; or memory ran out.
+-- The result is this answer, with a fault given by the first byte of its token; or memory ran out.
 abbrev pub Is : FileAnswer → Result File ParseFault → Type 0
 Is answer (Ok f) = answer ≡ spelled (file_view f)
 Is answer (Err (fault.Unexpected p)) = (x : Token) × (more : List Token) × (answer ≡ unexpected (x ∷ more)) × (x.span.start ≡ p)
 Is answer (Err (fault.TooDeep p)) = (x : Token) × (more : List Token) × (answer ≡ too_deep (x ∷ more)) × (x.span.start ≡ p)
 Is answer (Err fault.Memory) = Unit {0}
 
--- Whatever answer holds of the tokens is the result, unless memory ran out.
+-- Whatever answer holds for the tokens is the result, unless memory ran out.
 abbrev pub IsOnly : List Token → Result File ParseFault → Type 0
 IsOnly tokens result = (answer : FileAnswer) → IsFileAnswer tokens answer → Is answer result
 

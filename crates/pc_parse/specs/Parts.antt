@@ -1,4 +1,4 @@
--- The rules of the grammar of files by their parts, with the levels that a file has.
+-- The rules of the grammar of files in parts, with the levels of a file.
 use Rattle.std.specs.Prelude.{List, [], ◌∷◌, if◌then◌else◌}
 use Rattle.pc_tree.specs.Tree as t
 use Rattle.pc_tree.specs.declared.names.Name.{Name}

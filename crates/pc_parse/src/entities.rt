@@ -16,7 +16,7 @@ use pc_token::{Token, Word, is_word};
 use pc_tree::{Entity, EntityKind};
 use std::alloc::Global;
 
-/// [Cap], where such an entity may have one.
+/// [Cap], if such an entity may have one.
 fn entity_cap(tokens: &[Token], at: usize, kind: EntityKind) -> (Option<Cap>, usize)
     requires { At tokens.now at }
     ensures gives { rules.entity_cap kind (drop at tokens.now) ≡ Ok (result.0, drop result.1 tokens.now) }
@@ -29,7 +29,7 @@ fn entity_cap(tokens: &[Token], at: usize, kind: EntityKind) -> (Option<Cap>, us
     }
 }
 
-/// An entity of the kind that is given.
+/// An entity of this kind.
 #[tactic(auto, unfolding(pc_grammar::specs::ReadingFile::entity_of))]
 fn entity_of(
     alloc: Global,
@@ -61,7 +61,7 @@ fn entity_of(
     ))
 }
 
-/// ("class" [Cap] | "trait" [Cap] | "interface" [Cap] | "actor" | "primitive") TypeName, and what stands behind it.
+/// ("class" [Cap] | "trait" [Cap] | "interface" [Cap] | "actor" | "primitive") TypeName, and what follows.
 #[tactic(auto, unfolding(pc_grammar::specs::ReadingFile::entity, pc_grammar::specs::Reading::peek))]
 fn entity(alloc: Global, tokens: &[Token], at: usize) -> Result<(Entity, usize), ParseStop>
     requires { At tokens.now at }
@@ -84,7 +84,7 @@ fn entity(alloc: Global, tokens: &[Token], at: usize) -> Result<(Entity, usize),
     }
 }
 
-/// {Entity}, behind some entities.
+/// {Entity}, after some entities.
 fn more_entities(
     alloc: Global,
     tokens: &[Token],

@@ -31,7 +31,7 @@ fn value(alloc: Global, tokens: &[Token], at: usize) -> Result<(Option<Expr>, us
     Ok((Some(e), to))
 }
 
-/// ("var" | "let") Name ":" Type ["=" Infix] [doc], with the word that is given.
+/// ("var" | "let") Name ":" Type ["=" Infix] [doc], with this keyword.
 #[tactic(auto, unfolding(pc_grammar::specs::ReadingFile::field))]
 fn field(
     alloc: Global,
@@ -91,7 +91,7 @@ fn all_fields(
     Ok((fields, to))
 }
 
-/// {Field}, where fields may stand.
+/// {Field}, in an entity that may have fields.
 pub fn fields(
     alloc: Global,
     tokens: &[Token],

@@ -1,9 +1,9 @@
-//! The parser of files: the tree that the tokens of a text spell, or the first token at which there is none.
+//! The parser of files: the tree that the tokens of a text spell, or the first token that rules one out.
 //! `docs/grammar.md` has the grammar in words.
 //!
-//! Proved: `file` gives the tree that the tokens spell, all of them, within 200 levels; or names the first token with
-//! which no file begins any more, or that opens a level too many. Whichever of these holds of the tokens is the answer,
-//! or memory ran out.
+//! Proved: `file` returns the tree that the tokens spell, all of them, within 200 levels; or names the first token with
+//! which no file begins any more, or which opens a level too many. Whichever of these holds for the tokens is the
+//! result, or memory ran out.
 #![tactic(auto)]
 
 mod entities;

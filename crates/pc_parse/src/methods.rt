@@ -16,7 +16,7 @@ use pc_token::{Sign, Token, is_sign};
 use pc_tree::{EntityKind, MethodDef, MethodWord, Seq};
 use std::alloc::Global;
 
-/// [Cap], where such a method of such an entity may have one.
+/// [Cap], if such a method of such an entity may have one.
 fn method_cap(
     tokens: &[Token],
     at: usize,
@@ -65,7 +65,7 @@ fn maybe_body(alloc: Global, tokens: &[Token], at: usize) -> Result<(Option<Seq>
     }
 }
 
-/// "=>" [doc] Seq, which may be missing in a trait or an interface.
+/// "=>" [doc] Seq, which is optional in a trait or an interface.
 fn body(
     alloc: Global,
     tokens: &[Token],
@@ -116,7 +116,7 @@ fn method_of(
     ))
 }
 
-/// A method of such an entity, by its word.
+/// A method of such an entity, by its keyword.
 #[tactic(auto, unfolding(pc_grammar::specs::ReadingFile::some_method, pc_grammar::specs::Reading::peek))]
 fn some_method(
     alloc: Global,

@@ -23,7 +23,7 @@ fn param(alloc: Global, tokens: &[Token], at: usize) -> Result<(ParamDef, usize)
     Ok((ParamDef { name, ty }, to))
 }
 
-/// {"," Name ":" Type}, behind some parameters.
+/// {"," Name ":" Type}, after some parameters.
 fn more_params(
     alloc: Global,
     tokens: &[Token],

@@ -14,7 +14,7 @@ use pc_token::Token;
 use pc_tree::File;
 use std::alloc::Global;
 
-/// [doc] Entity {Entity} End, with the place behind it.
+/// [doc] Entity {Entity} End, with the place after it.
 #[tactic(auto, using(crate::proofs::Parts::file_by_parts), unfolding(crate::specs::Parts::file_parts, pc_grammar::specs::Reading::take_if))]
 fn front(alloc: Global, tokens: &[Token]) -> Result<(File, usize), ParseStop>
     requires { At tokens.now 0 }
@@ -29,7 +29,7 @@ fn front(alloc: Global, tokens: &[Token]) -> Result<(File, usize), ParseStop>
     Ok((File { entities }, end + 1))
 }
 
-/// [doc] Entity {Entity} End, and nothing behind it.
+/// [doc] Entity {Entity} End, and nothing after it.
 fn whole(alloc: Global, tokens: &[Token]) -> Result<File, ParseStop>
     requires { At tokens.now 0 }
     ensures read { IfOk result (λ f. IsFileAnswer tokens.now (spelled (file_view f))) }
@@ -44,16 +44,16 @@ fn whole(alloc: Global, tokens: &[Token]) -> Result<File, ParseStop>
 
 /// The file that the tokens spell.
 ///
-/// The grammar is that of `docs/grammar.md`. `Unexpected` names the first token with which no file begins any more, of any
-/// depth; where the tokens spell a file and go on behind its `End`, that is the first token behind it. `TooDeep` names the
-/// first token that opens level 201 of a body or a field's value.
+/// The grammar is that of `docs/grammar.md`. `Unexpected` names the first token with which no file begins any more, of
+/// any depth; if the tokens spell a file and go on after its `End`, that is the first token after it. `TooDeep` names
+/// the first token that opens level 201 of a body or a field's value.
 pub fn file(alloc: Global, tokens: &[Token]) -> Result<File, ParseFault>
     requires ends { EndsWithEnd tokens.now }
     // The tree that the tokens spell, all of them, within 200 levels.
     ensures read { IfOk result (λ f. IsFileAnswer tokens.now (spelled (file_view f))) }
-    // Why there is none, by the first byte of the token that is named; or memory ran out.
+    // Why there is none, by the first byte of the faulty token; or memory ran out.
     ensures refused { IfErr result (Refuses tokens.now) }
-    // Whatever answer holds of the tokens is the result, unless memory ran out.
+    // Whatever answer holds for the tokens is the result, unless memory ran out.
     ensures exact { IsOnly tokens.now result }
 {
     match whole(alloc, tokens) {

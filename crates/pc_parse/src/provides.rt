@@ -1,4 +1,4 @@
-//! The type names behind `is`.
+//! The type names after `is`.
 ghost use Rattle.std.specs.Prelude.{◌≤◌, drop, IfOk};
 ghost use Rattle.pc_grammar.specs.ReadingFile as rules;
 ghost use Rattle.pc_expr.specs.Gives.{At, Moves, Gives};
@@ -11,7 +11,7 @@ use pc_token::{Sign, Token, Word, is_sign, is_word};
 use pc_tree::Name;
 use std::alloc::Global;
 
-/// {"&" TypeName}, behind some type names.
+/// {"&" TypeName}, after some type names.
 fn more_type_names(
     alloc: Global,
     tokens: &[Token],

@@ -1,4 +1,4 @@
-//! Single tokens of files: docs, the end, and where a list of parts goes on.
+//! Single tokens of files: docs, the end, and where a list of parts continues.
 ghost use Rattle.std.specs.Prelude.{◌≡◌, ◌≤◌, drop, IfSome, Ok, option_map};
 ghost use Rattle.pc_token.specs.declared.signs.Sign.TheVariants.{Ampersand};
 ghost use Rattle.pc_token.specs.Asking as asking;
@@ -44,7 +44,7 @@ pub fn is_end(token: &Token) -> bool
     }
 }
 
-/// Behind a doc, where one stands.
+/// The place after a doc, if there is one here.
 #[tactic(auto, using(crate::proofs::Ends::is_doc_not_end), unfolding(pc_grammar::specs::ReadingFile::maybe_doc, pc_grammar::specs::Reading::peek, pc_grammar::specs::Reading::take_if))]
 pub fn after_doc(tokens: &[Token], at: usize) -> usize
     requires { At tokens.now at }
@@ -54,7 +54,7 @@ pub fn after_doc(tokens: &[Token], at: usize) -> usize
     if is_doc(look(tokens, at)) { at + 1 } else { at }
 }
 
-/// Behind the `&`, if one stands there.
+/// The place after the `&`, if there is one here.
 #[tactic(auto, using(pc_expr::proofs::Ends::is_sign_not_end), unfolding(pc_grammar::specs::Reading::after))]
 pub fn after_ampersand(tokens: &[Token], at: usize) -> Option<usize>
     requires { At tokens.now at }
@@ -75,7 +75,7 @@ fn begins_field(token: &Token) -> bool
     is_word(token, Word::LetWord) || is_word(token, Word::VarWord)
 }
 
-/// Here, if a field begins here.
+/// This place, if a field begins here.
 #[tactic(auto, unfolding(pc_grammar::specs::Reading::at))]
 pub fn at_field(tokens: &[Token], at: usize) -> Option<usize>
     requires { At tokens.now at }
@@ -89,7 +89,7 @@ pub fn at_field(tokens: &[Token], at: usize) -> Option<usize>
     }
 }
 
-/// The word that begins such a method.
+/// The keyword of such a method.
 pub fn method_word(word: MethodWord) -> Word
     ensures { result ≡ grammar.method_word word }
 {
@@ -100,7 +100,7 @@ pub fn method_word(word: MethodWord) -> Word
     }
 }
 
-/// Whether such a method begins with the token, and may stand in such an entity.
+/// Whether such a method begins with the token, and may be in such an entity.
 pub fn begins(kind: EntityKind, word: MethodWord, token: &Token) -> bool
     ensures { result ≡ rules.word_in kind word token.now }
 {
@@ -116,7 +116,7 @@ fn begins_method(kind: EntityKind, token: &Token) -> bool
         || begins(kind, MethodWord::New, token)
 }
 
-/// Here, if a method begins here that may stand in such an entity.
+/// This place, if a method begins here that may be in such an entity.
 #[tactic(auto, unfolding(pc_grammar::specs::Reading::at))]
 pub fn at_method(tokens: &[Token], at: usize, kind: EntityKind) -> Option<usize>
     requires { At tokens.now at }
@@ -130,7 +130,7 @@ pub fn at_method(tokens: &[Token], at: usize, kind: EntityKind) -> Option<usize>
     }
 }
 
-/// The word that begins such an entity.
+/// The keyword of such an entity.
 pub fn entity_word(kind: EntityKind) -> Word
     ensures { result ≡ grammar.entity_word kind }
 {
@@ -154,7 +154,7 @@ fn begins_entity(token: &Token) -> bool
         || is_word(token, Word::InterfaceWord)
 }
 
-/// Here, if an entity begins here.
+/// This place, if an entity begins here.
 #[tactic(auto, unfolding(pc_grammar::specs::Reading::at))]
 pub fn at_entity(tokens: &[Token], at: usize) -> Option<usize>
     requires { At tokens.now at }

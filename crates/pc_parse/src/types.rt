@@ -8,7 +8,7 @@ use pc_token::{Sign, Token, is_sign};
 use pc_tree::{MethodWord, TypeRef};
 use std::alloc::Global;
 
-/// Whether a `^` stands there, and the place behind it.
+/// Whether there is a `^` here, and the place after it.
 #[tactic(auto, using(pc_expr::proofs::Ends::is_sign_not_end), unfolding(pc_grammar::specs::ReadingFile::maybe_hat, pc_grammar::specs::Reading::peek, pc_grammar::specs::Reading::take_if))]
 fn maybe_hat(tokens: &[Token], at: usize) -> (bool, usize)
     requires { At tokens.now at }
@@ -54,7 +54,7 @@ fn returns(
     Ok((Some(ty), to))
 }
 
-/// [":" Result], where such a method may have one.
+/// [":" Result], if such a method may have one.
 pub fn method_result(
     alloc: Global,
     tokens: &[Token],

@@ -10,7 +10,7 @@ use Rattle.pc_rules.specs.Fields.{field_of}
 use Rattle.pc_rules.specs.Parts.{last_child}
 use Rattle.pc_words.specs.Scene.{SceneData, type_of}
 
--- The field of this name of the entity that node c is of.
+-- The field with this name of the entity of node c.
 unfoldable pub field_at : SceneData → Option ℕ → (name : ℕ) → Option FieldInfo
 field_at s None name = None
 field_at s (Some c) name = do
@@ -22,7 +22,7 @@ abbrev pub place_of : Option FieldInfo → Option (ℕ × Cap)
 place_of None = None
 place_of (Some f) = Some (f.entity, f.cap)
 
--- The method of this name of the entity that a call's receiver is of.
+-- The method with this name of the entity of a call's receiver.
 unfoldable pub callee : SceneData → Node → (name : ℕ) → Option Method
 callee s x name = do
   c ← last_child x.children

@@ -1,4 +1,4 @@
--- The line on a node.
+-- The line about a node.
 use Rattle.std.specs.Prelude.{ℕ, Bool, true, false, nat_eq, [], ◌++◌, Option, Some, None, slice_get, if◌then◌else◌, codes}
 use Rattle.pc_caps.specs.declared.capability.Cap.{Cap}
 use Rattle.pc_core.specs.CoreData.{CoreData}
@@ -47,7 +47,7 @@ abbrev pub of_part : CoreData → Option (ℕ × Cap) → Text
 of_part core None = []
 of_part core (Some p) = codes ", of " ++ (place_words core p ++ codes ",")
 
--- A definition without a written type has that of its value.
+-- A definition without a written type has the type of its value.
 abbrev pub written_part : CoreData → Option (ℕ × Cap) → Text
 written_part core None = codes ", whose type follows from its value,"
 written_part core (Some p) = codes ", " ++ (place_words core p ++ codes ",")
@@ -75,8 +75,8 @@ abbrev pub origin_ends_at : CoreData → ℕ → Option ℕ → Bool
 origin_ends_at core end None = false
 origin_ends_at core end (Some c) = ends_at end (slice_get core.nodes c)
 
--- The write is that of an initial value: it has the place of the field's name, as its origin has, so that both end there.
--- An assignment goes on after its origin, to the value.
+-- The write belongs to an initial value: it has the place of the field's name, and so has its origin, so that both end
+-- there. An assignment continues after its origin, up to the value.
 unfoldable pub is_initial : SceneData → Node → Bool
 is_initial s x = origin_ends_at s.core x.span.end (child x 1)
 
@@ -100,7 +100,7 @@ abbrev pub callee_words : SceneData → Option Method → Text → Text
 callee_words s None name = quoted name
 callee_words s (Some m) name = methods.method s m
 
--- A call of a method, or of its name alone.
+-- A call of a method, or just of its name.
 unfoldable pub call_words : SceneData → Option Method → Text → Text
 call_words s o name = codes "a call of " ++ callee_words s o name
 

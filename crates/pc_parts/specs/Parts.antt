@@ -1,4 +1,4 @@
--- The lines on the parts of a node: the children whose types its rules look at.
+-- The lines about the parts of a node: the children whose types its rules look at.
 use Rattle.std.specs.Prelude.{ℕ, zero, suc, ◌+◌, Bool, true, false, nat_eq, List, [], ◌∷◌, ◌++◌, length, Option, Some, None, slice_get, if◌then◌else◌, codes, decimal}
 use Rattle.pc_caps.specs.declared.capability.Form.{Form}
 use Rattle.pc_core.specs.CoreData.{CoreData}
@@ -14,7 +14,7 @@ use Rattle.pc_words.specs.Scene.{SceneData, is_unwritten_this, type_of}
 use Rattle.pc_parts.specs.declared.parts.Role.{Role}
 use Rattle.pc_parts.specs.declared.parts.Role.TheVariants as role
 
--- ---- what a child is to its node
+-- ---- the role of a child in its node
 
 abbrev pub value_or_origin : ℕ → Role
 value_or_origin zero = role.Value
@@ -24,16 +24,16 @@ abbrev pub left_or_right : ℕ → Role
 left_or_right zero = role.Left
 left_or_right (suc i) = role.Right
 
--- Of a condition's node the branches and the body are no parts.
+-- The branches and the body of a condition's node are not parts of it.
 abbrev pub condition_or_none : ℕ → Role
 condition_or_none zero = role.Condition
 condition_or_none (suc i) = role.Unseen
 
--- Of a call the arguments come first, and then the receiver.
+-- In a call, the arguments come first, and then the receiver.
 abbrev pub argument_or_receiver : (count index : ℕ) → Role
 argument_or_receiver n i = if nat_eq (i + 1) n then role.Receiver else role.Argument i
 
--- The role of the child of this index, by the number of children.
+-- The role of the child with this index, given the number of children.
 abbrev pub role_of : NodeKind → (count index : ℕ) → Role
 role_of (node.Field name) n i = role.Origin
 role_of (node.SetField name) n i = value_or_origin i
@@ -94,7 +94,8 @@ abbrev pub last_or : ℕ → Option ℕ → ℕ
 last_or n None = n
 last_or n (Some c) = c
 
--- The last item of a sequence, through at most this number of sequences. Of what is no sequence it is the node itself.
+-- The last item of a sequence, through at most this many nested sequences. If the node is not a sequence, it is the
+-- node itself.
 abbrev pub last_item : CoreData → (depth : ℕ) → ℕ → ℕ
 last_item core zero n = n
 last_item core (suc d) n = last_item core d (last_or n (last_of_seq (slice_get core.nodes n)))
@@ -102,7 +103,7 @@ last_item core (suc d) n = last_item core d (last_or n (last_of_seq (slice_get c
 unfoldable pub last_value : CoreData → ℕ → ℕ
 last_value core n = last_item core (length core.nodes) n
 
--- Of a body its last item, and of everything else the node itself.
+-- For a body its last item, and for everything else the node itself.
 unfoldable pub shown_node : CoreData → Role → ℕ → ℕ
 shown_node core role.Last n = last_value core n
 shown_node core role.Value n = n
@@ -135,8 +136,8 @@ part_line s r c = codes "part: " ++ (role_words r ++ (codes " " ++ (seen s (show
 
 -- ---- all of them
 
--- No rule looks at the type of such a child, or the node is of a constructor that has not set all fields, and the child is
--- the origin.
+-- No rule looks at the type of such a child; or the node belongs to a constructor that has not set all fields, and the
+-- child is the origin.
 abbrev pub left_out : (incomplete : Bool) → Role → Bool
 left_out b role.Unseen = true
 left_out b role.Origin = b

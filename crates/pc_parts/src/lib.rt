@@ -1,8 +1,8 @@
 //! A refused node and its parts in words.
 //!
-//! Proved: the line on a node says what it is and in which method, and there is a line for each child whose type the node's
-//! rules look at, in the order of evaluation, with the type of the child's note; each is exactly the bytes of its definition, or
-//! memory ran out.
+//! Proved: the line about a node says what it is and in which method, and there is a line for each child whose type the
+//! node's rules look at, in the order of evaluation, with the type of the child's note; each line has exactly the bytes
+//! of its definition, or memory ran out.
 #![tactic(auto)]
 
 mod members;

@@ -19,7 +19,7 @@ fn field_of(core: &Core, entity: u32, name: u32) -> Option<(u32, FieldInfo)>
     Some((at, *field))
 }
 
-// The field of this name of the entity that the node of this number is of.
+// The field with this name of the entity of the node with this number.
 #[tactic(auto, unfolding(crate::specs::Members::field_at))]
 fn field_of_node(scene: &Scene, node: u32, name: u32) -> Option<FieldInfo>
     ensures { result ≡ spec.field_at scene.now (Some node) name }
@@ -29,7 +29,7 @@ fn field_of_node(scene: &Scene, node: u32, name: u32) -> Option<FieldInfo>
     Some(found.1)
 }
 
-/// The field of this name of the entity that a node is of.
+/// The field with this name of the entity of a node.
 #[tactic(auto, unfolding(crate::specs::Members::field_at))]
 pub fn field_at(scene: &Scene, node: Option<u32>, name: u32) -> Option<FieldInfo>
     ensures { result ≡ spec.field_at scene.now node name }
@@ -56,7 +56,7 @@ fn last_child(children: &[u32]) -> Option<u32>
     children.get(children.len().saturating_sub(1)).copied()
 }
 
-/// The method of this name of the entity that a call's receiver is of.
+/// The method with this name of the entity of a call's receiver.
 #[tactic(auto, unfolding(crate::specs::Members::callee))]
 pub fn callee<'a>(scene: &Scene<'a>, node: &Node, name: u32) -> Option<&'a Method>
     ensures { option_copied result ≡ spec.callee scene.now node.now name }

@@ -1,4 +1,4 @@
-//! The line on a node.
+//! The line about a node.
 ghost use Rattle.std.specs.Prelude.{◌≡◌, ◌++◌, OnOk, Some, slice_get};
 ghost use Rattle.std.specs.Option.{option_copied};
 ghost use Rattle.pc_parts.specs.NodeWords as spec;
@@ -162,7 +162,7 @@ fn push_consume(
     push_of_part(alloc, out, scene.core(), scene.slot_type(node.method, slot))
 }
 
-// Whether the node of this number ends at this offset.
+// Whether the node with this number ends at this offset.
 fn ends_at(core: &Core, node: u32, end: u32) -> bool
     ensures { result ≡ spec.ends_at end (slice_get core.now.nodes node) }
 {
@@ -182,7 +182,7 @@ fn origin_ends_at(core: &Core, origin: Option<u32>, end: u32) -> bool
     }
 }
 
-// Whether the write is that of an initial value: only an assignment goes on after its origin.
+// Whether the write belongs to an initial value: only an assignment continues after its origin.
 #[tactic(auto, unfolding(crate::specs::NodeWords::is_initial))]
 fn is_initial(scene: &Scene, node: &Node) -> bool
     ensures { result ≡ spec.is_initial scene.now node.now }
@@ -270,7 +270,7 @@ fn push_assign(
     push_typed(alloc, out, scene.core(), b"the assignment to ", name, ty)
 }
 
-// Appends what a call is: of a method, or of its name alone.
+// Appends what a call is: of a method, or just of its name.
 #[tactic(auto, unfolding(crate::specs::NodeWords::call_words))]
 fn push_call(
     alloc: Global,
@@ -309,7 +309,7 @@ fn push_recover(out: &mut Vec<u8>, written: Option<Cap>) -> Result<(), AllocErro
     }
 }
 
-// Appends what a node is, whose source text says it.
+// Appends what a node is, if its source text says it.
 #[tactic(auto, unfolding(crate::specs::NodeWords::text_words))]
 fn push_text(alloc: Global, out: &mut Vec<u8>, scene: &Scene, node: &Node) -> Result<(), AllocError>
     ensures { OnOk result (out.new.items ≡ out.old.items ++ spec.text_words scene.now node.now) }
@@ -380,7 +380,7 @@ fn push_plain(
     push_home(alloc, out, scene.core(), node.method)
 }
 
-// Appends what a body is of.
+// Appends whose body it is.
 fn push_body(
     alloc: Global,
     out: &mut Vec<u8>,
@@ -400,7 +400,7 @@ fn is_body(kind: &NodeKind) -> bool
     matches!(kind, NodeKind::Body)
 }
 
-// Appends what a node is: of a body its whole method.
+// Appends what a node is: for a body, its whole method.
 #[tactic(auto, unfolding(crate::specs::NodeWords::whole))]
 fn push_whole(
     alloc: Global,
@@ -419,7 +419,7 @@ fn push_whole(
     }
 }
 
-/// Appends the line on a node.
+/// Appends the line about a node.
 #[tactic(auto, unfolding(crate::specs::NodeWords::node_line))]
 pub fn push_node_line(
     alloc: Global,

@@ -1,4 +1,4 @@
-//! The lines on the parts of a node: the children whose types its rules look at.
+//! The lines about the parts of a node: the children whose types its rules look at.
 ghost use Rattle.std.specs.Prelude.{◌≡◌, ◌++◌, OnOk, slice_get};
 ghost use Rattle.pc_parts.specs.Parts as spec;
 ghost use Rattle.pc_rules.specs.Parts.{last_child as last_child_is};
@@ -9,12 +9,12 @@ use pc_window::{piece_of, push_bytes, push_quoted};
 use pc_words::{Scene, push_type};
 use std::alloc::{AllocError, Global};
 
-/// What a child is to its node.
+/// The role of a child in its node.
 #[derive(Clone, Copy, Debug, PartialEq, Eq)]
 pub enum Role {
     Value,
     Origin,
-    /// The argument of this index.
+    /// The argument with this index.
     Argument(usize),
     Receiver,
     Left,
@@ -64,7 +64,7 @@ fn argument_or_receiver(count: usize, index: usize) -> Role
     }
 }
 
-// The role of the child of this index, by the number of children.
+// The role of the child with this index, given the number of children.
 fn role_of(kind: &NodeKind, count: usize, index: usize) -> Role
     ensures { result ≡ spec.role_of kind.now count index }
 {
@@ -92,7 +92,7 @@ fn role_of(kind: &NodeKind, count: usize, index: usize) -> Role
     }
 }
 
-/// The role of the child of this index.
+/// The role of the child with this index.
 #[tactic(auto, unfolding(crate::specs::Parts::child_role))]
 pub fn child_role(node: &Node, index: usize) -> Role
     ensures { result ≡ spec.child_role node.now index }
@@ -141,7 +141,7 @@ fn last_child(children: &[u32]) -> Option<u32>
     children.get(children.len().saturating_sub(1)).copied()
 }
 
-// The last item of a sequence, if the node of this number is one.
+// The last item of a sequence, if the node with this number is one.
 fn last_of_seq(core: &Core, node: u32) -> Option<u32>
     ensures { result ≡ spec.last_of_seq (slice_get core.now.nodes node) }
 {
@@ -157,7 +157,7 @@ fn last_of_seq(core: &Core, node: u32) -> Option<u32>
     }
 }
 
-/// The last item of a sequence, through sequences.
+/// The last item of a sequence, through nested sequences.
 #[tactic(auto, using(crate::proofs::LastItem::goes_on, crate::proofs::LastItem::stops, crate::proofs::LastItem::none_left), unfolding(crate::specs::Parts::last_value))]
 pub fn last_value(core: &Core, node: u32) -> u32
     ensures { result ≡ spec.last_value core.now node }
@@ -172,7 +172,7 @@ pub fn last_value(core: &Core, node: u32) -> u32
     at
 }
 
-/// The node that a part shows: of a body its last item, through sequences.
+/// The node that a part shows: for a body its last item, through nested sequences.
 #[tactic(auto, unfolding(crate::specs::Parts::shown_node))]
 pub fn shown_node(core: &Core, role: Role, node: u32) -> u32
     ensures { result ≡ spec.shown_node core.now role node }
@@ -236,7 +236,7 @@ fn push_seen(alloc: Global, out: &mut Vec<u8>, scene: &Scene, node: u32) -> Resu
     }
 }
 
-// Appends the line on a part.
+// Appends the line about a part.
 #[tactic(auto, unfolding(crate::specs::Parts::part_line))]
 fn push_part_line(
     alloc: Global,
@@ -256,7 +256,7 @@ fn push_part_line(
     push_bytes(out, b"\n")
 }
 
-// Whether a child is no part of its node.
+// Whether a child is not a part of its node.
 fn left_out(incomplete: bool, role: Role) -> bool
     ensures { result ≡ spec.left_out incomplete role }
 {
@@ -275,7 +275,7 @@ fn left_out(incomplete: bool, role: Role) -> bool
     }
 }
 
-// Appends the line on a child, if it is a part.
+// Appends the line about a child, if it is a part.
 fn push_one_part(
     alloc: Global,
     out: &mut Vec<u8>,
@@ -293,7 +293,8 @@ fn push_one_part(
     }
 }
 
-/// Appends the lines on the parts of a node. Of a node of a constructor that has not set all fields the origin is none.
+/// Appends the lines about the parts of a node. The origin is not a part if the node belongs to a constructor that has
+/// not set all fields.
 #[tactic(auto, unfolding(crate::specs::Parts::part_lines))]
 pub fn push_part_lines(
     alloc: Global,

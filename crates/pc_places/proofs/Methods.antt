@@ -1,4 +1,4 @@
--- The nodes of a method lie within those of the core.
+-- The nodes of a method are within those of the core.
 use Rattle.std.specs.Prelude.{◌≡◌, ◌≤◌, ◌-◌, ℕ, length, Option, Some, None, slice_get, refl}
 use Rattle.std.proofs.Common.{arith}
 use Rattle.pc_core.specs.CoreData.{CoreData}

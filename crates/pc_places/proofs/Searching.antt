@@ -14,7 +14,7 @@ module _ (tokens : List Token) (ascend : Ascends (starts tokens)) (place middle 
   start_of : (k : ℕ) (t : Token) → slice_get tokens k ≡ Some t → slice_get (starts tokens) k ≡ Some t.span.start
   start_of k t e = get_map (λ (x : Token). x.span.start) tokens k t e
 
-  -- What is not after the token in the middle starts no later.
+  -- Tokens up to the one in the middle start no later.
   pub lower_half : at.span.start ≤ place → (k : ℕ) (t : Token) → k < middle + 1 → slice_get tokens k ≡ Some t → t.span.start ≤ place
   lower_half low k t l e =
       elim (leb_tells middle k) [
@@ -27,7 +27,7 @@ module _ (tokens : List Token) (ascend : Ascends (starts tokens)) (place middle 
             omega (arith, rises, low)
       ]
 
-  -- What is not before it starts no earlier.
+  -- Tokens from it on start no earlier.
   pub upper_half : place < at.span.start → (k : ℕ) (t : Token) → middle ≤ k → slice_get tokens k ≡ Some t → place < t.span.start
   upper_half high k t l e =
       elim (leb_tells k middle) [

@@ -1,4 +1,4 @@
--- The kinds of nodes, each with what it names.
+-- The kinds of nodes, each with what it refers to.
 use Rattle.std.specs.Prelude.{◌++◌, Option, Some, None, codes, decimal, slice_get}
 use Rattle.pc_core.specs.CoreData.{CoreData}
 use Rattle.pc_core.specs.declared.nodes.NodeKind.{NodeKind}

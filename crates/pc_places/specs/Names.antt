@@ -1,4 +1,4 @@
--- What the core has no column for: where the name of a slot stands in the source, and in which entity a method is written.
+-- What the core does not record: where the name of a slot is in the source, and in which entity a method is written.
 use Rattle.std.specs.Prelude.{ℕ, ◌-◌, Bool, false, ◌&&◌, List, [], length, Option, Some, None, nat_eq, nat_lt, nat_le, if◌then◌else◌, slice_get, slice_range, find, count_by}
 use Rattle.pc_caps.specs.declared.span.Span.{Span}
 use Rattle.pc_core.specs.CoreData.{CoreData}
@@ -17,12 +17,12 @@ use Rattle.pc_token.specs.declared.kinds.Token.{Token}
 
 -- ---- the names of slots
 
--- A node defines the slot of this index in its method.
+-- A node defines the slot with this index in its method.
 abbrev pub defines : ℕ → NodeKind → Bool
 defines s (node.Define i) = nat_eq i s
 defines s k = false
 
--- The node by which a method defines the slot of this index.
+-- The node by which a method defines the slot with this index.
 abbrev pub definition_of : CoreData → Method → ℕ → Option Node
 definition_of core x s = find (λ n. defines s n.kind) (own_nodes core x)
 
@@ -43,20 +43,20 @@ param_place x s = do
   p ← slice_get x.params (s - 1)
   Some p.span
 
--- Where the name of the slot of index s in method x stands. `this` has none.
+-- The span of the name of the slot with index s in method x. `this` has none.
 abbrev pub name_place : CoreData → List Token → Method → ℕ → SlotKind → Option Span
 name_place core tokens x s slot.This = None
 name_place core tokens x s slot.Param = param_place x s
 name_place core tokens x s slot.Let = local_place core tokens x s
 name_place core tokens x s slot.Var = local_place core tokens x s
 
--- Where the name of slot number k stands.
+-- The span of the name of slot number k.
 abbrev pub slot_place : CoreData → List Token → ℕ → Slot → Option Span
 slot_place core tokens k y = do
   x ← slice_get core.methods y.method
   name_place core tokens x (k - x.first_slot) y.kind
 
--- The bytes of the source at a place.
+-- The bytes of the source in a span.
 abbrev pub text_at : Text → Span → Text
 text_at source place = if nat_le place.start place.end && nat_le place.end (length source) then slice_range source place.start place.end else []
 
@@ -66,7 +66,7 @@ text_at source place = if nat_le place.start place.end && nat_le place.end (leng
 abbrev pub starts_by : ℕ → EntityDef → Bool
 starts_by place x = nat_le x.span.start place
 
--- The entity in whose text a method is written: entities stand in the order of the text, and it is the last one whose name does
--- not start after the method's.
+-- The entity in whose text a method is written: entities are in the order of the text, and it is the last one whose
+-- name does not start after the method's.
 abbrev pub writer_of : CoreData → Method → ℕ
 writer_of core x = count_by (starts_by x.span.start) core.entities - 1

@@ -48,7 +48,7 @@ method_kind x = codes "m " ++ (decimal x.entity ++ (blank ++ (method_word x.kind
 abbrev pub firsts_text : Method → Text
 firsts_text x = decimal x.first_slot ++ (blank ++ (decimal x.first_node ++ blank))
 
--- A name that ends its line.
+-- A name at the end of its line.
 abbrev pub last_name : CoreData → ℕ → Text
 last_name core name = blank ++ (name_text (slice_get core.names name) ++ line_end)
 
@@ -56,7 +56,7 @@ last_name core name = blank ++ (name_text (slice_get core.names name) ++ line_en
 abbrev pub method_line : CoreData → Method → Text
 method_line core x = method_kind x ++ (place_text x.span ++ (firsts_text x ++ (taken_text (writer_of core x) x.entity ++ last_name core x.name)))
 
--- A place in the source and what stands there, or no place and no name.
+-- A span in the source and the text there, or no span and no name.
 abbrev pub named_place : Text → Option Span → Text
 named_place source None = codes "0 0 -"
 named_place source (Some place) = place_text place ++ text_at source place
@@ -78,7 +78,7 @@ node_words x = blank ++ (decimal x.method ++ (blank ++ (decimal x.depth ++ (blan
 abbrev pub node_line : CoreData → Node → Text
 node_line core x = codes "n " ++ (kind_text core x.kind ++ (node_words x ++ (numbers_text x.children ++ line_end)))
 
--- ---- all of each sort
+-- ---- all lines of each kind
 
 abbrev pub entities_text : List EntityDef → Text
 entities_text [] = []
@@ -106,19 +106,19 @@ abbrev pub nodes_text : CoreData → List Node → Text
 nodes_text core [] = []
 nodes_text core (x ∷ xs) = node_line core x ++ nodes_text core xs
 
--- ---- the whole
+-- ---- the whole text
 
 -- `rcap-places 1 E F M S N`
 abbrev pub head_line : (entities fields methods slots nodes : ℕ) → Text
 head_line entities fields methods slots nodes =
     codes "rcap-places 1 " ++ (decimal entities ++ (blank ++ (decimal fields ++ (blank ++ (decimal methods ++ (blank ++ (decimal slots ++ (blank ++ (decimal nodes ++ line_end)))))))))
 
--- The same of a core with this many fields.
+-- The first line for a core with this many fields.
 abbrev pub head_of : CoreData → ℕ → Text
 head_of core fields = head_line (length core.entities) fields (length core.methods) (length core.slots) (length core.nodes)
 
--- The counts, and then a line for each entity, field, method, slot and node, in the order of the core. The core stands for the
--- source of these tokens.
+-- The counts, and then a line for each entity, field, method, slot and node, in the order of the core. The core is that
+-- of the source with these tokens.
 abbrev pub places_text : Text → List Token → CoreData → Text
 places_text source tokens core =
     head_of core (length (fields_from 0 core.entities))
@@ -129,6 +129,6 @@ places_text source tokens core =
 abbrev pub HasTokens : Text → Type 0
 HasTokens source = (tokens : List Token) × TokenList source tokens
 
--- This is the text of the places of a core that stands for this source.
+-- This is the text of the places of a core, which is that of this source.
 abbrev pub IsPlacesText : Text → CoreData → Text → Type 0
 IsPlacesText source core text = (tokens : List Token) × TokenList source tokens × (text ≡ places_text source tokens core)

@@ -1,4 +1,4 @@
-//! The kinds of nodes, with what they name.
+//! The kinds of nodes, with what they refer to.
 ghost use Rattle.std.specs.Prelude.{◌≡◌, ◌++◌, OnOk, decimal, slice_get};
 ghost use Rattle.pc_places.specs.Kinds as spec;
 
@@ -6,7 +6,7 @@ use itoa::Buffer;
 use pc_core::{Core, NodeKind};
 use std::alloc::AllocError;
 
-/// Puts a number at the end.
+/// Appends a number.
 pub fn push_number(text: &mut Vec<u8>, number: u32) -> Result<(), AllocError>
     ensures { OnOk result (text.new.items ≡ text.old.items ++ decimal number) }
 {
@@ -14,7 +14,7 @@ pub fn push_number(text: &mut Vec<u8>, number: u32) -> Result<(), AllocError>
     text.extend_from_slice(buffer.format(number).as_bytes())
 }
 
-/// Puts the name of this number at the end.
+/// Appends the name with this number.
 pub fn push_name(text: &mut Vec<u8>, core: &Core, name: u32) -> Result<(), AllocError>
     ensures { OnOk result (text.new.items ≡ text.old.items ++ spec.name_text (slice_get core.now.names name)) }
 {
@@ -24,7 +24,7 @@ pub fn push_name(text: &mut Vec<u8>, core: &Core, name: u32) -> Result<(), Alloc
     }
 }
 
-// Puts a word and the number that it names at the end.
+// Appends a word and the number to which it refers.
 fn push_numbered(text: &mut Vec<u8>, word: &[u8], number: u32) -> Result<(), AllocError>
     ensures { OnOk result (text.new.items ≡ text.old.items ++ (word.now ++ decimal number)) }
 {
@@ -32,7 +32,7 @@ fn push_numbered(text: &mut Vec<u8>, word: &[u8], number: u32) -> Result<(), All
     push_number(text, number)
 }
 
-// Puts a word and the name that it names at the end.
+// Appends a word and the name to which it refers.
 fn push_named(text: &mut Vec<u8>, word: &[u8], core: &Core, name: u32) -> Result<(), AllocError>
     ensures { OnOk result (text.new.items ≡ text.old.items ++ (word.now ++ spec.name_text (slice_get core.now.names name))) }
 {
@@ -40,7 +40,7 @@ fn push_named(text: &mut Vec<u8>, word: &[u8], core: &Core, name: u32) -> Result
     push_name(text, core, name)
 }
 
-/// Puts the kind of a node at the end, with what it names.
+/// Appends the kind of a node, with what it refers to.
 pub fn push_kind(text: &mut Vec<u8>, core: &Core, kind: &NodeKind) -> Result<(), AllocError>
     ensures { OnOk result (text.new.items ≡ text.old.items ++ spec.kind_text core.now kind.now) }
 {

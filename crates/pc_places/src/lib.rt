@@ -1,8 +1,8 @@
-//! The text of a core's places: its entities, fields, methods, slots and nodes, each with its name and its place in the source.
-//! `docs/places.md` says what stands in it, `specs/Text.antt` defines it.
+//! The text of a core's places: its entities, fields, methods, slots and nodes, each with its name and its place in the
+//! source. `docs/places.md` describes the text, `specs/Text.antt` defines it.
 //!
-//! Proved: `write_places` gives the whole text, byte for byte. A name is that of the core, or stands at its place in the source;
-//! the places and children of nodes are the core's.
+//! Proved: `write_places` returns the whole text, byte for byte. A name is that of the core, or is at its place in the
+//! source; the places and children of nodes are those of the core.
 #![tactic(auto)]
 
 mod kinds;

@@ -1,4 +1,4 @@
-//! A line of each sort.
+//! A line of each kind.
 ghost use Rattle.std.specs.Prelude.{◌≡◌, ◌++◌, ◌-◌, OnOk, count_by};
 ghost use Rattle.pc_lists.specs.Places.{Ascends};
 ghost use Rattle.pc_places.specs.Names as names;
@@ -13,7 +13,7 @@ use pc_core::{Core, EntityDef, FieldInfo, Method, Node, Slot};
 use pc_token::Token;
 use std::alloc::{AllocError, Global};
 
-/// Puts the first line at the end.
+/// Appends the first line.
 pub fn push_head(
     alloc: Global,
     text: &mut Vec<u8>,
@@ -30,7 +30,7 @@ pub fn push_head(
     text.extend_from_slice(line.as_bytes())
 }
 
-// Puts a place at the end, with a blank after it.
+// Appends a place, with a blank after it.
 fn push_place(alloc: Global, text: &mut Vec<u8>, place: Span) -> Result<(), AllocError>
     ensures { OnOk result (text.new.items ≡ text.old.items ++ spec.place_text place) }
 {
@@ -38,7 +38,7 @@ fn push_place(alloc: Global, text: &mut Vec<u8>, place: Span) -> Result<(), Allo
     text.extend_from_slice(words.as_bytes())
 }
 
-/// Puts the line of an entity at the end.
+/// Appends the line of an entity.
 pub fn push_entity(alloc: Global, text: &mut Vec<u8>, entity: &EntityDef) -> Result<(), AllocError>
     ensures { OnOk result (text.new.items ≡ text.old.items ++ spec.entity_line entity.now) }
 {
@@ -51,7 +51,7 @@ pub fn push_entity(alloc: Global, text: &mut Vec<u8>, entity: &EntityDef) -> Res
     text.extend_from_slice(b"\n")
 }
 
-// Puts what stands before the name of a field at the end.
+// Appends what comes before the name of a field.
 fn push_field_words(
     alloc: Global,
     text: &mut Vec<u8>,
@@ -67,7 +67,7 @@ fn push_field_words(
     text.extend_from_slice(words.as_bytes())
 }
 
-/// Puts the line of a field at the end. It comes with the number of the entity that it belongs to.
+/// Appends the line of a field, which is given with the number of its entity.
 pub fn push_field(
     alloc: Global,
     text: &mut Vec<u8>,
@@ -94,7 +94,7 @@ fn count_started(entities: &[EntityDef], place: u32) -> usize
     count
 }
 
-// Puts the number of the entity from which a method is taken over at the end, or `-` if it is its own.
+// Appends the number of the entity from which a method is taken over, or `-` if it is its own.
 fn push_taken(text: &mut Vec<u8>, core: &Core, method: &Method) -> Result<(), AllocError>
     ensures { OnOk result (text.new.items ≡ text.old.items ++ spec.taken_text (names.writer_of core.now method.now) method.now.entity) }
 {
@@ -107,7 +107,7 @@ fn push_taken(text: &mut Vec<u8>, core: &Core, method: &Method) -> Result<(), Al
     }
 }
 
-// Puts the entity and the kind of a method at the end.
+// Appends the entity and the kind of a method.
 fn push_method_kind(alloc: Global, text: &mut Vec<u8>, method: &Method) -> Result<(), AllocError>
     ensures { OnOk result (text.new.items ≡ text.old.items ++ spec.method_kind method.now) }
 {
@@ -117,7 +117,7 @@ fn push_method_kind(alloc: Global, text: &mut Vec<u8>, method: &Method) -> Resul
     text.extend_from_slice(words.as_bytes())
 }
 
-// Puts the first slot and the first node of a method at the end.
+// Appends the first slot and the first node of a method.
 fn push_firsts(alloc: Global, text: &mut Vec<u8>, method: &Method) -> Result<(), AllocError>
     ensures { OnOk result (text.new.items ≡ text.old.items ++ spec.firsts_text method.now) }
 {
@@ -125,7 +125,7 @@ fn push_firsts(alloc: Global, text: &mut Vec<u8>, method: &Method) -> Result<(),
     text.extend_from_slice(words.as_bytes())
 }
 
-// Puts a name at the end that ends its line.
+// Appends a name at the end of its line.
 fn push_last_name(text: &mut Vec<u8>, core: &Core, name: u32) -> Result<(), AllocError>
     ensures { OnOk result (text.new.items ≡ text.old.items ++ spec.last_name core.now name) }
 {
@@ -134,7 +134,7 @@ fn push_last_name(text: &mut Vec<u8>, core: &Core, name: u32) -> Result<(), Allo
     text.extend_from_slice(b"\n")
 }
 
-/// Puts the line of a method at the end.
+/// Appends the line of a method.
 pub fn push_method(
     alloc: Global,
     text: &mut Vec<u8>,
@@ -162,7 +162,7 @@ fn text_at(source: &[u8], place: Span) -> &[u8]
     }
 }
 
-// Puts a place and what the source has there at the end, or that there is none.
+// Appends a span and the text of the source there, or that there is none.
 fn push_named_place(
     alloc: Global,
     text: &mut Vec<u8>,
@@ -180,7 +180,7 @@ fn push_named_place(
     }
 }
 
-/// Puts the line of the slot of this number at the end.
+/// Appends the line of the slot with this number.
 pub fn push_slot(
     alloc: Global,
     text: &mut Vec<u8>,
@@ -201,7 +201,7 @@ pub fn push_slot(
     text.extend_from_slice(b"\n")
 }
 
-// Puts numbers at the end, each after a blank.
+// Appends numbers, each after a blank.
 fn push_numbers(text: &mut Vec<u8>, numbers: &[u32]) -> Result<(), AllocError>
     ensures { OnOk result (text.new.items ≡ text.old.items ++ spec.numbers_text numbers.now) }
 {
@@ -212,7 +212,7 @@ fn push_numbers(text: &mut Vec<u8>, numbers: &[u32]) -> Result<(), AllocError>
     Ok(())
 }
 
-// Puts the method, the depth and the place of a node at the end.
+// Appends the method, the depth and the place of a node.
 fn push_node_words(alloc: Global, text: &mut Vec<u8>, node: &Node) -> Result<(), AllocError>
     ensures { OnOk result (text.new.items ≡ text.old.items ++ spec.node_words node.now) }
 {
@@ -222,7 +222,7 @@ fn push_node_words(alloc: Global, text: &mut Vec<u8>, node: &Node) -> Result<(),
     text.extend_from_slice(words.as_bytes())
 }
 
-/// Puts the line of a node at the end.
+/// Appends the line of a node.
 pub fn push_node(
     alloc: Global,
     text: &mut Vec<u8>,

@@ -1,4 +1,4 @@
-//! Where the names of slots stand in the source.
+//! The spans of the names of slots in the source.
 ghost use Rattle.std.specs.Prelude.{◌≡◌, ◌+◌, ◌<◌, ◌≤◌, ◌^◌, find, length, slice_get, option_copied};
 ghost use Rattle.pc_core.specs.Lookup.{node_end, own_nodes};
 ghost use Rattle.pc_lists.specs.Places.{Ascends};
@@ -10,7 +10,7 @@ use pc_caps::Span;
 use pc_core::{Core, Method, Node, NodeKind, Slot, SlotKind};
 use pc_token::Token;
 
-// Whether a node defines the slot of this index.
+// Whether a node defines the slot with this index.
 fn defines(kind: &NodeKind, slot: u32) -> bool
     ensures { result ≡ spec.defines slot kind.now }
 {
@@ -42,7 +42,7 @@ fn defines(kind: &NodeKind, slot: u32) -> bool
     }
 }
 
-// The first of these nodes that defines the slot of this index.
+// The first of these nodes that defines the slot with this index.
 fn first_definition(nodes: &[Node], slot: u32) -> Option<&Node>
     ensures { option_copied result ≡ find (λ n. spec.defines slot n.kind) nodes.now }
 {
@@ -100,7 +100,7 @@ fn token_after(tokens: &[Token], place: u32) -> Option<&Token>
     token_at(tokens, count_until(tokens, place))
 }
 
-// The place of the name of the local of this index in a method.
+// The span of the name of the local with this index in a method.
 fn local_place(core: &Core, tokens: &[Token], method: &Method, slot: u32) -> Option<Span>
     requires ascend { Ascends (starts tokens.now) }
     requires within { node_end method.now.first_node method.now.body ≤ length core.now.nodes }
@@ -113,7 +113,7 @@ fn local_place(core: &Core, tokens: &[Token], method: &Method, slot: u32) -> Opt
     Some(token.span)
 }
 
-// The place of the name of the parameter of this index in a method.
+// The span of the name of the parameter with this index in a method.
 fn param_place(method: &Method, slot: u32) -> Option<Span>
     ensures { result ≡ spec.param_place method.now slot }
 {
@@ -121,7 +121,7 @@ fn param_place(method: &Method, slot: u32) -> Option<Span>
     Some(param.span)
 }
 
-/// The place of the name of the slot of this number. `None` iff it has none.
+/// The span of the name of the slot with this number. `None` iff it has none.
 pub fn slot_place(core: &Core, tokens: &[Token], number: u32, slot: Slot) -> Option<Span>
     requires { Ascends (starts tokens.now) }
     ensures { result ≡ spec.slot_place core.now tokens.now number slot }

@@ -13,7 +13,7 @@ use pc_text_order::tokens_are_in_order;
 use pc_token::Token;
 use std::alloc::{AllocError, Global};
 
-// Puts the fields of an entity after those of others, each with the entity's number.
+// Appends the fields of an entity to those of others, each with the entity's number.
 fn add_fields(
     all: &mut List<(u32, FieldInfo)>,
     entity: u32,
@@ -41,7 +41,7 @@ fn list_fields(alloc: Global, entities: &[EntityDef]) -> Result<List<(u32, Field
     Ok(all)
 }
 
-// Puts the lines of the entities at the end.
+// Appends the lines of the entities.
 fn push_entities(alloc: Global, text: &mut Vec<u8>, core: &Core) -> Result<(), AllocError>
     ensures { OnOk result (text.new.items ≡ text.old.items ++ spec.entities_text core.now.entities) }
 {
@@ -51,7 +51,7 @@ fn push_entities(alloc: Global, text: &mut Vec<u8>, core: &Core) -> Result<(), A
     Ok(())
 }
 
-// Puts the lines of fields at the end.
+// Appends the lines of fields.
 fn push_fields(
     alloc: Global,
     text: &mut Vec<u8>,
@@ -66,7 +66,7 @@ fn push_fields(
     Ok(())
 }
 
-// Puts the lines of the methods at the end.
+// Appends the lines of the methods.
 fn push_methods(alloc: Global, text: &mut Vec<u8>, core: &Core) -> Result<(), AllocError>
     ensures { OnOk result (text.new.items ≡ text.old.items ++ spec.methods_text core.now core.now.methods) }
 {
@@ -76,7 +76,7 @@ fn push_methods(alloc: Global, text: &mut Vec<u8>, core: &Core) -> Result<(), Al
     Ok(())
 }
 
-// Puts the lines of the slots at the end.
+// Appends the lines of the slots.
 fn push_slots(
     alloc: Global,
     text: &mut Vec<u8>,
@@ -96,7 +96,7 @@ fn push_slots(
     Ok(())
 }
 
-// Puts the lines of the nodes at the end.
+// Appends the lines of the nodes.
 fn push_nodes(alloc: Global, text: &mut Vec<u8>, core: &Core) -> Result<(), AllocError>
     ensures { OnOk result (text.new.items ≡ text.old.items ++ spec.nodes_text core.now core.now.nodes) }
 {
@@ -106,7 +106,7 @@ fn push_nodes(alloc: Global, text: &mut Vec<u8>, core: &Core) -> Result<(), Allo
     Ok(())
 }
 
-// The text of the places of a core that stands for this source, whose tokens these are.
+// The text of the places of a core, which is that of this source with these tokens.
 fn write_all(
     alloc: Global,
     source: &[u8],
@@ -128,8 +128,8 @@ fn write_all(
     Ok(List::from_vec(text))
 }
 
-/// The text of the places of a core that stands for this source of at most 1,048,576 bytes, which has tokens: a line with the counts,
-/// and then one for each entity, field, method, slot and node, in the order of the core.
+/// The text of the places of a core, which is that of this source of at most 1,048,576 bytes, which has tokens: a line
+/// with the counts, and then one for each entity, field, method, slot and node, in the order of the core.
 pub fn write_places(alloc: Global, source: &[u8], core: &Core) -> Result<List<u8>, AllocError>
     requires short { length source.now ≤ bytes_limit }
     requires has_tokens { spec.HasTokens source.now }

@@ -34,7 +34,7 @@ pub fn entity_word(kind: EntityKind) -> &'static str
     }
 }
 
-/// The word of a field, by whether it is a `let`.
+/// The word of a field, depending on whether it is a `let`.
 pub fn field_word(fixed: bool) -> &'static str
     ensures { result.now ≡ spec.field_word fixed }
 {

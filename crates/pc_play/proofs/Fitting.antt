@@ -1,4 +1,4 @@
--- How long the line of a list is that is one of turns: 11 bytes a turn at most.
+-- How long the line of a list of turns is: at most 11 bytes a turn.
 use Rattle.std.proofs.Common.{◌≡◌, ℕ, zero, suc, ◌+◌, ◌-◌, ◌*◌, ◌<◌, ◌≤◌, ◌^◌, Bool, true, false, nat_eq, List, [], ◌∷◌, ◌++◌, length, replicate, inl, inr, refl, sym, ap, subst, ◌∙◌, arith, length-append}
 use Rattle.std.proofs.lemmas.Fmt.{length-decimal-le}
 use Rattle.std.specs.Prelude.{decimal, if◌then◌else◌, ◌⊎◌}

@@ -10,7 +10,7 @@ use Rattle.pc_run.specs.declared.report.RunFault.{RunFault}
 use Rattle.pc_run.specs.Ends.{IsAnswer, WritesText}
 use Rattle.pc_run.specs.Underway.{Reached}
 
--- The run of the list of the seed came to configuration c with this progress, the list has this number of steps, and none is
+-- The run of the seed's list came to configuration c with this progress; the list has this number of steps, and none is
 -- left.
 pub record IsThrough (core : CoreData) (seed : ℕ) (c : Configuration) (progress : Progress) (steps : ℕ) : Type 0 where
   pub list : List ℕ
@@ -18,7 +18,7 @@ pub record IsThrough (core : CoreData) (seed : ℕ) (c : Configuration) (progres
   pub reached : Reached core list c [] progress
   pub steps_are : steps ≡ length list
 
--- A play answers and writes what the run of the list of its seed does.
+-- A play returns and writes what the run of its seed's list does.
 pub record Played (core : CoreData) (seed : ℕ) (out : Change) (result : Result Report RunFault) : Type 0 where
   pub list : List ℕ
   pub chosen : Chosen core seed list

@@ -1,9 +1,9 @@
 //! Plays: a machine that chooses its steps by a seed, from the start of a program to the end of its list.
-//! `docs/schedules.md` says what is chosen.
+//! `docs/schedules.md` explains what is chosen.
 //!
-//! Proved: `play` writes what the run of the seed's list writes, with the same answers and faults as `run` of `pc_run`; it
-//! keeps no list. `play_through` takes the steps alone, and leaves the machine and how far it came. The line of a seed's list fits
-//! a schedule (`lines_fit`).
+//! Proved: `play` writes what the run of the seed's list writes, with the same results and faults as `run` of `pc_run`;
+//! it keeps no list. `play_through` only takes the steps, and returns the machine and its progress. The line of a
+//! seed's list fits a schedule (`lines_fit`).
 #![tactic(auto)]
 
 mod laws;

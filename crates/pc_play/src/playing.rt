@@ -14,7 +14,7 @@ use pc_machine::{Machine, Outcome, start};
 use pc_run::{Counts, Progress, Report, RunFault, put_run};
 use std::alloc::{AllocError, Global};
 
-/// A machine that took the steps of the list of a seed.
+/// A machine that has taken the steps of a seed's list.
 #[derive(Drop)]
 pub struct Through<'p> {
     /// The machine after them.
@@ -25,7 +25,8 @@ pub struct Through<'p> {
     pub steps: u32,
 }
 
-// Takes all steps that are chosen, from the start on, and answers how far the run came and how many steps there were.
+// Takes all steps that are chosen, from the start on, and returns the progress of the run and how many steps there
+// were.
 fn take_steps(
     machine: &mut Machine<'_>,
     chooser: &mut Chooser,
@@ -62,8 +63,8 @@ fn take_steps(
     Ok((Progress::Going(counts), MOST_STEPS))
 }
 
-/// Starts a machine and lets it take the steps of the list of a seed. Over no list of actors does a step of the core lack
-/// anything.
+/// Starts a machine and lets it take the steps of a seed's list. No step of the core lacks anything, over any list of
+/// actors.
 pub fn play_through<'p>(alloc: Global, core: &'p Core, seed: u64) -> Result<Through<'p>, AllocError>
     requires never_lacks { NeverLacks core.now }
     ensures through { IfOk result (λ play. IsThrough core.now seed play.machine.configuration play.progress play.steps) }
@@ -79,15 +80,16 @@ pub fn play_through<'p>(alloc: Global, core: &'p Core, seed: u64) -> Result<Thro
     })
 }
 
-/// Starts a machine, lets it take the steps of the list of a seed, and then writes what was printed and the line of the run's
-/// numbers, as `run` does for that list. No list is kept. Over no list of actors does a step of the core lack anything.
+/// Starts a machine, lets it take the steps of a seed's list, and then writes what was printed and the line of the
+/// run's numbers, as `run` does for that list. No list is kept. No step of the core lacks anything, over any list of
+/// actors.
 ///
 /// # Errors
 /// - `TooLong(n)` if the n-th step of the list, counted from 1, would make a text that is too long. The texts that were
 ///   printed before it are written, without the numbers.
-/// - `Sink` only if the sink's count of failures rose in this call, or stands at its last value. A prefix of the text was
+/// - `Sink` only if the sink's count of failures rose in this call, or is at its last value. A prefix of the text was
 ///   written, and nothing after the piece that failed.
-/// - `Memory` when out of memory. A prefix of the text was written.
+/// - `Memory` if memory ran out. A prefix of the text was written.
 pub fn play<O: Sink>(alloc: Global, core: &Core, seed: u64, out: &mut O) -> Result<Report, RunFault>
     requires never_lacks { NeverLacks core.now }
     ensures played { Played core.now seed (change (O.written out.old) (O.written out.new) (O.faults out.old) (O.faults out.new)) result }

@@ -22,7 +22,7 @@ use Rattle.pc_print.proofs.Pieced.{joined}
 use Rattle.pc_print.specs.Printing as text
 use Rattle.pc_print.specs.Printing.{printed}
 
--- `a` and then what becomes `y` before the rest
+-- `a` and then what becomes `y` together with the rest
 then : (a x r y : List ℕ) → x ++ r ≡ y → (a ++ x) ++ r ≡ a ++ y
 then a x r y h = append_assoc a x r ∙ ap (λ l. a ++ l) h
 

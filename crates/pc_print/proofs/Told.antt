@@ -1,4 +1,4 @@
--- What the parts of an expression are printed as, from the value that was matched.
+-- What is printed for the parts of an expression, by the value that was matched.
 use Rattle.std.proofs.Common.{◌≡◌, Bool, List, ◌++◌, Option, codes, sym, ap, ◌∙◌, append_assoc}
 use Rattle.std.specs.declared.boxed.Box.{Box}
 use Rattle.std.specs.declared.alloc.Global.{Global}

@@ -1,4 +1,4 @@
--- One tree and its printing.
+-- One tree and its printed text.
 use Rattle.std.specs.Prelude.{◌≡◌, List, [], ◌∷◌, ◌++◌, Some, None, false, codes}
 use Rattle.pc_tree.specs.Tree as t
 use Rattle.pc_tree.specs.declared.names.Name.{Name}

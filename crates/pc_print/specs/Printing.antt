@@ -14,7 +14,7 @@ use Rattle.pc_grammar.specs.Asking.{local_word, truth_word}
 use Rattle.pc_grammar.specs.SpellsFile.{method_word, entity_word}
 use Rattle.pc_print.specs.Escapes.{all_escaped}
 
--- a line's end
+-- the end of a line
 abbrev pub feed : List ℕ
 feed = 10 ∷ []
 
@@ -143,7 +143,7 @@ abbrev mutual
   one_item (t.local f m ty e sp) = word_text (local_word f) ++ (codes " " ++ (m.text ++ (typed ty ++ (codes " = " ++ expr e))))
   one_item (t.plain e) = expr e
 
--- ---- members: each begins behind a line's end
+-- ---- members: each begins after the end of a line
 
 -- the items of a body, each on a line of its own
 abbrev pub lines : t.Items → List ℕ
@@ -206,7 +206,7 @@ provides (m ∷ n ∷ ms) = codes " is (" ++ (names (m ∷ n ∷ ms) ++ codes ")
 abbrev pub entity : t.Entity → List ℕ
 entity e = word_text (entity_word e.kind) ++ (cap e.cap ++ (codes " " ++ (e.name.text ++ (provides e.provides ++ (fields e.fields ++ methods e.methods)))))
 
--- each behind an empty line
+-- each after an empty line
 abbrev pub more_entities : List t.Entity → List ℕ
 more_entities [] = []
 more_entities (e ∷ es) = feed ++ (feed ++ (entity e ++ more_entities es))

@@ -1,4 +1,4 @@
-//! Expressions, items and sequences, each put at the end of a text, all on one line.
+//! Expressions, items and sequences, each appended to a text, all on one line.
 ghost use Rattle.std.specs.Prelude.{◌≡◌, ◌++◌, ◌∷◌, [], OnOk, codes, if◌then◌else◌};
 ghost use Rattle.pc_print.specs.Escapes.{all_escaped};
 ghost use Rattle.pc_print.specs.Printing as text;
@@ -12,7 +12,7 @@ use crate::leaves::{
 use pc_tree::{Arm, Expr, Item, Name, Op, Seq, Suffix};
 use std::alloc::{AllocError, Global};
 
-// The bytes of a text literal's value, as they are written.
+// The bytes of a text literal's value, as they are printed.
 fn push_value(out: &mut Vec<u8>, bytes: &[u8]) -> Result<(), AllocError>
     ensures { OnOk result (out.new.items ≡ out.old.items ++ all_escaped bytes.now) }
 {
@@ -50,7 +50,7 @@ fn push_consume(out: &mut Vec<u8>, name: &Name) -> Result<(), AllocError>
     out.extend_from_slice(name.text.as_slice())
 }
 
-// An operator between blanks, unless the first operand comes.
+// An operator between spaces, unless the first operand comes next.
 fn push_op(out: &mut Vec<u8>, first: bool, op: Op) -> Result<(), AllocError>
     ensures { OnOk result (out.new.items ≡ out.old.items ++ (if first then [] else (32 ∷ (text.op_text op ++ 32 ∷ [])))) }
 {
@@ -63,7 +63,7 @@ fn push_op(out: &mut Vec<u8>, first: bool, op: Op) -> Result<(), AllocError>
     }
 }
 
-// The word of an arm.
+// The keyword of an arm.
 fn push_head(out: &mut Vec<u8>, first: bool) -> Result<(), AllocError>
     ensures { OnOk result (out.new.items ≡ out.old.items ++ (if first then codes "if " else codes " elseif ")) }
 {
@@ -117,7 +117,7 @@ pub fn push_expr(alloc: Global, out: &mut Vec<u8>, expression: &Expr) -> Result<
     }
 }
 
-// A sequence with what is written before and behind it.
+// A sequence with what is printed before and after it.
 #[cycle(print)]
 fn push_enclosed(
     alloc: Global,
@@ -207,7 +207,7 @@ fn push_arm(alloc: Global, out: &mut Vec<u8>, arm: &Arm) -> Result<(), AllocErro
     push_enclosed(alloc, out, b"", &arm.body, b"")
 }
 
-// What ends an `if`, behind its arms.
+// The end of an `if`, after its arms.
 #[cycle(print)]
 fn push_other(alloc: Global, out: &mut Vec<u8>, other: &Option<Box<Seq>>) -> Result<(), AllocError>
     ensures { OnOk result (out.new.items ≡ out.old.items ++ (text.other (other_view other.now) ++ codes " end")) }

@@ -1,4 +1,4 @@
-//! Entities and files, each put at the end of a text.
+//! Entities and files, each appended to a text.
 ghost use Rattle.std.specs.Prelude.{◌≡◌, ◌++◌, map, OnOk, IfOk};
 ghost use Rattle.pc_print.specs.Printing as text;
 ghost use Rattle.pc_token.specs.Words.{word_text};
@@ -11,7 +11,7 @@ use pc_caps::List;
 use pc_tree::{Entity, EntityKind, File, Name};
 use std::alloc::{AllocError, Global};
 
-// The names behind `is`.
+// The names after `is`.
 fn push_names(out: &mut Vec<u8>, names: &[Name]) -> Result<(), AllocError>
     ensures { OnOk result (out.new.items ≡ out.old.items ++ text.names names.now) }
 {
@@ -24,7 +24,7 @@ fn push_names(out: &mut Vec<u8>, names: &[Name]) -> Result<(), AllocError>
     Ok(())
 }
 
-// What follows an entity's name, where it has an `is` list.
+// What follows an entity's name, if it has an `is` list.
 fn push_provides(out: &mut Vec<u8>, names: &[Name]) -> Result<(), AllocError>
     ensures { OnOk result (out.new.items ≡ out.old.items ++ text.provides names.now) }
 {
@@ -76,7 +76,7 @@ fn push_entities(alloc: Global, out: &mut Vec<u8>, entities: &[Entity]) -> Resul
     Ok(())
 }
 
-/// The printed text of a file, of which its tokens spell the file again apart from spans (`printed_files_are_read`).
+/// The printed text of a file, whose tokens spell the file again up to spans (`printed_files_are_read`).
 #[tactic(auto, unfolding(crate::specs::Printing::printed))]
 pub fn print(alloc: Global, file: &File) -> Result<List<u8>, AllocError>
     ensures { IfOk result (λ bytes. bytes ≡ text.printed (file_view file.now)) }

@@ -1,4 +1,4 @@
-//! The parts of a tree that hold no expression, each put at the end of a text.
+//! The parts of a tree that contain no expression, each appended to a text.
 ghost use Rattle.std.specs.Prelude.{◌≡◌, ◌++◌, ◌<◌, ◌/◌, ◌%◌, [], ◌∷◌, if◌then◌else◌, OnOk};
 ghost use Rattle.std.specs.Char.{digit_char};
 ghost use Rattle.std.specs.Fmt.{decimal};
@@ -19,7 +19,7 @@ fn hex_digit(value: u8) -> u8
     if value < 10 { 48 + value } else { 87 + value }
 }
 
-// A byte by its two digits.
+// A byte as two hexadecimal digits.
 fn push_digits(out: &mut Vec<u8>, byte: u8) -> Result<(), AllocError>
     ensures { OnOk result (out.new.items ≡ out.old.items ++ 92 ∷ 120 ∷ digit_char (byte / 16) ∷ digit_char (byte % 16) ∷ []) }
 {
@@ -59,7 +59,7 @@ pub fn push_number(alloc: Global, out: &mut Vec<u8>, value: u64) -> Result<(), A
     out.extend_from_slice(digits.as_bytes())
 }
 
-/// A capability with a blank before it, where one is written.
+/// A capability after a space, if one is written.
 pub fn push_cap(out: &mut Vec<u8>, cap: Option<Cap>) -> Result<(), AllocError>
     ensures { OnOk result (out.new.items ≡ out.old.items ++ text.cap cap) }
 {
@@ -74,7 +74,7 @@ pub fn push_cap(out: &mut Vec<u8>, cap: Option<Cap>) -> Result<(), AllocError>
     }
 }
 
-/// The word before a local or a field, with a blank.
+/// The keyword of a local or a field, with a space after it.
 pub fn push_local(out: &mut Vec<u8>, fixed: bool) -> Result<(), AllocError>
     ensures { OnOk result (out.new.items ≡ out.old.items ++ (word_text (local_word fixed) ++ 32 ∷ [])) }
 {
@@ -85,7 +85,7 @@ pub fn push_local(out: &mut Vec<u8>, fixed: bool) -> Result<(), AllocError>
     }
 }
 
-// `^`, where it is written.
+// `^`, if it is written.
 fn push_hat(out: &mut Vec<u8>, hat: bool) -> Result<(), AllocError>
     ensures { OnOk result (out.new.items ≡ out.old.items ++ text.hat hat) }
 {
@@ -104,7 +104,7 @@ pub fn push_type(out: &mut Vec<u8>, ty: &TypeRef) -> Result<(), AllocError>
     push_hat(out, ty.hat)
 }
 
-/// A type with its `:`, where one is written.
+/// A type with its `:`, if one is written.
 pub fn push_typed(out: &mut Vec<u8>, ty: &Option<TypeRef>) -> Result<(), AllocError>
     ensures { OnOk result (out.new.items ≡ out.old.items ++ text.typed ty.now) }
 {
@@ -141,7 +141,7 @@ pub fn op_text(op: Op) -> &'static [u8]
     }
 }
 
-/// What stands between two parts, unless the first of them comes.
+/// What separates two parts, unless the first part comes next.
 pub fn push_between(out: &mut Vec<u8>, first: bool, between: &[u8]) -> Result<(), AllocError>
     ensures { OnOk result (out.new.items ≡ out.old.items ++ (if first then [] else between.now)) }
 {

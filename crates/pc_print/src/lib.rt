@@ -1,8 +1,8 @@
-//! The printed text of a tree. `docs/printing.md` says what it is, `specs/Printing.antt` defines it.
+//! The printed text of a tree. `docs/printing.md` describes it, `specs/Printing.antt` defines it.
 //!
-//! Proved: `print` gives the printed text of a tree, byte by byte. For every file that the tokens of some text spell,
-//! the printed text has tokens, and these spell the same file apart from spans (`printed_files_are_read`). A file of
-//! one actor is printed as written out by hand (`a_small_file_is_printed`).
+//! Proved: `print` returns the printed text of a tree, byte by byte. For every file that the tokens of some text spell,
+//! the printed text has tokens, and these spell the same file up to spans (`printed_files_are_read`). A file with one
+//! actor is printed as written out by hand (`a_small_file_is_printed`).
 #![tactic(auto)]
 
 mod expression;

@@ -1,4 +1,4 @@
-//! Fields and methods, each put at the end of a text behind a line's end.
+//! Fields and methods, each appended to a text after the end of a line.
 ghost use Rattle.std.specs.Prelude.{◌≡◌, ◌++◌, ◌∷◌, map, OnOk};
 ghost use Rattle.pc_print.specs.Printing as text;
 ghost use Rattle.pc_token.specs.Words.{word_text};
@@ -10,7 +10,7 @@ use crate::leaves::{push_between, push_cap, push_local, push_type, push_typed};
 use pc_tree::{Expr, FieldDef, Item, MethodDef, MethodWord, ParamDef, Seq};
 use std::alloc::{AllocError, Global};
 
-// What follows a field's type, where a value is written.
+// What follows a field's type, if an initial value is written.
 fn push_initial(alloc: Global, out: &mut Vec<u8>, value: &Option<Expr>) -> Result<(), AllocError>
     ensures { OnOk result (out.new.items ≡ out.old.items ++ text.value (maybe_expr value.now)) }
 {

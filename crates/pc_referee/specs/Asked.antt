@@ -6,13 +6,13 @@ use Rattle.pc_ann.specs.declared.annotation.Note.{Note}
 abbrev pub Pairs : Type 0
 Pairs = List (ℕ × Note)
 
--- the list behind an answer: a node that was found right is put behind it
+-- the list after an answer: a node that was found right is appended to it
 abbrev pub pairs_after : {E : Type 0} → Pairs → ℕ → Note → Result Bool E → Pairs
 pairs_after pairs n own (Ok true) = pairs ++ (n, own) ∷ []
 pairs_after pairs n own (Ok false) = pairs
 pairs_after pairs n own (Err e) = pairs
 
--- the same where the list is told
+-- the same if the list is known
 abbrev pub asked_after : {E : Type 0} → Option Pairs → ℕ → Note → Result Bool E → Option Pairs
 asked_after None n own r = None
 asked_after (Some pairs) n own r = Some (pairs_after pairs n own r)

@@ -1,7 +1,7 @@
-//! Who is asked whether the note of a node meets its rule: one that answers by the rules, and one that also keeps what it
+//! Referees decide whether the note of a node satisfies its rule: one answers by the rules, and one also keeps what it
 //! was asked.
 //!
-//! Proved: each referee answers what the rules say; `Rules` takes no memory and keeps nothing; `ListReferee` keeps the
+//! Proved: each referee answers as the rules say; `Rules` does not allocate and keeps nothing; `ListReferee` keeps the
 //! number and the note of each node that it found right, in order, and nothing else.
 #![tactic(auto)]
 

@@ -11,7 +11,7 @@ use pc_rules::holds;
 use std::alloc::{AllocError, Global};
 use std::marker::Model;
 
-/// The referee that answers by the rules and keeps the nodes that it found right. Contracts see it as their list.
+/// The referee that answers by the rules and keeps the nodes that it found right. In contracts it is the list of these.
 #[derive(Drop)]
 pub struct ListReferee {
     asked: List<(u32, Note)>,
@@ -27,7 +27,7 @@ impl Model for ListReferee {
 }
 
 impl ListReferee {
-    /// Nothing was asked. Takes no memory.
+    /// Nothing was asked. Does not allocate.
     pub fn new(alloc: Global) -> ListReferee
         ensures { result ≡ [] }
     {

@@ -1,4 +1,4 @@
-//! What is asked of a referee.
+//! The interface of a referee.
 ghost use Rattle.std.specs.Prelude.{◌≡◌, ◌↔◌, ◌<◌, ℕ, List, length, IfOk, IsTrue};
 ghost use Rattle.std.specs.declared.option.Option.{Option};
 ghost use Rattle.pc_ann.specs.declared.annotation.Note.{Note as NoteIs};
@@ -10,19 +10,19 @@ use pc_caps::Cap;
 use pc_core::Core;
 use std::alloc::AllocError;
 
-/// One that is asked of nodes, one by one, whether they meet their rules.
+/// Decides for nodes, one by one, whether they satisfy their rules.
 ///
-/// Contracts see `asked`: the nodes that were found right so far, each with its number and its note, the latest last. Where
-/// a referee keeps no such list, none is told.
+/// Contracts see `asked`: the nodes that were found right so far, each with its number and its note, the latest last;
+/// or none if a referee keeps no such list.
 pub trait Referee {
-    /// The nodes that were found right, where that is told.
+    /// The nodes that were found right, if that is known.
     ghost asked: { Self → Option (List (ℕ × NoteIs)) };
 
-    /// Whether node `n` meets the rule of this note of it, by the types of the slots and the notes of its children, in
-    /// order. Where the list is told, a node that does is put behind it, and nothing else changes it.
+    /// Whether node `n` satisfies the rule of this note, by the types of the slots and the notes of its children, in
+    /// order. If the list is known, a node that does is appended to it, and nothing else changes it.
     ///
     /// # Errors
-    /// `AllocError` at want of memory, which says nothing of the node.
+    /// `AllocError` if memory runs out, which says nothing about the node.
     fn ask(
         &mut self,
         core: &Core,

@@ -9,7 +9,7 @@ use pc_core::Core;
 use pc_rules::holds;
 use std::alloc::AllocError;
 
-/// The referee that answers by the rules, keeps nothing and takes no memory.
+/// The referee that answers by the rules, keeps nothing and does not allocate.
 #[derive(Clone, Copy, Debug)]
 pub struct Rules;
 

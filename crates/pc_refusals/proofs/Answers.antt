@@ -36,7 +36,7 @@ module _ (V : Verdict → Type 0) (Failed : Text → Type 0) (out err : Change) 
   answer_of (Err Sink) s e = out_failed e.0 s.0 s.1 e.1
   answer_of (Err Memory) m e = no_memory e.0 m e.1
 
-  -- where nothing failed
+  -- if nothing failed
   pub completes : Answer V Failed out err status → Completes V Failed out err status
   completes (told v is s o l) f g h = inr (v, is, s, o, l)
   completes (file n f0 s o l) f g h = absurd (f n f0)

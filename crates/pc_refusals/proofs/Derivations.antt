@@ -1,4 +1,4 @@
--- From what the reading of a derivation answers to its stages.
+-- From the result of reading a derivation to its stages.
 use Rattle.std.proofs.Common.{◌≡◌, ◌≤◌, length, Ok, refl}
 use Rattle.pc_ann.specs.declared.annotation.Ann.{Ann}
 use Rattle.pc_deriv.specs.Faults.{IsText, Refuses}
@@ -16,7 +16,7 @@ use Rattle.pc_refusals.specs.Source.Length.{fits}
 use Rattle.pc_refusals.specs.declared.stop.Stop.{Stop}
 use Rattle.pc_refusals.proofs.Stops.{memory_stops, refusal_stops}
 
--- where the reading of the text stops
+-- if the reading of the text stops
 pub text_stops : (name bytes : Text) (f : DerivFault) (s : Stop) → Refuses bytes f → IsTextStop name f s → StageStops (Deriving name bytes) s
 text_stops name bytes (deriv.BadLine n) s h r = refusal_stops (Deriving name bytes) _ _ s (garbled (deriv.BadLine n) h) r
 text_stops name bytes deriv.TooMany s h r = refusal_stops (Deriving name bytes) _ _ s (garbled deriv.TooMany h) r

@@ -1,4 +1,4 @@
--- From what the parts of a command answer to how the command ends, whatever the command.
+-- From the results of a command's parts to how the command ends, whatever the command.
 use Rattle.std.proofs.Common.{◌≡◌, ℕ, [], Option, Some, None, refl, inl, inr, Ok, Err, append-nil, sym, subst}
 use Rattle.std.specs.Prelude.{Result}
 use Rattle.std.specs.Io.KnownBytes.{Appends, Keeps}
@@ -49,7 +49,7 @@ module _ (V : Verdict → Type 0) (Failed : Text → Type 0) (out : Change) wher
   stop_ends Sink h e = absurd h
   stop_ends Memory h e = inl (kept_by out.before out.now e)
 
-  -- a command that answers a text, which is then written
+  -- a command that returns a text, which is then written
   pub put_ends : (answer : Result Text Stop) (result : Result (Unit {0}) Stop) → AnswersText V Failed answer → Puts answer out result → Ends V Failed out result
   put_ends (Ok text) result v w = text_ends text result v w
   put_ends (Err s) result h p = subst (λ (r : Result (Unit {0}) Stop). Ends V Failed out r) (sym p.0) (stop_ends s h p.1)

@@ -1,4 +1,4 @@
--- From what the judge answers to how the judging of a derivation's file ended.
+-- From the judge's result to how the judging of a derivation's file ended.
 use Rattle.std.proofs.Common.{◌≡◌, ◌≤◌, ℕ, ◌++◌, Option, Some, None, Ok, Err, ap, sym, subst, ◌∙◌, inl, inr, arith}
 use Rattle.std.specs.Prelude.{Result}
 use Rattle.pc_ann.specs.declared.annotation.Ann.{Ann}

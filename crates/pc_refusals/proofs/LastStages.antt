@@ -27,7 +27,7 @@ module _ {T : Type 0} (text : T → Text) (Stage : Result T Verdict → Type 0) 
   pub ends_status : (P : ℕ → Type 0) → P 0 → ((w : Verdict) → Stage (Err w) → P w.status) → (v : Verdict) → EndsAs text Stage v → P v.status
   ends_status P zero refusals v h = by_cases P zero refusals v (ends_cases v h)
 
-  -- where the stage has one end, there is one verdict
+  -- if the stage has one end, there is one verdict
   pub ends_one : IsOne Stage → (v w : Verdict) → EndsAs text Stage v → EndsAs text Stage w → v ≡ w
   ends_one one v w (end, h, e) (other, k, f) = e ∙ (ap (ended text) (one end other h k) ∙ sym f)
 
@@ -40,7 +40,7 @@ module _ {T : Type 0} (file : Named) (limit : ℕ) (Stages : Reading → Result 
   from_status P refusals last v (refuses r g h) = refusals r v h
   from_status P refusals last v (goes_on r x g h l) = last x v l
 
-  -- what its stages gave, where none of their refusals is the verdict
+  -- what its stages gave, if none of their refusals is the verdict
   pub passed : (v : Verdict) → ((r : Reading) → Stages r (Err v) → ⊥) → FromFile file limit Stages Last v → (r : Reading) × (x : T) × IsReadingOf file limit r × Stages r (Ok x) × Last x v
   passed v never (refuses r g h) = absurd (never r h)
   passed v never (goes_on r x g h l) = (r, x, g, h, l)

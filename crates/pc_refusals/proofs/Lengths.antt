@@ -95,7 +95,7 @@ hex_size (suc j) n small l =
 mask_size : (m : Mask) → MaskFits m → length (mask_text m) ≤ 16
 mask_size m l = hex_size 15 m.0 (omega (arith, l)) (omega (arith, l))
 
--- two lists, one behind the other
+-- two lists, one after another
 both_sizes : {T : Type 0} → (xs ys : List T) (a b : ℕ) → length xs ≤ a → length ys ≤ b → length (xs ++ ys) ≤ a + b
 both_sizes xs ys a b l m = let e = length-append xs ys in omega (arith, e, l, m)
 

@@ -1,4 +1,4 @@
--- No two ends of a source's stages differ.
+-- Any two ends of a source's stages are equal.
 use Rattle.std.proofs.Common.{◌≡◌, ◌<◌, ℕ, List, Option, Some, None, ◌∷◌, Ok, Err, refl, sym, ◌∙◌, ap, subst, length, arith, true, false}
 use Rattle.std.specs.Prelude.{Result, IsSome, codes}
 use Rattle.pc_core.specs.CoreData.{CoreData}
@@ -76,7 +76,7 @@ one_reading limit (Some x) before now taken longer (whole q) t n a b = let long 
 one_reading limit (Some x) before now taken longer longer t n a b = refl
 
 module _ {T : Type 0} (file : Named) (limit : ℕ) (Stages : Reading → Result T Verdict → Type 0) (Last : T → Verdict → Type 0) where
-  -- One verdict follows, where one does from each reading, and then from each value.
+  -- One verdict follows if one does from each reading, and then from each value.
   pub one_from : IsSome file.told → file.now ≡ file.before → ((r : Reading) → IsOne (Stages r))
       → ((r : Reading) (x : T) → Stages r (Ok x) → (v w : Verdict) → Last x v → Last x w → v ≡ w)
       → (v w : Verdict) → FromFile file limit Stages Last v → FromFile file limit Stages Last w → v ≡ w

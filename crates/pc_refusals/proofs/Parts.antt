@@ -1,4 +1,4 @@
--- From what the reading of one file answers to its stages, whatever they are.
+-- From the result of reading one file to its stages, whatever they are.
 use Rattle.std.proofs.Common.{◌≡◌, ◌≤◌, ◌<◌, ℕ, Option, Ok, Err, subst, arith}
 use Rattle.std.specs.Prelude.{Result}
 use Rattle.pc_lists.specs.Texts.{Text}
@@ -23,7 +23,7 @@ module _ {T : Type 0} (limit : ℕ) (Stage : Reading → Result T Verdict → Ty
   not_read file Sink long h = h
   not_read file Memory long h = tt
 
-  -- a stage behind a part
+  -- a stage after a part
   pub stops_behind : {U : Type 0} (Next : T → Result U Verdict → Type 0) (file : Named) (s : Stop) → PartStops limit Stage file s
       → PartStops limit (λ r. After (Stage r) Next) file s
   stops_behind Next file (Refused status line) h = (h.0, h.1, stops h.2)

@@ -1,4 +1,4 @@
--- From what the reading of a schedule answers to its stages.
+-- From the result of reading a schedule to its stages.
 use Rattle.std.proofs.Common.{◌≡◌, ◌≤◌, List, Ok, refl}
 use Rattle.pc_sched.specs.Limits.{turn_limit}
 use Rattle.pc_sched.specs.Schedules.{TurnList, total}

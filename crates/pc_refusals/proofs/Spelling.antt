@@ -1,4 +1,4 @@
--- From what the lexer and the parser answer to the stages of a source's tokens and tree.
+-- From the results of the lexer and the parser to the stages of a source's tokens and tree.
 use Rattle.std.proofs.Common.{◌≡◌, ℕ, List, Ok, Err, sym, subst}
 use Rattle.std.specs.Prelude.{Result, codes}
 use Rattle.pc_token.specs.declared.kinds.Token.{Token}

@@ -1,4 +1,4 @@
--- Between which numbers the statuses of refusals are.
+-- The ranges of the statuses of refusals.
 use Rattle.std.proofs.Common.{◌≡◌, ◌≤◌, ◌⊎◌, ℕ, Err, inl, inr, refl, arith}
 use Rattle.pc_lex.specs.Pieces.{FirstFault}
 use Rattle.pc_lex.specs.declared.fault.LexFault.{LexFault}

@@ -1,4 +1,4 @@
--- Two files that are read one after the other.
+-- Two files that are read one after another.
 use Rattle.std.proofs.Common.{◌≡◌, ◌∙◌, ◌≤◌, ℕ, Option, Ok, inr, arith}
 use Rattle.std.specs.Prelude.{Result}
 use Rattle.pc_lists.specs.Texts.{Text}

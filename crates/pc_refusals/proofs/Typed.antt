@@ -1,4 +1,4 @@
--- From what the inference answers to the stage of a core's annotation.
+-- From the result of the inference to the stage of a core's annotation.
 use Rattle.std.proofs.Common.{Option, Err, sym, subst}
 use Rattle.std.specs.Prelude.{codes}
 use Rattle.pc_check.specs.Faults.{Refuses}
@@ -18,7 +18,7 @@ use Rattle.pc_refusals.specs.declared.source.Source.{Source}
 use Rattle.pc_refusals.specs.declared.stop.Stop.{Stop}
 use Rattle.pc_refusals.proofs.Stops.{memory_stops, refusal_stops}
 
--- where the inference stops
+-- if the inference stops
 pub core_stops : (name : Text) (source : Source) (f : CheckFault) (s : Stop) → Refuses source.core f → IsCoreStop name source f s → StageStops (Typing name source) s
 core_stops name source (fault.Decl d) s r h = refusal_stops (Typing name source) 1 _ s (declared d r) h
 core_stops name source (fault.NoRule n l m ann) s r h =

@@ -14,8 +14,8 @@ use Rattle.pc_refusals.specs.Verdict.{Verdict, refused}
 use Rattle.pc_refusals.specs.declared.typing.Accepted.{Accepted}
 use Rattle.pc_refusals.specs.declared.source.Source.{Source}
 
--- The core: its valid annotation; and else 1, with the place of the first declaration that fails, of the node at which no
--- rule holds, or of a constructor that leaves a field unset.
+-- The core: its valid annotation; or else 1, with the place of the first declaration that fails, of the node at which
+-- no rule holds, or of a constructor that leaves a field unset.
 pub data Typing (name : Text) (source : Source) : Result Accepted Verdict → Type 0 where
   typed : (ann : Ann) → Valid source.core ann → Typing name source (Ok (record { source = source; ann = ann }))
   declared : (f : DeclFault) → first_fault source.core ≡ Some f
@@ -25,6 +25,6 @@ pub data Typing (name : Text) (source : Source) : Result Accepted Verdict → Ty
   unset : (ann : Ann) (m : ℕ) (left : Unset source.core ann m)
       → Typing name source (Err (refused 1 (offset_line name source.bytes left.method.span.start (codes "field not set"))))
 
--- The source's stages, and then its core's.
+-- The stages of the source, and then the stage of its core.
 abbrev pub AcceptedStage : Text → Reading → Result Accepted Verdict → Type 0
 AcceptedStage name reading = After (SourceStage name reading) (Typing name)

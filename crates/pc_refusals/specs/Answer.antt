@@ -1,4 +1,4 @@
--- The answer of the program, with the cause of each.
+-- The answer of the program, with the cause of each case.
 use Rattle.std.specs.Prelude.{ℕ, ◌≡◌, ◌⊎◌}
 use Rattle.std.specs.Io.KnownBytes.{Appends, Keeps}
 use Rattle.pc_io.specs.Sink.{Rose, GrowsByPrefix}

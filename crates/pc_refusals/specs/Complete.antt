@@ -1,4 +1,4 @@
--- What is answered where nothing failed.
+-- What is answered if nothing failed.
 use Rattle.std.specs.Prelude.{ℕ, ◌≡◌, ◌⊎◌}
 use Rattle.std.specs.Io.KnownBytes.{Appends}
 use Rattle.pc_io.specs.Sink.{Rose}
@@ -6,8 +6,8 @@ use Rattle.pc_lists.specs.Texts.{Text}
 use Rattle.pc_io.specs.Change.{Change}
 use Rattle.pc_refusals.specs.Verdict.{Verdict}
 
--- Where no name of the command failed, and neither out nor err, the status is that of a verdict, its text is on out and its
--- line on err; or memory ran out.
+-- If none of the command's names failed, and neither out nor err did, the status is that of a verdict, its text is on
+-- out and its line on err; or memory ran out.
 abbrev pub Completes : (Verdict → Type 0) → (Text → Type 0) → Change → Change → ℕ → Type 0
 Completes V Failed out err status =
     ((name : Text) → Failed name → ⊥) → (Rose out.faults_before out.faults_now → ⊥) → (Rose err.faults_before err.faults_now → ⊥)

@@ -1,4 +1,4 @@
--- What is wrong with a core that has no derivation, with its place in the source.
+-- What is wrong with a core that has no derivation, and its place in the source.
 use Rattle.std.specs.Prelude.{ℕ, Option, Some, None, slice_get, codes}
 use Rattle.pc_core.specs.declared.declarations.EntityDef.{EntityDef}
 use Rattle.pc_core.specs.declared.declarations.Method.{Method}
@@ -9,7 +9,7 @@ use Rattle.pc_sub.specs.declared.faults.DeclFault.{DeclFault}
 use Rattle.pc_sub.specs.declared.faults.DeclFault.TheVariants as decl
 use Rattle.pc_lists.specs.Texts.{Text}
 
--- Where a part of the core starts in the source. What is not there starts at 0.
+-- Where a part of the core starts in the source. What does not exist starts at 0.
 abbrev pub entity_start : Option EntityDef → ℕ
 entity_start None = 0
 entity_start (Some x) = x.span.start

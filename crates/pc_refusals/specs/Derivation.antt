@@ -18,17 +18,17 @@ use Rattle.pc_refusals.specs.Source.{Length}
 use Rattle.pc_refusals.specs.Verdict.{Verdict, refused}
 use Rattle.pc_refusals.specs.declared.source.Source.{Source}
 
--- how many bytes a derivation may have
+-- the greatest number of bytes of a derivation
 abbrev pub derivation_limit : ℕ
 derivation_limit = 33554432
 
--- A derivation is read in parts, of which only the last one is counted in `taken`. Where the file is longer, that one begins
+-- A derivation is read in parts, and only the last part is counted in `taken`. If the file is longer, this part begins
 -- after all bytes that a derivation may have.
 abbrev pub in_parts : Named → Named
 in_parts file = record file { taken = derivation_limit + file.taken }
 
--- The text of the derivation: 5 at the first line that is not of its form, and 8 where its first line asks for too many. Out of
--- memory is no fault of a text; its status is 11, and it has no line.
+-- The text of the derivation: 5 at the first line that does not have its form, and 8 if its first line asks for too
+-- many lines. Running out of memory is not a fault of a text; its status is 11, and it has no line.
 abbrev pub text_status : DerivFault → ℕ
 text_status (deriv.BadLine n) = 5
 text_status deriv.TooMany = 8
@@ -47,7 +47,7 @@ pub data Deriving (name bytes : Text) : Result Ann Verdict → Type 0 where
 abbrev pub DerivationStage : Text → Reading → Result Ann Verdict → Type 0
 DerivationStage name reading = After (Length derivation_limit name reading) (Deriving name)
 
--- The annotation: 6 at its first fault. That of a declaration is named in the source.
+-- The annotation: 6 at its first fault. If that is in a declaration, the line names a place in the source.
 abbrev pub judge_line : Text → Text → Source → JudgeFault → Text
 judge_line source_name name source (fault.Decl f) = offset_line source_name source.bytes (decl_offset source.core f) (decl_text f)
 judge_line source_name name source fault.Shape = shape_line name

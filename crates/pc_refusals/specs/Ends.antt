@@ -1,8 +1,8 @@
--- What out has of a verdict's text where a command did not come to its end.
+-- What out has of a verdict's text if a command did not finish.
 use Rattle.pc_io.specs.Change.{Change}
 use Rattle.pc_io.specs.Sink.{GrowsByPrefix}
 use Rattle.pc_refusals.specs.Verdict.{Verdict}
 
--- A part of the verdict's text went to out.
+-- Part of the verdict's text went to out.
 abbrev pub TellsPart : (Verdict → Type 0) → Change → Type 0
 TellsPart V out = (v : Verdict) × V v × GrowsByPrefix out.before out.now v.out

@@ -1,5 +1,5 @@
--- How the parts inside a command end. The contracts of these parts speak of it; the contract of the whole program does not, and
--- nobody needs it to read that one.
+-- How the inner parts of a command end. Only the contracts of these parts use it; it is not needed to read the contract
+-- of the whole program.
 pub mod Answering
 pub mod Derivations
 pub mod Finishing

@@ -5,7 +5,7 @@ use Rattle.pc_lex.specs.declared.fault.LexFault.TheVariants as fault
 use Rattle.pc_lists.specs.Texts.{Text}
 use Rattle.pc_refusals.specs.Refusal.{offset_line}
 
--- 8 where a limit is passed, and 3 for each other fault of a text. Out of memory is none; its status is 11.
+-- 8 if a limit is passed, and 3 for any other fault of a text. Running out of memory is not a fault; its status is 11.
 abbrev pub fault_status : LexFault → ℕ
 fault_status (fault.BadByte p) = 3
 fault_status (fault.Unclosed p) = 3
@@ -14,7 +14,7 @@ fault_status (fault.BadEscape p) = 3
 fault_status (fault.TooMany p) = 8
 fault_status fault.Memory = 11
 
--- The line of a fault, with its place. Out of memory has no line.
+-- The line of a fault, with its place. Running out of memory has no line.
 abbrev pub fault_line : Text → Text → LexFault → Text
 fault_line name bytes (fault.BadByte p) = offset_line name bytes p (codes "bad byte")
 fault_line name bytes (fault.Unclosed p) = offset_line name bytes p (codes "not closed")

@@ -25,20 +25,20 @@ place_line name line column what = name ++ (codes ":" ++ (decimal line ++ (codes
 abbrev pub too_long_line : Text → ℕ → Text
 too_long_line name n = name ++ (codes ": text too long at step " ++ (decimal n ++ line_end))
 
--- The step of a run that would make more actors than a clock may speak of.
+-- The step of a run that would make more actors than a clock may have numbers for.
 abbrev pub many_actors_line : Text → ℕ → Text
 many_actors_line name n = name ++ (codes ": too many actors at step " ++ (decimal n ++ line_end))
 
--- The place of a schedule after which no turn stands.
+-- The place of a schedule after which there is no turn.
 abbrev pub no_place_line : Text → ℕ → Text
 no_place_line name n = name ++ (codes ": no place " ++ (decimal n ++ line_end))
 
--- A made program: its seed, its size and how many nodes its core has.
+-- A generated program: its seed, its size and how many nodes its core has.
 abbrev pub counts_line : (seed size nodes : ℕ) → Text
 counts_line seed size nodes = codes "seed " ++ (decimal seed ++ (codes " size " ++ (decimal size ++ (codes " nodes " ++ (decimal nodes ++ line_end)))))
 
--- What is wrong with a derivation: a line that is not of its form, too many of them, other counts than the source's, a slot,
--- a node, and a constructor that leaves a field unset.
+-- What is wrong with a derivation: a line that does not have its form, too many lines, counts that differ from the
+-- source's, a slot, a node, or a constructor that leaves a field unset.
 abbrev pub bad_line : Text → ℕ → Text
 bad_line name n = name ++ (codes ":" ++ (decimal n ++ (codes ": bad line" ++ line_end)))
 

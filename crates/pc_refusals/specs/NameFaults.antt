@@ -8,7 +8,7 @@ use Rattle.pc_lists.specs.Texts.{Text}
 use Rattle.pc_refusals.specs.Refusal.{offset_line}
 use Rattle.pc_refusals.specs.Lines.{no_main_line}
 
--- 8 where a limit is passed, and 4 for each other fault of a file. Out of memory is none; its status is 11.
+-- 8 if a limit is passed, and 4 for any other fault of a file. Running out of memory is not a fault; its status is 11.
 abbrev pub name_status : NameFault → ℕ
 name_status (fault.Double s) = 4
 name_status (fault.Unknown s) = 4
@@ -18,7 +18,7 @@ name_status (fault.Cycle s) = 4
 name_status (fault.TooMany w s) = 8
 name_status fault.Memory = 11
 
--- What there is too much of.
+-- What there are too many of.
 abbrev pub many_text : Which → Text
 many_text which.Entities = codes "too many entities"
 many_text which.Methods = codes "too many methods"
@@ -27,7 +27,7 @@ many_text which.Fields = codes "too many fields"
 many_text which.Nodes = codes "too many nodes"
 many_text which.Text = codes "text too long"
 
--- The line of a fault, with its place. A missing Main has none, and out of memory has no line.
+-- The line of a fault, with its place. A missing Main has no place, and running out of memory has no line.
 abbrev pub name_line : Text → Text → NameFault → Text
 name_line name bytes (fault.Double s) = offset_line name bytes s.start (codes "name twice")
 name_line name bytes (fault.Unknown s) = offset_line name bytes s.start (codes "name unknown")

@@ -1,31 +1,31 @@
--- The files of a command, and what reading one gives.
+-- The files of a command, and the result of reading one.
 use Rattle.std.specs.Prelude.{ℕ, ◌≡◌, ◌<◌, ◌≤◌, List, [], ◌∷◌, length, Option, Some, IfSome, IsSome}
 use Rattle.pc_lists.specs.Texts.{Text}
 
--- A file by its name: the bytes that are told, and how often its reading had failed before and after a call.
+-- A file by its name: its bytes if they are known, and how often reading it had failed before and after a call.
 pub record Named : Type 0 where
   pub name : Text
   pub told : Option Text
   pub before : ℕ
   pub now : ℕ
-  -- the bytes that the last reading of the call took
+  -- the number of bytes that the call's last reading took
   pub taken : ℕ
 
--- the file of this name, by the meanings of the files before and after a call
+-- the file with this name, given the meanings of the files before and after a call
 abbrev pub file_at : (Text → Option Text) → (Text → ℕ) → (Text → ℕ) → ℕ → Text → Named
 file_at told before now taken name =
     record { name = name; told = told name; before = before name; now = now name; taken = taken }
 
--- A text that stands in no file, seen as a file of this name that tells it and is read without a failure.
+-- A text that is in no file, seen as a file with this name whose bytes are known and whose reading does not fail.
 abbrev pub text_as : Text → Text → Named
 text_as name text = record { name = name; told = Some text; before = 0; now = 0; taken = length text }
 
--- What reading up to a limit gives: all bytes of the file, or that there are more.
+-- The result of reading up to a limit: all bytes of the file, or that there are more.
 pub data Reading : Type 0 where
   whole : List ℕ → Reading
   longer : Reading
 
--- A reading of a file that tells these bytes gives this. Where its failures rose, `longer` may be wrong.
+-- Reading a file with these bytes, if they are known, gives this result. If its failures rose, `longer` may be wrong.
 abbrev pub IsReading : (limit : ℕ) → Option (List ℕ) → (before now taken : ℕ) → Reading → Type 0
 IsReading limit told before now taken (whole bytes) = (length bytes ≤ limit) × IfSome told (λ b. bytes ≡ b)
 IsReading limit told before now taken longer = (limit < taken) × (now ≡ before → IfSome told (λ b. limit < length b))
@@ -38,8 +38,8 @@ IsReadingOf file limit reading = IsReading limit file.told file.before file.now 
 abbrev pub FailedAt : Named → Text → Type 0
 FailedAt file name = (name ≡ file.name) × (file.before < file.now)
 
--- What files tell, how often reading each name had failed before and after a call, and how many bytes its last reading
--- took.
+-- The known bytes of files, how often reading each name had failed before and after a call, and how many bytes the last
+-- reading took.
 pub record Files : Type 0 where
   pub told : Text → Option Text
   pub before : Text → ℕ
@@ -52,7 +52,7 @@ files_change told before now taken = record { told = told; before = before; now 
 abbrev pub named : Files → Text → Named
 named files name = file_at files.told files.before files.now files.taken name
 
--- All of these tell their bytes.
+-- The bytes of all of these are known.
 abbrev pub AllTold : (Text → Option Text) → List Text → Type 0
 AllTold told [] = Unit {0}
 AllTold told (n ∷ ns) = IsSome (told n) × AllTold told ns

@@ -1,4 +1,4 @@
--- What the referee is asked of, by a derivation's file.
+-- What the referee is asked for a derivation's file.
 use Rattle.std.specs.Prelude.{◌≡◌, ◌++◌, Option, Some, None, IfSome}
 use Rattle.pc_core.specs.CoreData.{CoreData}
 use Rattle.pc_ann.specs.declared.annotation.Ann.{Ann}
@@ -8,12 +8,12 @@ use Rattle.pc_referee.specs.Asked.{Pairs}
 use Rattle.pc_feed.specs.Numbered.{numbered}
 use Rattle.pc_lists.specs.Texts.{Text}
 
--- Its list, where it is told, grew by each node with its note, in order.
+-- Its list, if it is known, grew by each node with its note, in order.
 abbrev pub AsksEach : Ann → Option Pairs → Option Pairs → Type 0
 AsksEach ann None after = after ≡ None
 AsksEach ann (Some pairs) after = after ≡ Some (pairs ++ numbered 0 ann.notes)
 
--- A derivation of the core: the bytes of the file, where they are told, and each of its nodes was asked.
+-- A derivation of the core: it has the bytes of the file, if they are known, and each of its nodes was asked.
 pub record JudgedFile (core : CoreData) (derivation : Option Text) (before after : Option Pairs) : Type 0 where
   pub text : Text
   pub of_file : IfSome derivation (λ t. text ≡ t)

@@ -11,7 +11,7 @@ use Rattle.pc_refusals.specs.Refusal.{offset_line}
 use Rattle.pc_refusals.specs.Source.{Length}
 use Rattle.pc_refusals.specs.Verdict.{Verdict, refused}
 
--- Its turns: 7 at the first word that is none, and 8 at the first with which there are too many.
+-- Its turns: 7 at the first word that is not a turn, and 8 at the first turn too many.
 pub data Scheduling (name bytes : Text) : Result (List Turn) Verdict → Type 0 where
   scheduled : {turns : List Turn} → TurnList bytes turns → Scheduling name bytes (Ok turns)
   bad_word : (at : ℕ) → FirstFault bytes (BadWord at) → Scheduling name bytes (Err (refused 7 (offset_line name bytes at (codes "bad word"))))

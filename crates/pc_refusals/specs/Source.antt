@@ -1,4 +1,4 @@
--- The stages of a source, which every command that reads one goes through first.
+-- The stages of a source, which come first in every command that reads one.
 use Rattle.std.specs.Prelude.{ℕ, ◌≤◌, ◌∷◌, Result, Ok, Err, List, length, codes}
 use Rattle.pc_tree.specs.Tree as t
 use Rattle.pc_token.specs.declared.kinds.Token.{Token}
@@ -20,21 +20,21 @@ use Rattle.pc_refusals.specs.NameFaults.{name_status, name_line}
 use Rattle.pc_refusals.specs.Verdict.{Verdict, refused}
 use Rattle.pc_refusals.specs.declared.source.Source.{Source}
 
--- how many bytes a source may have
+-- the greatest number of bytes of a source
 abbrev pub source_limit : ℕ
 source_limit = 1048576
 
--- The length of a file: 8 where it has more bytes than its limit.
+-- The length of a file: 8 if it has more bytes than its limit.
 pub data Length (limit : ℕ) (name : Text) : Reading → Result Text Verdict → Type 0 where
   fits : {bytes : Text} → length bytes ≤ limit → Length limit name (whole bytes) (Ok bytes)
   is_longer : Length limit name longer (Err (refused 8 (longer_line name limit)))
 
--- Its tokens: 3, or 8 where there are too many, at the first fault.
+-- Its tokens: 3 at the first fault, or 8 if there are too many.
 pub data Lexing (name : Text) (bytes : Text) : Result (List Token) Verdict → Type 0 where
   lexed : {ts : List Token} → TokenList bytes ts → Lexing name bytes (Ok ts)
   faulty : (f : LexFault) → FirstFault bytes f → Lexing name bytes (Err (refused (fault_status f) (fault_line name bytes f)))
 
--- Its tree: 3 at the first token with which no file begins, and 8 at the first that opens a level too many.
+-- Its tree: 3 at the first token that cannot continue a file, and 8 at the first that opens a level too many.
 pub data Parsing (name bytes : Text) (ts : List Token) : Result t.File Verdict → Type 0 where
   parsed : {file : t.File} → IsFileAnswer ts (spelled file) → Parsing name bytes ts (Ok file)
   astray : {x : Token} {rest : List Token} → IsFileAnswer ts (unexpected (x ∷ rest))
@@ -42,7 +42,7 @@ pub data Parsing (name bytes : Text) (ts : List Token) : Result t.File Verdict �
   nested : {x : Token} {rest : List Token} → IsFileAnswer ts (too_deep (x ∷ rest))
       → Parsing name bytes ts (Err (refused 8 (offset_line name bytes x.span.start (codes "nested too deep"))))
 
--- Its core: 4, or 8 where a limit is passed, at the first fault of its names, or else at the first of its methods.
+-- Its core: 4, or 8 if a limit is passed, at the first fault of its names, or else at the first fault of its methods.
 pub data Elaborating (name bytes : Text) (file : t.File) : Result CoreData Verdict → Type 0 where
   elaborated : {core : CoreData} → Stands file core → Elaborating name bytes file (Ok core)
   misnamed : (f : NameFault) → OfFile f → IsNameFault file f → Elaborating name bytes file (Err (refused (name_status f) (name_line name bytes f)))
@@ -61,16 +61,16 @@ pub data TextStage (name bytes : Text) : Result Source Verdict → Type 0 where
   has_core : {core : CoreData} → CoreStage name bytes (Ok core) → TextStage name bytes (Ok (record { bytes = bytes; core = core }))
   has_none : {v : Verdict} → CoreStage name bytes (Err v) → TextStage name bytes (Err v)
 
--- All of them, one after the other: the source with its core, or the refusal.
+-- All stages, one after another: the source with its core, or the refusal.
 abbrev pub SourceStage : Text → Reading → Result Source Verdict → Type 0
 SourceStage name reading = After (Length source_limit name reading) (TextStage name)
 
--- ---- a source whose core is not asked for
+-- ---- a source whose core is not needed
 
 -- From the bytes of a source to its tree.
 abbrev pub SyntaxStage : Text → Text → Result t.File Verdict → Type 0
 SyntaxStage name bytes = After (Lexing name bytes) (Parsing name bytes)
 
--- Its length, its tokens and its tree. No stage after them is gone through.
+-- Its length, its tokens and its tree. There are no further stages.
 abbrev pub FileStage : Text → Reading → Result t.File Verdict → Type 0
 FileStage name reading = After (Length source_limit name reading) (SyntaxStage name)

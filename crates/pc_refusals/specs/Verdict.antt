@@ -1,4 +1,4 @@
--- What a command answers where no file or sink fails and memory suffices.
+-- What a command answers if no file or sink fails and memory suffices.
 use Rattle.std.specs.Prelude.{ℕ, ◌≡◌, ◌⊎◌, [], ◌++◌, Result, Ok, Err}
 use Rattle.pc_lists.specs.Texts.{Text}
 
@@ -24,7 +24,7 @@ stopped status text line = record { status = status; out = text; err = line }
 abbrev pub headed : Text → Verdict → Verdict
 headed text v = record { status = v.status; out = text ++ v.out; err = v.err }
 
--- The status of a command that went through all its stages: 0, or 12 where a text ended the run.
+-- The status of a command that passed all its stages: 0, or 12 if a text ended the run.
 abbrev pub IsAccepting : ℕ → Type 0
 IsAccepting status = (status ≡ 0) ⊎ (status ≡ 12)
 
@@ -35,10 +35,10 @@ abbrev pub ended : {T : Type 0} → (T → Text) → Result T Verdict → Verdic
 ended text (Ok x) = done (text x)
 ended text (Err v) = v
 
--- The verdict of an end of the stage.
+-- The verdict is that of a result of the stage.
 abbrev pub EndsAs : {T : Type 0} → (T → Text) → (Result T Verdict → Type 0) → Verdict → Type 0
 EndsAs {T} text Stage v = (end : Result T Verdict) × Stage end × (v ≡ ended text end)
 
--- The same of a stage whose value is the text.
+-- The same for a stage whose value is the text.
 abbrev pub EndsWith : (Result Text Verdict → Type 0) → Verdict → Type 0
 EndsWith Stage = EndsAs (λ text. text) Stage

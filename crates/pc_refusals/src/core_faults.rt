@@ -72,7 +72,7 @@ pub fn declaration_offset(core: &Core, fault: DeclFault) -> u32
     }
 }
 
-/// What is said of a declaration that fails.
+/// The words for a declaration that fails.
 pub fn declaration_text(fault: DeclFault) -> &'static str
     ensures { result.now ≡ spec.decl_text fault }
 {
@@ -83,7 +83,7 @@ pub fn declaration_text(fault: DeclFault) -> &'static str
     }
 }
 
-/// The refusal of the source of this name, at whose core the inference stops.
+/// The refusal of the source with this name, at whose core the inference stops.
 pub fn refuse_core(alloc: Global, name: &str, source: &Source, fault: &CheckFault) -> Stop
     ensures { IsCoreStop name.now source.now fault.now result }
 {

@@ -1,4 +1,4 @@
-//! A derivation: read in parts and judged as it comes, or read whole.
+//! A derivation: read in parts and judged as they come, or read whole.
 ghost use Rattle.std.specs.Prelude.{◌≡◌, ◌≤◌, ℕ, List as Sequence, IfOk};
 ghost use Rattle.pc_deriv.specs.Laws.{as_read};
 ghost use Rattle.pc_refusals.specs.Derivation.{DerivationStage, Deriving, Judging, derivation_limit, in_parts, judge_line, text_line, text_status};
@@ -24,10 +24,10 @@ use pc_judge::{JudgeFault, judge};
 use pc_referee::Referee;
 use std::alloc::{AllocError, Global};
 
-/// How many bytes a derivation may have.
+/// The greatest number of bytes of a derivation.
 pub const DERIVATION_LIMIT: u32 = 33_554_432;
 
-// The line of the first fault of a derivation of this name.
+// The line of the first fault of the derivation with this name.
 fn make_fault_line(
     alloc: Global,
     source_name: &str,
@@ -52,7 +52,7 @@ fn make_fault_line(
     }
 }
 
-// The refusal of bytes that are no derivation's text.
+// The refusal of bytes that are not the text of a derivation.
 fn refuse_text(alloc: Global, name: &str, fault: LineFault) -> Stop
     ensures { IsRefusal (text_status (as_read fault)) (text_line name.now (as_read fault)) result }
 {
@@ -62,7 +62,7 @@ fn refuse_text(alloc: Global, name: &str, fault: LineFault) -> Stop
     }
 }
 
-// Why a derivation of this name is not accepted.
+// Why the derivation with this name is not accepted.
 fn refuse_derivation(
     alloc: Global,
     source_name: &str,
@@ -86,8 +86,8 @@ fn refuse_derivation(
     }
 }
 
-/// Reads the derivation of this name part by part, and judges it for the source. Each of its nodes is decided by asking the
-/// referee.
+/// Reads the derivation with this name part by part, and judges it for the source. Each of its nodes is decided by
+/// asking the referee.
 pub fn judge_derivation<F: Files, R: Referee>(
     alloc: Global,
     files: &mut F,
@@ -110,7 +110,7 @@ pub fn judge_derivation<F: Files, R: Referee>(
     }
 }
 
-/// Reads the derivation of this name whole and goes through its stages.
+/// Reads the derivation with this name whole and takes it through its stages.
 pub fn read_derivation<F: Files>(alloc: Global, files: &mut F, name: &str) -> Result<Ann, Stop>
     ensures later { (n : Sequence ℕ) → F.faults files.old n ≤ F.faults files.new n }
     ensures same { (n : Sequence ℕ) → F.bytes files.new n ≡ F.bytes files.old n }
@@ -121,7 +121,7 @@ pub fn read_derivation<F: Files>(alloc: Global, files: &mut F, name: &str) -> Re
     read_annotation(alloc, name, bytes.as_slice())
 }
 
-// The annotation of these bytes of the derivation of this name.
+// The annotation of these bytes of the derivation with this name.
 fn read_annotation(alloc: Global, name: &str, bytes: &[u8]) -> Result<Ann, Stop>
     ensures { StageEnds (Deriving name.now bytes.now) result }
 {
@@ -142,7 +142,7 @@ fn refuse_bytes(alloc: Global, name: &str, fault: DerivFault) -> Stop
     }
 }
 
-/// Judges the annotation that was read of the derivation of this name.
+/// Judges the annotation that was read from the derivation with this name.
 pub fn judge_annotation(
     alloc: Global,
     source_name: &str,

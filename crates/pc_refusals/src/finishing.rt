@@ -8,7 +8,7 @@ use crate::stop::Stop;
 use pc_io::{Sink, SinkFault};
 use std::alloc::Global;
 
-/// Writes the line of a command that ended, and gives the status.
+/// Writes the line of a command that ended, and returns the status.
 pub fn finish<E: Sink>(alloc: Global, ended: Result<(), Stop>, err: &mut E) -> u8
     ensures later { E.faults err.old ≤ E.faults err.new }
     ensures finishes { Finishes (change (E.written err.old) (E.written err.new) (E.faults err.old) (E.faults err.new)) result ended }
@@ -25,7 +25,7 @@ pub fn finish<E: Sink>(alloc: Global, ended: Result<(), Stop>, err: &mut E) -> u
     }
 }
 
-// Writes a line, and gives this status, or that of the failure.
+// Writes a line, and returns this status, or that of the failure.
 fn put_line<E: Sink>(status: u8, line: &[u8], err: &mut E) -> u8
     ensures later { E.faults err.old ≤ E.faults err.new }
     ensures ends { LineEnds (change (E.written err.old) (E.written err.new) (E.faults err.old) (E.faults err.new)) result status line.now }

@@ -6,7 +6,7 @@ use crate::stop::Stop;
 use pc_lex::LexFault;
 use std::alloc::Global;
 
-/// The refusal of a source of this name with these bytes, which has this fault.
+/// The refusal of a source with this name, these bytes and this fault.
 pub fn refuse_lexing(alloc: Global, name: &str, bytes: &[u8], fault: LexFault) -> Stop
     ensures { IsLexStop name.now bytes.now fault result }
 {

@@ -1,8 +1,10 @@
-//! What refuses a command: the lines on err, the stages that need no core to be made, and how a command's end is written.
+//! What refuses a command: the lines on err, the stages that do not need a core to be made, and how a command's end is
+//! written.
 //!
-//! Proved: each refusal has the status and the line of its definition; a file is read whole or refused by its length; a stage's
-//! value or refusal is the one of its definition; a text that a command answers is one call of `put` on out, and the line of a
-//! refusal is one on err. Everything here stands below the crate that reads sources whole and has the commands.
+//! Proved: each refusal has the status and the line of its definition; a file is read whole or refused by its length; a
+//! stage's value or refusal is the one of its definition; a text that a command returns is one call of `put` on out,
+//! and the line of a refusal is one on err. Everything here is below the crate that reads sources whole and has the
+//! commands.
 #![tactic(auto)]
 
 mod core_faults;

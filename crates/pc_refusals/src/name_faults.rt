@@ -9,7 +9,7 @@ use crate::stop::Stop;
 use pc_names::{NameFault, Which};
 use std::alloc::Global;
 
-// What is said of the limit that is passed.
+// The words for a limit that is passed.
 fn text_of(which: Which) -> &'static str
     ensures { result.now ≡ many_text which }
 {
@@ -23,7 +23,7 @@ fn text_of(which: Which) -> &'static str
     }
 }
 
-/// The refusal of a source of this name with these bytes, whose names have this fault.
+/// The refusal of a source with this name and these bytes, whose names have this fault.
 pub fn refuse_name(alloc: Global, name: &str, bytes: &[u8], fault: NameFault) -> Stop
     ensures { IsNameStop name.now bytes.now fault result }
 {

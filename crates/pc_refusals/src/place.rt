@@ -1,13 +1,13 @@
-//! Where a byte stands in a text.
+//! The position of a byte in a text.
 ghost use Rattle.std.specs.Prelude.{◌≡◌, ◌<◌, ◌+◌, ◌^◌, cond, take};
 ghost use Rattle.pc_refusals.specs.Place.{is_line_end, line_behind, column_behind};
 
 /// A place in a text, both numbers counted from 1.
 #[derive(Clone, Copy, Debug)]
 pub struct Place {
-    /// One more than the line ends before it.
+    /// One more than the number of line ends before it.
     pub line: usize,
-    /// One more than the bytes since the last of them.
+    /// One more than the number of bytes since the last of them.
     pub column: usize,
 }
 

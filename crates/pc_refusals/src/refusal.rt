@@ -1,4 +1,4 @@
-//! Refusals by their line, and those that name a byte of a file.
+//! Refusals with their line, and those that name a byte of a file.
 ghost use Rattle.std.specs.Prelude.{◌≡◌, IfOk};
 ghost use Rattle.pc_lists.specs.Texts.{Text};
 ghost use Rattle.pc_refusals.specs.Inner.Refusals.{IsRefusal};
@@ -10,7 +10,7 @@ use crate::stop::Stop;
 use pc_io::Bytes;
 use std::alloc::{AllocError, Global};
 
-/// The line that names a byte of the file of this name, and what is wrong there.
+/// The line that names a byte of the file with this name, and what is wrong there.
 pub fn make_offset_line(
     alloc: Global,
     name: &str,
@@ -33,7 +33,7 @@ pub fn refuse(status: u8, line: Result<Bytes, AllocError>) -> Stop
     }
 }
 
-/// The refusal of the file of this name with these bytes, at one of them.
+/// The refusal of the file with this name and these bytes, at one of them.
 pub fn refuse_at(
     alloc: Global,
     name: &str,

@@ -13,10 +13,10 @@ use pc_io::Files;
 use pc_sched::{SchedFault, Turn, read};
 use std::alloc::Global;
 
-/// How many bytes a schedule may have.
+/// The greatest number of bytes of a schedule.
 const SCHEDULE_LIMIT: u32 = 1_048_576;
 
-/// Reads the schedule of this name and goes through its stages.
+/// Reads the schedule with this name and takes it through its stages.
 pub fn read_schedule<F: Files>(alloc: Global, files: &mut F, name: &str) -> Result<List<Turn>, Stop>
     ensures later { (n : Sequence ℕ) → F.faults files.old n ≤ F.faults files.new n }
     ensures same { (n : Sequence ℕ) → F.bytes files.new n ≡ F.bytes files.old n }
@@ -27,7 +27,7 @@ pub fn read_schedule<F: Files>(alloc: Global, files: &mut F, name: &str) -> Resu
     read_turns(alloc, name, bytes.as_slice())
 }
 
-// The turns of these bytes of the schedule of this name.
+// The turns of these bytes of the schedule with this name.
 fn read_turns(alloc: Global, name: &str, bytes: &[u8]) -> Result<List<Turn>, Stop>
     requires { length bytes.now ≤ schedule_limit }
     ensures { StageEnds (Scheduling name.now bytes.now) result }

@@ -10,11 +10,11 @@ use std::alloc::AllocError;
 pub enum Stop {
     /// A refusal, with its status and its line on err, which is empty if there is none.
     Refused { status: u8, line: Bytes },
-    /// The file of this name could not be read.
+    /// The file with this name could not be read.
     File { name: Bytes },
     /// Out did not take its text.
     Sink,
-    /// Out of memory.
+    /// Memory ran out.
     Memory,
 }
 

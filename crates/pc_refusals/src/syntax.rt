@@ -17,7 +17,7 @@ use pc_token::Token;
 use pc_tree::File;
 use std::alloc::Global;
 
-/// The tokens of the source of this name with these bytes.
+/// The tokens of the source with this name and these bytes.
 pub fn read_tokens(alloc: Global, name: &str, bytes: &[u8]) -> Result<List<Token>, Stop>
     requires { length bytes.now ≤ bytes_limit }
     ensures { StageEnds (Lexing name.now bytes.now) result }
@@ -28,7 +28,7 @@ pub fn read_tokens(alloc: Global, name: &str, bytes: &[u8]) -> Result<List<Token
     }
 }
 
-/// The tree of the source of this name with these bytes, whose tokens these are.
+/// The tree of the source with this name, these bytes and these tokens.
 pub fn read_tree(alloc: Global, name: &str, bytes: &[u8], tokens: &[Token]) -> Result<File, Stop>
     requires { EndsWithEnd tokens.now }
     ensures { StageEndsAs file_view (Parsing name.now bytes.now tokens.now) result }
@@ -45,7 +45,7 @@ pub fn read_tree(alloc: Global, name: &str, bytes: &[u8], tokens: &[Token]) -> R
     }
 }
 
-/// The tree of the source of this name with these bytes.
+/// The tree of the source with this name and these bytes.
 pub fn parse_source(alloc: Global, name: &str, bytes: &[u8]) -> Result<File, Stop>
     requires { length bytes.now ≤ bytes_limit }
     ensures { StageEndsAs file_view (SyntaxStage name.now bytes.now) result }

@@ -1,4 +1,4 @@
-//! The last stage of a source whose core has to have a derivation: its annotation.
+//! The last stage of a source whose core must have a derivation: its annotation.
 ghost use Rattle.pc_refusals.specs.Accepting.{Typing};
 ghost use Rattle.pc_refusals.specs.Inner.Stages.{StageEnds};
 
@@ -9,16 +9,16 @@ use pc_ann::Ann;
 use pc_check::check;
 use std::alloc::Global;
 
-/// A source that all stages let pass, with its core's valid annotation.
+/// A source that has passed all stages, with its core's valid annotation.
 #[derive(Drop)]
 pub struct Accepted {
     /// The source with its core.
     pub source: Source,
-    /// The annotation that the core has.
+    /// The annotation of the core.
     pub ann: Ann,
 }
 
-/// The source of this name, with its core's annotation.
+/// The source with this name, with its core's annotation.
 pub fn type_source(alloc: Global, name: &str, source: Source) -> Result<Accepted, Stop>
     ensures { StageEnds (Typing name.now source) result }
 {

@@ -6,7 +6,7 @@ use crate::lines::make_usage_line;
 use crate::stop::Stop;
 use std::alloc::Global;
 
-/// The refusal of words that ask for nothing, or give no numbers if numbers are asked for.
+/// The refusal of words that ask for nothing, or that are not numbers if numbers are required.
 pub fn refuse_words(alloc: Global) -> Stop
     ensures { IsRefusal 2 usage_line result }
 {

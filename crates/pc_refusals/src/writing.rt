@@ -8,7 +8,7 @@ use crate::stop::Stop;
 use pc_caps::List;
 use pc_io::{Sink, SinkFault};
 
-/// Writes a text by one call of `put`.
+/// Writes a text in one call of `put`.
 pub fn put_text<O: Sink>(out: &mut O, text: &[u8]) -> Result<(), Stop>
     ensures later { O.faults out.old ≤ O.faults out.new }
     ensures wrote { Wrote text.now (change (O.written out.old) (O.written out.new) (O.faults out.old) (O.faults out.new)) result }
@@ -20,8 +20,8 @@ pub fn put_text<O: Sink>(out: &mut O, text: &[u8]) -> Result<(), Stop>
     }
 }
 
-/// Writes the text that a command answered by one call of `put`. What stopped the command stops here too, and nothing is
-/// written.
+/// Writes the text that a command returned in one call of `put`. What stopped the command stops this too, and nothing
+/// is written.
 pub fn put_answer<O: Sink>(out: &mut O, answer: Result<List<u8>, Stop>) -> Result<(), Stop>
     ensures later { O.faults out.old ≤ O.faults out.new }
     ensures puts { Puts answer (change (O.written out.old) (O.written out.new) (O.faults out.old) (O.faults out.new)) result }

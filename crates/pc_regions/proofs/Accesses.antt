@@ -1,4 +1,5 @@
--- In a configuration that is well typed and has regions, each access is on an object of the actor, or reads a frozen one.
+-- In a configuration that is well typed and has regions, each access is to an object of the actor, or reads a frozen
+-- one.
 use Rattle.std.specs.Prelude.{◌≡◌, ◌⊎◌, ℕ, ◌+◌, ◌<◌, true, List, [], ◌∷◌, length, Option, Some, slice_get, refl}
 use Rattle.std.proofs.Common.{inl, inr, ap, sym, subst, ◌∙◌, arith}
 use Rattle.std.proofs.lemmas.Option.{same_Some, none-some}
@@ -110,7 +111,7 @@ module _ (core : CoreData) (ann : Ann) (needs : Needs core ann) (around : Around
   own_belongs : (x : Method) (a : Address) → slice_get core.methods f.method ≡ Some x → constructs x.kind ≡ true → At a ≡ r.held.this → Belongs w around.actor (w.region a)
   own_belongs x a is c this = this_belongs x a is (constructor_ref x x.kind (needs.formed.methods f.method x is).result_fits c) (r.held.is_this ∙ ap (λ (v : Value). Some (Some v)) (sym this))
 
--- What is on top of a stack that answers wants is the frame's own object, where that is wanted.
+-- What is on top of a stack that meets the wants is the frame's own object, if that is wanted.
 own_top : (core : CoreData) (objects : ObjectMap) (this : Value) (g below : List Want) (x : Want) (v : Value) (rest : List Value) (vs : List Value) → StackOk core objects this g vs → g ≡ x ∷ below → vs ≡ v ∷ rest → x.own ≡ true → v ≡ this
 own_top core objects this g below x v rest vs ok is at own =
     let k : StackOk core objects this (x ∷ below) (v ∷ rest) = subst (StackOk core objects this (x ∷ below)) at (subst (λ (ws : List Want). StackOk core objects this ws vs) is ok) in

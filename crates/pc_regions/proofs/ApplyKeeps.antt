@@ -1,4 +1,4 @@
--- The task Apply in regions: what an operator gives is no object's address, and takes the place of the operands.
+-- The task Apply in regions: the value of an operator is not an object's address, and replaces the operands.
 use Rattle.std.specs.Prelude.{◌≡◌, ℕ, ◌+◌, true, List, [], ◌∷◌, ◌++◌, length, Option, Some, slice_get, refl}
 use Rattle.std.proofs.Common.{ap, sym, subst, ◌∙◌, append_assoc, arith, length-append}
 use Rattle.std.proofs.lemmas.Option.{same_Some}
@@ -35,7 +35,7 @@ use Rattle.pc_regions.proofs.Rising.{Pushes, rise}
 use Rattle.pc_regions.proofs.ChildForms.{at_depth}
 use Rattle.pc_regions.proofs.Schedules.{KeepsRegions}
 
--- ---- values that are no object's
+-- ---- values that are not objects
 
 pub plain_fits : (w : World) (p : Place) (f : Form) (v : Value) → no_object v ≡ true → Fits w p f v
 plain_fits w p f (At a) e = absurd (false_true e)

@@ -1,4 +1,4 @@
--- The arguments of a call on a stack that fits by regions: where each stands, and of which form it is.
+-- The arguments of a call on a stack that fits by regions: where each is, and which form it has.
 use Rattle.std.specs.Prelude.{◌≡◌, ◌⊎◌, ℕ, suc, ◌+◌, true, ◌||◌, List, [], ◌∷◌, ◌++◌, length, Option, Some, None, slice_get, refl}
 use Rattle.std.proofs.Common.{ap, sym, subst, ◌∙◌, arith}
 use Rattle.std.proofs.lemmas.Option.{same_Some, some_pair_parts}
@@ -47,7 +47,7 @@ ArgumentsStand ann w i h l n [] [] = Unit {0}
 ArgumentsStand ann w i h l n (c ∷ cs) (v ∷ vs) = FitsSome w (OnStack i h n l) (type_of ann c) v × ArgumentsStand ann w i h l (suc n) cs vs
 ArgumentsStand ann w i h l n cs vs = ⊥
 
--- So many are taken from the stack, and the rest fits.
+-- This many are taken from the stack, and the rest fits.
 pub record Pulled (ann : Ann) (w : World) (i h base d : ℕ) (cs : List ℕ) (below : List Entry) (vs : List Value) : Type 0 where
   pub values : List Value
   pub rest : List Value
@@ -82,7 +82,7 @@ pub pulled_is : (ann : Ann) (w : World) (i h base d : ℕ) (cs : List ℕ) (belo
 pulled_is ann w i h base d cs below vs p values rest e =
     some_pair_parts p.values values p.rest rest (sym (p.is [] ∙ ap (λ (xs : List Value). Some (xs, p.rest)) (append-nil p.values)) ∙ e)
 
--- The pile of nodes with one more behind them.
+-- The pile of nodes with one more after them.
 pub piled_last : (ann : Ann) (d : ℕ) (cs : List ℕ) (r : ℕ) (below : List Entry) → piled ann d (cs ++ r ∷ []) below ≡ record { ty = type_of ann r; depth = d } ∷ piled ann d cs below
 piled_last ann d [] r below = refl
 piled_last ann d (c ∷ cs) r below = piled_last ann d cs r (record { ty = type_of ann c; depth = d } ∷ below)
@@ -113,13 +113,13 @@ first_sendable ann c cs p ps g e =
     let a = and_parts (argument_sendable p (type_of ann c)) (arguments_sendable ann cs ps) e in
     (one_sendable ann c p g (type_of ann c) refl a.0, a.1)
 
--- What goes to the parameter of one method goes to that of one that may stand for it.
+-- What goes to the parameter of one method goes to that of a method that may stand for it.
 pub stands_below : (core : CoreData) (p q : ParamInfo) → ParamFits core p q → is_below (unalias p.cap) (unalias q.cap) ≡ true
 stands_below core p q f = (below_iff (unalias p.cap) (unalias q.cap)).1 f.1
 
 -- ---- the arguments of a constructor are all that the node's children left
 
--- Each of these values stands at its place, and below them the rest.
+-- Each of these values is at its place, and the rest is below them.
 pub record ChildrenStand (ann : Ann) (w : World) (i h base d : ℕ) (cs : List ℕ) (below : List Entry) (values rest : List Value) : Type 0 where
   pub stand : ArgumentsStand ann w i h (base + d) (length rest) cs values
   pub fits : StackFits w i h base below rest

@@ -1,5 +1,5 @@
--- Arguments settle, one after the other, where they are wanted: each at the parameter of the method that was found, after that of
--- the method by which the call was read, where the place lives with another region.
+-- Arguments settle, one after another, where they are wanted: each at the parameter of the method that was found, after
+-- that of the method by which the call was read if the place lives with another region.
 use Rattle.std.specs.Prelude.{◌≡◌, ◌≢◌, ◌⊎◌, ℕ, suc, ◌+◌, ◌<◌, ◌≤◌, Bool, true, false, ◌&&◌, List, [], ◌∷◌, length, Option, Some, nat_eq, nat_lt, slice_get, refl}
 use Rattle.std.proofs.Common.{inl, inr, sym, subst, ◌∙◌, arith, None}
 use Rattle.std.proofs.lemmas.Bool.{eq-eqb, ne_eqb, cases_lt, lt-ltb, le-ltb}
@@ -141,7 +141,7 @@ later_comes i h l at ann c cs p q ps qs g (inr (inl sent)) = inr (inl (λ k y e.
 later_comes i h l at ann c cs p q ps qs g (inr (inr lent)) = inr (inr (first_sendable ann c cs p ps g lent).1)
 
 module _ (core : CoreData) (ann : Ann) (settle : SettleLaw) (objects : ObjectMap) (count i h l top : ℕ) (here : i < count) (low : l ≤ top) where
-  -- What came of a world where an argument settled, or more.
+  -- What became of a world after an argument, or more of them, settled.
   pub record Passed (w : World) (n : ℕ) (at : ℕ → Place) (qs : List ParamInfo) (vs : List Value) : Type 0 where
     pub world : World
     pub calm : Calm w world objects count i (from_place i h n)
@@ -162,7 +162,7 @@ module _ (core : CoreData) (ann : Ann) (settle : SettleLaw) (objects : ObjectMap
         let s = settle w objects count ok i here h n l low_here (the_place i h n) (the_place_is i h n l) to f g v less fits near lands in
         record { world = s.0; calm = s.1.calm; fits = s.1.fits }
 
-  -- In two steps: first where it stands, at a form that may be sent.
+  -- In two steps: first where it is, at a form that may be sent.
   pub pass_twice : (w : World) → WorldOk w objects count → w.top i ≡ top → (n : ℕ) (to : Place) (f e g : Form) (v : Value) → is_below f e ≡ true → is_below e g ≡ true → sendable_form e ≡ true → Fits w (OnStack i h n l) f v
       → ((u : World) → u.top i ≡ top → Lands u objects i (OnStack i h n l) g to) → PassedOne w n to g v
   pass_twice w ok is_top n to f e g v less more sent fits lands =

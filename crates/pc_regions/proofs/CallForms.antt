@@ -1,4 +1,4 @@
--- What the rules of calls say of forms.
+-- What the rules of calls state about forms.
 use Rattle.std.specs.Prelude.{◌≡◌, ◌⊎◌, ℕ, true, ◌&&◌, not, Some, slice_get}
 use Rattle.std.proofs.Common.{inl, inr}
 use Rattle.std.proofs.lemmas.Bool.{and_parts}

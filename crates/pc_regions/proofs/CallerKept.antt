@@ -1,5 +1,5 @@
--- A frame whose node takes what its children left on the stack: what is kept of it, of the frames below, of fields and of the other
--- actors while that settles elsewhere.
+-- A frame whose node takes what its children left on the stack: what is preserved of it, of the frames below, of fields
+-- and of the other actors while these values settle elsewhere.
 use Rattle.std.specs.Prelude.{◌≡◌, ℕ, suc, ◌+◌, ◌<◌, ◌≤◌, Bool, true, false, ◌&&◌, List, [], ◌∷◌, length, Option, Some, None, nat_eq, nat_lt, refl}
 use Rattle.std.proofs.Common.{inr, ap, sym, subst, ◌∙◌, arith}
 use Rattle.std.proofs.lemmas.Bool.{ne_eqb, le-ltb, and_right}
@@ -55,7 +55,7 @@ pub record Rests (core : CoreData) (ann : Ann) (w : World) (i m base d : ℕ) (l
   pub stack_fit : StackFits w i (length fs) base below vs
   pub wait : WaitFits core ann w i base m fs
 
--- A value may be pushed in it where the last level is that of its node.
+-- A value may be pushed in it if the last level is that of its node.
 pub pushes_of : (core : CoreData) (ann : Ann) (w : World) (objects : ObjectMap) (count i m base d : ℕ) (live : Mask) (below : List Entry) (slots : List (Option Value)) (vs : List Value) (fs : List Frame) → Rests core ann w i m base d live below slots vs fs
     → WorldOk w objects count → FieldsFit core w objects → i < count → w.top i ≡ base + d → Pushes core ann w objects count i m base d live below slots vs fs
 pushes_of core ann w objects count i m base d live below slots vs fs rests world fields here top = record {
@@ -80,7 +80,7 @@ module _ (core : CoreData) (ann : Ann) (around : Around) (f : Frame) (fs : List 
   pub children_on : (values rest : List Value) → popped (length e.node.children) f.stack [] ≡ Some (values, rest) → ChildrenStand ann w around.actor (length fs) s.active.holds.base s.active.depth e.node.children e.below values rest
   children_on values rest is = children_stand ann w around.actor (length fs) s.active.holds.base s.active.depth e.node.children e.below f.stack pull_all values rest is
 
-  -- The live slots behind the node.
+  -- The live slots after the node.
   pub live_left : (behind : Masks) → through ann e.node.children (before e.note) ≡ Some behind → e.note.live_after ≡ behind.0 → Within e.note.live_after s.active.holds.live
   live_left behind is left = (left_within (through ann e.node.children (before e.note)) e.behind behind e.note.live_after behind.1 s.active.holds.live e.behind.1 e.is_behind is left refl e.live (within_same e.behind.1)).0
 
@@ -124,7 +124,7 @@ module _ (core : CoreData) (ann : Ann) (around : Around) (f : Frame) (fs : List 
       wait = wait_on;
     }
 
-    -- One may be pushed, where the last level is that of the node.
+    -- A value may be pushed if the last level is that of the node.
     pub pushes_on : w'.top around.actor ≡ w.top around.actor → (rest : List Value) → length rest ≤ m → StackFits w around.actor (length fs) s.active.holds.base e.below rest
         → Pushes core ann w' around.objects around.actors around.actor f.method s.active.holds.base s.active.depth s.active.holds.live e.below f.slots rest fs
     pushes_on top rest few fit =
@@ -164,7 +164,7 @@ module _ (core : CoreData) (ann : Ann) (around : Around) (f : Frame) (fs : List 
       wait = below_under w w' around.objects around.actors around.actor s.active.holds.base gone x core ann (length fs) (λ h t l under low. left.slots h t l (low_than l low)) (λ h d l under low. left.lower h d l under (low_than l low)) s.active.holds.base f.method fs (omega arith) (omega arith) s.wait;
     }
 
--- A frame that waits, where a value might be pushed.
+-- A frame that waits, when a value might be pushed.
 module _ (core : CoreData) (ann : Ann) (w : World) (i m base d : ℕ) (live : Mask) (below : List Entry) (slots : List (Option Value)) (vs : List Value) (fs : List Frame) (p : Rests core ann w i m base d live below slots vs fs) where
   abbrev pub waits : (after : Mask) (t : Option Ty) (ts : List Task) → Within after live → Rises core m after (record { ty = t; depth = d }) below (λ c l g. TasksRise core ann m ts c l g)
       → (b : ℕ) (x : Method) → Entered w i x t base (base + d) b x.kind → GoesTo core x.result t → Awaits core ann w i (length fs) b x (record { method = m; slots = slots; stack = vs; tasks = ts })

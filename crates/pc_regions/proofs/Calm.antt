@@ -1,4 +1,4 @@
--- What settles leaves all else as it was: contexts, roles and levels, what is over regions, and aliases.
+-- Settling leaves everything else unchanged: contexts, roles and levels, what is over regions, and aliases.
 use Rattle.std.specs.Prelude.{◌≡◌, ℕ, ◌<◌, ◌≤◌, Bool, false, refl}
 use Rattle.std.proofs.Common.{sym, subst, ◌∙◌}
 use Rattle.pc_heap.specs.Objects.{ObjectMap}

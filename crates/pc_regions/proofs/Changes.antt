@@ -1,5 +1,6 @@
--- Changes of a world: a region stands otherwise, becomes a part of another, or is left by the places that held it; a new one is
--- opened, and a context comes or goes. What an actor does in a frame shifts a world, and keeps what is asked at the other places.
+-- Changes of a world: a region stands otherwise, becomes a part of another, or is left by the places that held it; a
+-- new one is opened, and a context comes or goes. What an actor does in a frame shifts a world, and preserves what is
+-- required at the other places.
 use Rattle.std.specs.Prelude.{◌≡◌, ◌≢◌, ◌⊎◌, ℕ, suc, ◌-◌, ◌<◌, ◌≤◌, Bool, false, ◌&&◌, cond, Option, Some, None, nat_eq, nat_lt}
 use Rattle.pc_heap.specs.Objects.{ObjectMap}
 use Rattle.pc_heap.specs.declared.value.Value.{Value}
@@ -11,7 +12,7 @@ use Rattle.pc_regions.proofs.World.{Place, Standing, Unused, Opened, Loose, Held
 abbrev pub stand : (ℕ → Standing) → ℕ → Standing → ℕ → Standing
 stand f q s x = cond (nat_eq q x) s (f x)
 
--- Region q stands so.
+-- Region q stands like this.
 abbrev pub standing : World → ℕ → Standing → World
 standing w q s = record { region = w.region; stands = stand w.stands q s; role = w.role; context = w.context; top = w.top; sent = w.sent; next = w.next }
 
@@ -95,8 +96,8 @@ without_last w i = record {
 
 -- ---- what is kept
 
--- While actor i runs a frame of level b, whose values at these places are asked for no more: every other value fits as it did, the other
--- actors keep their contexts and what is over them, and this one does up to level b.
+-- While actor i runs a frame of level b, and the values at these places are no longer needed: every other value fits as
+-- it did, the other actors keep their contexts and what is over them, and this one does up to level b.
 pub record Shifts (w w' : World) (objects : ObjectMap) (count i b : ℕ) (gone : Place → Bool) : Type 0 where
   pub world : WorldOk w' objects count
   pub fits : (p : Place) (f : Form) (v : Value) → gone p ≡ false → Fits w p f v → Fits w' p f v

@@ -1,4 +1,4 @@
--- Children that are evaluated, one after the other, and the forms and depths of what they leave.
+-- Children that are evaluated, one after another, and the forms and depths of what they leave.
 use Rattle.std.specs.Prelude.{◌≡◌, ℕ, suc, false, List, [], ◌∷◌, ◌++◌, Option, Some, slice_get, refl}
 use Rattle.std.proofs.Common.{inl, ap, sym, subst, ◌∙◌, arith}
 use Rattle.std.proofs.lemmas.Option.{same_Some, none-some}
@@ -20,7 +20,7 @@ use Rattle.pc_regions.proofs.StackForms.{Entry, Shallow, Ascent, Climbs, top_of,
 use Rattle.pc_types.proofs.Basic.{within_same, within_trans}
 use Rattle.pc_types.proofs.EvalChildren.{within_is, first_of_them, type_is, last_next}
 
--- Node c is there, in method m at depth d, and is no body.
+-- Node c exists, in method m at depth d, and is not a body.
 abbrev pub IsAt : CoreData → ℕ → ℕ → ℕ → Type 0
 IsAt core m d c = (y : Node) × (slice_get core.nodes c ≡ Some y) × (y.method ≡ m) × (y.depth ≡ d) × (y.kind ≡ nodes.Body → ⊥)
 

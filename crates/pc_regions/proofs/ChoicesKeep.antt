@@ -76,7 +76,7 @@ module _ (core : CoreData) (ann : Ann) (needs : Needs core ann) (climb : ClimbLa
       wait = s.wait;
     }
 
-    -- A value that is no object's takes the place of the top.
+    -- A value that is not an object replaces the top.
     pub pushed_over : (x : Node) (u : Note) (ty : Ty) (z : Value) → x.depth ≡ d → u.ty ≡ Some ty → Within u.live_after live → OfType core around.objects ty z
         → Fits w (OnStack around.actor (length fs) (length rest) (s.active.holds.base + d)) ty.1 z → Alias w around.actor s.active.holds.base (s.active.holds.base + d) ty.1 z
         → Rises core f.method u.live_after (entry_of x u) below (λ d l g. TasksRise core ann f.method f.tasks d l g) → RegionMoveOk core ann w around fs (Goes (pushed (with_stack f rest) z))

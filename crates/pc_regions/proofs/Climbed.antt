@@ -1,5 +1,6 @@
--- A value goes up its way: through branches that are joined, and out of recovers that end. Some world makes it fit at the top of
--- the way, and shifts what was there: the frame's other values are kept, but for those that stood in a recover that has ended.
+-- A value goes up its way: through branches that are joined, and out of recovers that end. Some world makes it fit at
+-- the top of the way, and shifts what was there: the frame's other values are preserved, except for those in a recover
+-- that has ended.
 use Rattle.std.specs.Prelude.{◌≡◌, ℕ, ◌+◌, ◌<◌, Bool, false, ◌&&◌, ◌||◌, List, nat_eq, nat_lt}
 use Rattle.pc_heap.specs.Objects.{ObjectMap}
 use Rattle.pc_heap.specs.declared.value.Value.{Value}
@@ -17,7 +18,7 @@ passed i h n k (OnStack j g d l) = nat_eq i j && (nat_eq h g && (nat_eq n d || n
 passed i h n k (InField a f) = false
 passed i h n k (InMail j t f) = false
 
--- The value stands at this place, in a frame of level `base`, whose last level is that of the entry.
+-- The value is at this place, in a frame of level `base`, whose last level is that of the entry.
 pub record Stands (core : CoreData) (w : World) (objects : ObjectMap) (count i h n base : ℕ) (e : Entry) (v : Value) : Type 0 where
   pub world : WorldOk w objects count
   pub here : i < count
@@ -27,7 +28,7 @@ pub record Stands (core : CoreData) (w : World) (objects : ObjectMap) (count i h
   pub fits : FitsSome w (OnStack i h n (base + e.depth)) e.ty v
   pub alias : AliasSome w i base (base + e.depth) e.ty v
 
--- From world w, in which it stood lower, it came to stand so in w'.
+-- From world w, in which it was lower, it has come to be there in w'.
 pub record Climbed (core : CoreData) (w w' : World) (objects : ObjectMap) (count i h n base : ℕ) (e : Entry) (v : Value) : Type 0 where
   pub stands : Stands core w' objects count i h n base e v
   pub shifts : Shifts w w' objects count i base (passed i h n (base + e.depth))

@@ -63,7 +63,7 @@ passed_less i h n k m low (OnStack j g d l) e = less_passed (nat_eq i j) (nat_eq
 passed_less i h n k m low (InField a f) e = refl
 passed_less i h n k m low (InMail j t f) e = refl
 
--- Two steps, the second to a level that is no higher.
+-- Two steps, of which the second leads to a level that is no higher.
 pub both_passed : (w v u : World) (objects : ObjectMap) (count i b h n k m : ℕ) → m ≤ k → Shifts w v objects count i b (passed i h n k) → Shifts v u objects count i b (passed i h n m) → Shifts w u objects count i b (passed i h n m)
 both_passed w v u objects count i b h n k m low x y =
     shifts_less w u objects count i b b (λ p. passed i h n k p || passed i h n m p) (passed i h n m) (omega arith) (λ p e. or_from (passed i h n k p) (passed i h n m p) (passed_less i h n k m low p e) e)
@@ -97,7 +97,7 @@ near_same w i h n l f form.Val = tt
 near_same w i h n l f form.Box = from_same w i h n l f
 near_same w i h n l f form.Tag = tt
 
--- What comes out of a recover is no alias that is used.
+-- What comes out of a recover is not an alias that is used.
 lift_in : (w : World) (i b k : ℕ) (f : Form) (q : ℕ) → AliasIn w i b k (lift f) q
 lift_in w i b k form.IsoE q = tt
 lift_in w i b k form.TrnE q = tt
@@ -323,7 +323,7 @@ module _ (core : CoreData) (ann : Ann) (needs : Needs core ann) (settle : Settle
       same_shifts : Shifts w w objects count i base gone
       same_shifts = shifts_none w objects count i base gone s.world
 
-      -- What stands still is moved as it is.
+      -- What does not move is lifted unchanged.
       plainly : (f : Form) → Fits w to (lift f) v → (x : World) × Lifted x f
       plainly f fit = (b w same_shifts s.top s.opened, b_lifted w same_shifts s.top s.opened f fit)
 

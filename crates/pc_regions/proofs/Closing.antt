@@ -1,5 +1,5 @@
--- A region that was open, and is a context no more, stands otherwise: it is held at a place, or frozen. No chain of holders leads
--- through what is open, so that every other value fits as it did.
+-- A region that was open, and is no longer a context, stands otherwise: it is held at a place, or frozen. No chain of
+-- holders leads through what is open, so every other value fits as it did.
 use Rattle.std.specs.Prelude.{◌≡◌, ◌≢◌, ◌⊎◌, ℕ, ◌<◌, ◌≤◌, Bool, Option, Some, None, refl}
 use Rattle.std.specs.FinMap.{get}
 use Rattle.std.proofs.Common.{inl, inr, ap, sym, subst, ◌∙◌, arith}

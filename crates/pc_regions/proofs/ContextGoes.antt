@@ -1,4 +1,4 @@
--- A context goes: the last one of an actor is one no more, and what the places of its level held is loose.
+-- A context goes: the last one of an actor is no longer one, and what the places of its level held is loose.
 use Rattle.std.specs.Prelude.{◌≡◌, ◌≢◌, ◌⊎◌, ℕ, suc, ◌-◌, ◌<◌, ◌≤◌, Bool, true, false, ◌&&◌, cond, Option, Some, None, nat_eq, nat_lt, refl}
 use Rattle.std.proofs.Common.{inl, inr, ap, sym, subst, ◌∙◌, arith}
 use Rattle.std.proofs.lemmas.Bool.{ne_eqb, le-ltb, cases_eq, cases_lt, cases_Bool, and_left, and_right, cond-true, cond-false}

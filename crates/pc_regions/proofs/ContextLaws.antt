@@ -1,4 +1,4 @@
--- What is kept while contexts come and go: one is opened, a region is lent as the next one, or the last one is one no more.
+-- What is preserved while contexts come and go: one is opened, a region is lent as the next one, or the last one ends.
 use Rattle.std.specs.Prelude.{◌≡◌, ◌≢◌, ◌⊎◌, ℕ, suc, ◌<◌, ◌≤◌, Bool, true, false, ◌&&◌, None, nat_eq, nat_lt}
 use Rattle.pc_heap.specs.Objects.{ObjectMap}
 use Rattle.pc_heap.specs.declared.value.Value.{Value}
@@ -27,8 +27,8 @@ OpenLaw =
     (w : World) (objects : ObjectMap) (count : ℕ) → WorldOk w objects count → (i : ℕ) → i < count → (b : ℕ) → b ≤ w.top i
     → (gone : Place → Bool) → ((p : Place) → higher i (w.top i) p ≡ true → gone p ≡ true) → Opens w (with_open w i) objects count i b gone
 
--- A region that is no context, over which some level from b on is, is lent as the next context, by a frame of level b above which
--- all contexts are open. What is over it stays over it.
+-- A region that is not a context, and that some level from b on is over, is lent as the next context, by a frame of
+-- level b above which all contexts are open. What is over it stays over it.
 abbrev pub LentLaw : Type 0
 LentLaw =
     (w : World) (objects : ObjectMap) (count : ℕ) → WorldOk w objects count → (i : ℕ) → i < count → (b : ℕ) → b ≤ w.top i
@@ -49,8 +49,8 @@ EndLaw =
     (w : World) (objects : ObjectMap) (count : ℕ) → WorldOk w objects count → (i : ℕ) → i < count → (k : ℕ) → w.top i ≡ suc k
     → (gone : Place → Bool) → Ends w (without_last w i) objects count i k gone
 
--- What the places of its level held is loose before it ends. Where it is lent, and some level of a frame that goes on is over it, an
--- alias of form `iso` comes down to that frame.
+-- What the places of its level held is loose before it ends. If it is lent, and some level of a frame that goes on is
+-- over it, an alias of form `iso` comes down to that frame.
 abbrev pub ended : World → ℕ → ℕ → World
 ended w i k = without_last (left_by w (higher i k) i k) i
 

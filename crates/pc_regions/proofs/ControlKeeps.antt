@@ -1,4 +1,4 @@
--- Eval at nodes that look at what they evaluate, and at those of which all children are evaluated first, in regions.
+-- Eval at nodes that look at what they evaluate, and at nodes whose children are all evaluated first, in regions.
 use Rattle.std.specs.Prelude.{◌≡◌, ◌⊎◌, ℕ, ◌<◌, Bool, true, false, cond, List, [], ◌∷◌, ◌++◌, length, Option, Some, None, slice_get, refl}
 use Rattle.std.proofs.Common.{inl, inr, ap, sym, subst, ◌∙◌, append_assoc, arith}
 use Rattle.std.proofs.lemmas.Option.{same_Some, none-some}
@@ -104,7 +104,7 @@ calm [] us (inl l) = absurd (omega (arith, l))
 calm [] us (inr e) = e
 calm (c ∷ cs) us k = refl
 
--- A child is no body: the body of a method is its last node.
+-- A child is not a body: the body of a method is its last node.
 no_body : (core : CoreData) (ann : Ann) (needs : Needs core ann) (n c : ℕ) (x y : Node) (i : ℕ) → slice_get core.nodes n ≡ Some x → slice_get core.nodes c ≡ Some y → y.method ≡ x.method → slice_get x.children i ≡ Some c → y.kind ≡ nodes.Body → ⊥
 no_body core ann needs n c x y i at child own h is =
     let a = home core c needs.formed (get_below core.nodes c y child) in
@@ -155,7 +155,7 @@ module _ (core : CoreData) (ann : Ann) (needs : Needs core ann) (flat : LiveShal
         (subst (λ (us : List Task). TasksRise core ann f.method us d s.active.holds.live g) ts all)
         (subst (λ (us : List Task). uses_top us ≡ false) ts (calm e.node.children (t ∷ f.tasks) many))
 
-    -- What the task behind the children needs.
+    -- What the task after the children needs.
     pub finish_rises : (does : NodeKind → Bool) (k : NodeKind) → e.node.kind ≡ k → does k ≡ true → (behind : Masks) → through ann e.node.children (before e.note) ≡ Some behind → (more : Mask) → Within behind.0 more
         → FinishRises core ann f.method d more (piled ann d e.node.children g) does n (λ d l g. TasksRise core ann f.method f.tasks d l g)
     finish_rises does k is h behind masks more w = record {

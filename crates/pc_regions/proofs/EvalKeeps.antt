@@ -160,7 +160,7 @@ module _ (core : CoreData) (ann : Ann) (needs : Needs core ann) (flat : LiveShal
 
 module _ (core : CoreData) (ann : Ann) (needs : Needs core ann) (flat : LiveShallow core ann) (climb : ClimbLaw core) (take : TakeLaw) (opens : OpenLaw) (around : Around) (f : Frame) (fs : List Frame) (r : Runs core ann around f fs) (w : World) (n : ℕ) (s : Situated core ann w around f (task.Eval n ∷ f.tasks) fs) where
   module _ (e : EvalRises core ann f.method s.active.depth s.active.holds.live s.active.holds.entries n (λ d l g. TasksRise core ann f.method f.tasks d l g)) (t : EvalOk core ann f.method r.held.live r.held.set r.held.wants n (λ l z g. TasksOk core ann f.method f.tasks l z g)) where
-    -- The children of a node of this kind are evaluated one after the other.
+    -- The children of a node of this kind are evaluated one after another.
     threaded_at : (k : NodeKind) → e.node.kind ≡ k → is_branch k ≡ false → says core ann e.node (before e.note) e.note.rule k ≡ Some (said_by e.note) → Threaded ann e.node.children (before e.note)
     threaded_at k is other q = children_threaded core ann needs n e.node e.note e.is_node k is other q
 
@@ -209,7 +209,7 @@ module _ (core : CoreData) (ann : Ann) (needs : Needs core ann) (flat : LiveShal
       (subst (λ (k : NodeKind). RegionMoveOk core ann w around fs (evaluate f n b.node.children k)) (sym b.is_body)
       (body_goes core ann needs flat around f fs w n s b (body_inverse core ann b.node b.note rule)))
 
-  -- A node that is no body has no typed evaluation of a body.
+  -- A node that is not a body has no typed evaluation of a body.
   same_kind : (e : EvalRises core ann f.method s.active.depth s.active.holds.live s.active.holds.entries n (λ d l g. TasksRise core ann f.method f.tasks d l g)) → BodyOk core ann f.method r.held.live r.held.set n → ⊥
   same_kind e b = e.inner (ap (λ (x : Node). x.kind) (same_Some e.node b.node (sym e.is_node ∙ b.is_node)) ∙ b.is_body)
 

@@ -1,4 +1,5 @@
--- What the field of an origin held comes to the stack, where that is written: it is taken from the field, or seen through the origin.
+-- What the field of an origin held comes to the stack, if the field is written: it is taken from the field, or seen
+-- through the origin.
 use Rattle.std.specs.Prelude.{◌≡◌, ◌⊎◌, ℕ, ◌+◌, ◌<◌, ◌≤◌, Bool, true, false, ◌&&◌, Some, nat_eq, refl}
 use Rattle.std.proofs.Common.{inl, inr, ap, sym, subst, ◌∙◌, arith}
 use Rattle.std.proofs.lemmas.Bool.{cases_eq, eq-eqb, ne_eqb, and_right, and_left}
@@ -69,7 +70,7 @@ writer_no_trn o (inl p) e = let bad : form.Iso ≡ form.TrnE = sym p ∙ e in cc
 writer_no_trn o (inr (inl p)) e = let bad : form.Trn ≡ form.TrnE = sym p ∙ e in cc
 writer_no_trn o (inr (inr p)) e = let bad : form.Ref ≡ form.TrnE = sym p ∙ e in cc
 
--- What such a form asks for is the same at each place of the stack.
+-- What such a form requires is the same at each place of the stack.
 pub fits_along : (w : World) (i h n m l : ℕ) (o : Form) (q : ℕ) → Writer o → FitsIn w (OnStack i h n l) o q → FitsIn w (OnStack i h m l) o q
 fits_along w i h n m l form.Iso q x k = k
 fits_along w i h n m l form.Trn q x k = k
@@ -123,7 +124,7 @@ no_alias_in w i b l form.Val q k = tt
 no_alias_in w i b l form.Box q k = tt
 no_alias_in w i b l form.Tag q k = tt
 
--- What is given up is no alias.
+-- What is given up is not an alias.
 pub taken_alias : (w : World) (i b l : ℕ) (o g : Form) (c : Cap) (v : Value) → taken o c ≡ Some g → Alias w i b l g v
 taken_alias w i b l o g c (At a) is = no_alias_in w i b l g (w.region a) (taken_shares o g c is)
 taken_alias w i b l o g c (Num n) is = tt
@@ -182,7 +183,7 @@ module _ (objects : ObjectMap) (count i base d : ℕ) (here : i < count) (h n : 
     pub fits : FitsIn u (OnStack i h n (base + d)) o (u.region a)
     pub alias : AliasIn u i base (base + d) o (u.region a)
 
-  -- The old value has come to where the origin stood, and the origin's region stands as it did.
+  -- The old value has come to where the origin was, and the origin's region stands as it did.
   pub record Drawn (u : World) (g : Form) (z : Value) : Type 0 where
     pub world : World
     pub shifts : Shifts u world objects count i base (the_field a k)

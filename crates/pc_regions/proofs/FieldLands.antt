@@ -92,6 +92,6 @@ module _ (w : World) (objects : ObjectMap) (count i base d : ℕ) (ok : WorldOk 
     no_stack_part form.Ref x y al u e = no_context_part r u y e
     no_stack_part o x y al u e = elim x [ inl p ↦ cc | inr q ↦ elim q [ inl p ↦ cc | inr p ↦ cc ] ]
 
-    -- The field may take what stands at a place of this frame's stack.
+    -- The field may take what is at a place of this frame's stack.
     pub field_lands : (o g : Form) (x : Object) → get objects a ≡ Some x → (o ≡ form.Iso) ⊎ ((o ≡ form.Trn) ⊎ (o ≡ form.Ref)) → FitsIn w (OnStack i h n (base + d)) o r → AliasIn w i base (base + d) o r → Lands w objects i (OnStack i h m l) g (InField a j)
     field_lands o g x at is y al = ((x, at), off_stack o is y al, no_stack_part o is y al)

@@ -1,4 +1,5 @@
--- A field is written: how the world changes from the origin, which is let go, to the old value, which stands where the new one stood.
+-- A field is written: how the world changes from the origin, which is let go, to the old value, which is then where the
+-- new one was.
 use Rattle.std.specs.Prelude.{◌≡◌, ◌≢◌, ℕ, suc, ◌+◌, ◌<◌, ◌≤◌, Bool, true, false, Option, Some, None, refl}
 use Rattle.std.specs.FinMap.{get}
 use Rattle.std.proofs.Common.{inl, inr, ap, sym, subst, ◌∙◌, arith}
@@ -70,7 +71,7 @@ near_from_on w v p to form.Iso a b s e = tt
 near_from_on w v p to form.Val a b s e = tt
 near_from_on w v p to form.Tag a b s e = tt
 
--- In another world where both places live with what they did, and the one that is gone to stands as it did.
+-- In another world in which both places live with what they did, and the one that it goes to stands as it did.
 near_on : (w v : World) (p to : Place) (f g : Form) → home v to ≡ home w to → home v p ≡ home w p → v.stands (home w to) ≡ w.stands (home w to) → Near w p f g to → Near v p f g to
 near_on w v p to f form.IsoE a b s e = tt
 near_on w v p to f form.Iso a b s e = tt
@@ -115,7 +116,7 @@ module _ (settle : SettleLaw) (take : TakeLaw) (core : CoreData) (ann : Ann) (ob
         },
       )
 
-  -- A value of form f, which stood under the origin, is in the field, and the old one stands where that stood.
+  -- A value of form f, which was below the origin, is in the field, and the old one is where that value was.
   pub record Written (u : World) (y : Value) (ty : Option Ty) (z : Value) : Type 0 where
     pub world : World
     pub shifts : Shifts u world objects count i base (put_gone i h m a k)
@@ -148,7 +149,7 @@ module _ (settle : SettleLaw) (take : TakeLaw) (core : CoreData) (ann : Ann) (ob
     still_open : (v x : World) (n : ℕ) → v.top i ≡ level → Calm v x objects count i (the_place i h n) → OpenedTo v i base d → OpenedTo x i base d
     still_open v x n top calm opened j up to = ap x.stands (calm.context i j here (subst (λ (l : ℕ). j ≤ l) (sym top) to)) ∙ calm.opened (v.context i j) i (opened j up to)
 
-    -- Where nothing is asked of the old value.
+    -- If nothing is required of the old value.
     pub put_new : (z : Value) → Written u y None z
     put_new z =
         let one = enters u t.world t.top refl refl refl fit in
@@ -162,7 +163,7 @@ module _ (settle : SettleLaw) (take : TakeLaw) (core : CoreData) (ann : Ann) (ob
           alias = tt;
         }
 
-    -- Where the origin gives up the old value.
+    -- If the origin gives up the old value.
     pub put_old : (e : ℕ) (g : Form) (z : Value) → taken o c ≡ Some g → Fits u (InField a k) (unalias c) z → Written u y (Some (e, g)) z
     put_old e g z is was =
         let up = draw objects count i base d here h (suc m) a k take u o t c g is z was in

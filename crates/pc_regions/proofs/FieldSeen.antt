@@ -28,7 +28,7 @@ module _ (w : World) (objects : ObjectMap) (count i base d : ℕ) (ok : WorldOk 
   abbrev place : Place
   place = OnStack i h n (base + d)
 
-  -- What fits on the stack and, where it is an alias, may be used.
+  -- What fits on the stack and, if it is an alias, may be used.
   abbrev Reads : Form → ℕ → Type 0
   Reads f q = FitsIn w place f q × AliasIn w i base (base + d) f q
 

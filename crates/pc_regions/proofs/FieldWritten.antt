@@ -1,4 +1,4 @@
--- A field is written: the same world fits the objects with the value, where the value fits the field.
+-- A field is written: the same world fits the objects with the value, if the value fits the field.
 use Rattle.std.specs.Prelude.{◌≡◌, ◌⊎◌, ℕ, ◌<◌, length, Option, Some, None, slice_get, slice_set, refl}
 use Rattle.std.specs.FinMap.{get}
 use Rattle.std.proofs.Common.{inl, inr, ap, sym, subst, ◌∙◌, length-set}
@@ -42,7 +42,7 @@ module _ (w : World) (objects : ObjectMap) (a : Address) (x : Object) (at : get 
   new_is : new ≡ with_field x k v
   new_is = ap (λ (o : Option Object). with_field (object_in o) k v) at
 
-  -- Nothing stands where nothing stood.
+  -- There is nothing where there was nothing.
   was_none : (b : Address) → get (with_value objects a k v) b ≡ None → (p : Option Object) → get objects b ≡ p → get objects b ≡ None
   was_none b e None g = g
   was_none b e (Some o) g = let s = put_stays objects a new b (o, g) in absurd (none-some s.0 (sym e ∙ s.1))

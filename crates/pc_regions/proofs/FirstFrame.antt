@@ -1,4 +1,5 @@
--- The frame of a method that begins fits by regions, where `this` and the arguments do; and a message fits where its arguments do.
+-- The frame of a method that begins fits by regions if `this` and the arguments do; and a message fits if its arguments
+-- do.
 use Rattle.std.specs.Prelude.{◌≡◌, ◌≢◌, ℕ, zero, suc, ◌+◌, ◌-◌, ◌<◌, List, [], ◌∷◌, ◌++◌, map, length, replicate, Option, Some, None, slice_get, refl}
 use Rattle.std.proofs.Common.{ap, sym, subst, ◌∙◌, arith}
 use Rattle.std.proofs.lemmas.Option.{same_Some, none-some}

@@ -1,5 +1,5 @@
--- When values fit their places by regions: those of frames, of objects and of waiting messages. A configuration has regions where
--- some world makes all of them fit.
+-- When values fit their places by regions: those of frames, of objects and of waiting messages. A configuration has
+-- regions if some world makes all of them fit.
 use Rattle.std.specs.Prelude.{◌≡◌, ◌⊎◌, ℕ, suc, ◌+◌, ◌<◌, ◌≤◌, true, false, List, [], ◌∷◌, length, Option, Some, None, slice_get}
 use Rattle.std.specs.FinMap.{get}
 use Rattle.pc_heap.specs.Objects.{ObjectMap}
@@ -66,8 +66,9 @@ abbrev pub SendableSome : Option Ty → Type 0
 SendableSome None = Unit {0}
 SendableSome (Some t) = sendable_form t.1 ≡ true
 
--- The frame above began at the level of the node that waits, or one level above: where it makes an object in a context of its own, or
--- where its receiver is lent. Then only what may be sent comes out, and what is over the receiver is at a level of the frame that waits.
+-- The frame above began at the level of the node that waits, or one level above: if it makes an object in a context of
+-- its own, or if its receiver is lent. Then only what may be sent comes out, and what is over the receiver is at a
+-- level of the frame that waits.
 abbrev pub Entered : World → ℕ → Method → Option Ty → ℕ → ℕ → ℕ → MethodKind → Type 0
 Entered w i x t base at b method.New = ((isolates x.result.1 ≡ false) × (b ≡ at)) ⊎ ((isolates x.result.1 ≡ true) × (b ≡ suc at) × (w.stands (w.context i b) ≡ Opened i))
 Entered w i x t base at b k = (b ≡ at) ⊎ ((b ≡ suc at) × SendableSome t × (l : ℕ) × (base ≤ l) × (l < b) × Over w i (w.context i b) l)
@@ -103,7 +104,7 @@ abbrev pub TopAlias : World → ℕ → ℕ → List Entry → List Value → Ty
 TopAlias w i base (e ∷ es) (v ∷ vs) = AliasSome w i base (w.top i) e.ty v
 TopAlias w i base es vs = Unit {0}
 
--- The last frame goes on at depth d, where its level is the actor's last.
+-- The last frame goes on at depth d, if its level is the actor's last.
 pub record Active (core : CoreData) (ann : Ann) (w : World) (i h m : ℕ) (slots : List (Option Value)) (stack : List Value) : Type 0 where
   pub holds : Holds core ann w i h m slots stack
   pub depth : ℕ

@@ -118,7 +118,7 @@ under_alias w objects count i base form.Iso q ok here low is a = record { free =
 under_alias w objects count i base form.Trn q ok here low is a = record { free = a.0; level = w.top i; from = low; to = omega arith; over = over_part (w.context i (w.top i)) a.1 a.2 a.3 (ok.named i (w.top i) here (omega arith)) }
 under_alias w objects count i base f q ok here low is a = absurd (false_true is)
 
--- A region that is the home of a place fits there where it is lent.
+-- A region that is the home of a place fits there if it is lent.
 lent_in : (w : World) (p : Place) (q : ℕ) (k j : Cap) → is_lent k ≡ true → is_below (unalias k) (unalias j) ≡ true → q ≡ home w p → FitsIn w p (unalias j) q
 lent_in w p q cap.Ref cap.Ref a e is = is
 lent_in w p q cap.Ref cap.Box a e is = same is
@@ -156,7 +156,7 @@ stand_kept ann w w' i h l on m (c ∷ cs) (v ∷ vs) k = (some_on (type_of ann c
     some_on None e = tt
     some_on (Some t) e = on m t.1 v e
 
--- A value that is no address fits anywhere.
+-- A value that is not an address fits anywhere.
 abbrev pub is_at : Value → Bool
 is_at (At a) = true
 is_at v = false
@@ -216,7 +216,7 @@ module _ (settle : SettleLaw) (core : CoreData) (ann : Ann) (needs : Needs core 
   up_to : (l a k : ℕ) → l ≤ a → a ≡ k → l < suc k
   up_to l a k low e = omega (arith, low, e)
 
-  -- Where the receiver and the arguments stand.
+  -- Where the receiver and the arguments are.
   pub stands : (by : CalledRule core ann g.node name g.note) (c : Calls by) → CallStands ann w around.actor (length fs) s.active.holds.base s.active.depth (arguments g.node.children) g.below c.under c.popped.values c.popped.rest by.receiver.1 c.this
   stands by c =
       let count : length (arguments g.node.children) ≡ length g.node.children - 1 = arguments_count g.node.children by.last by.is_last in

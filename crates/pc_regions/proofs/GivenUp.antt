@@ -14,7 +14,7 @@ use Rattle.pc_regions.proofs.OneHolder.{over_is_of}
 use Rattle.pc_regions.proofs.StandsOtherwise.{one_level}
 use Rattle.pc_regions.proofs.Taken.{FreeIn, Takes}
 
--- What is no `iso^` and no `trn^` is given up as it is seen.
+-- What is neither an `iso^` nor a `trn^` is given up as it is seen.
 pub taken_views : (o g : Form) (c : Cap) → taken o c ≡ Some g → (g ≡ form.IsoE → ⊥) → (g ≡ form.TrnE → ⊥) → view o c ≡ Some g
 taken_views form.IsoE g cap.Iso is a b = absurd (a (sym (same_Some form.IsoE g is)))
 taken_views form.Iso g cap.Iso is a b = absurd (a (sym (same_Some form.IsoE g is)))

@@ -1,4 +1,4 @@
--- Where all that stood stands: other actors, fields, frames that wait and arguments fit as they did.
+-- If everything that stood still stands: other actors, fields, frames that wait and arguments fit as they did.
 use Rattle.std.specs.Prelude.{◌≡◌, ℕ, suc, ◌+◌, ◌<◌, ◌≤◌, true, List, [], ◌∷◌, length, Option, None, slice_get}
 use Rattle.std.specs.FinMap.{insert}
 use Rattle.std.proofs.Common.{inl, inr, ap, sym, subst, ◌∙◌, arith}

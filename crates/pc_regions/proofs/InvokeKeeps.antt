@@ -56,7 +56,7 @@ use Rattle.pc_regions.proofs.FunctionCall.{here, Calls, calls, stands, call_ok, 
 module _ (settle : SettleLaw) (core : CoreData) (climb : ClimbLaw core) (ann : Ann) (needs : Needs core ann) (around : Around) (f : Frame) (fs : List Frame) (r : Runs core ann around f fs) (n : ℕ)
     (e : FinishOk core ann f.method r.held.live r.held.set r.held.wants invokes n (λ l s g. TasksOk core ann f.method f.tasks l s g)) (w : World) (s : Situated core ann w around f (task.Invoke n ∷ f.tasks) fs)
     (g : FinishRises core ann f.method s.active.depth s.active.holds.live s.active.holds.entries invokes n (λ d l st. TasksRise core ann f.method f.tasks d l st)) (name : ℕ) (is_call : g.node.kind ≡ nodes.Call name) where
-  -- A value that is no address is pushed in this world.
+  -- A value that is not an address is pushed in this world.
   pushes_plain : (u : World) (rest : List Value) (v : Value) (t : Ty) → Pushes core ann u around.objects around.actors around.actor f.method s.active.holds.base s.active.depth s.active.holds.live g.below f.slots rest fs → (behind : Masks) → through ann g.node.children (before g.note) ≡ Some behind → g.note.live_after ≡ behind.0
       → g.note.ty ≡ Some t → OfType core around.objects t v → Fits u (OnStack around.actor (length fs) (length rest) (s.active.holds.base + s.active.depth)) t.1 v → Alias u around.actor s.active.holds.base (s.active.holds.base + s.active.depth) t.1 v
       → (w' : World) × Turned core ann u w' around.actor around.actors None around.objects around.actors (record { method = f.method; slots = f.slots; stack = v ∷ rest; tasks = f.tasks } ∷ fs)

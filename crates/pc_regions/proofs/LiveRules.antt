@@ -1,5 +1,5 @@
--- What is live behind a node that meets its rule: what is live before it or behind one of its children, and the slot that the
--- node itself sets. What the items of a sequence define is not live behind it.
+-- What is live after a node that meets its rule: what is live before it or after one of its children, and the slot that
+-- the node itself sets. What the items of a sequence define is not live after it.
 use Rattle.std.specs.Prelude.{◌≡◌, ◌⊎◌, ℕ, zero, suc, Bool, cond, List, [], ◌∷◌, Option, Some, None, slice_get, refl}
 use Rattle.std.proofs.Common.{inl, inr, ap, sym, subst, ◌∙◌}
 use Rattle.std.proofs.lemmas.Option.{same_Some, none-some}
@@ -32,9 +32,9 @@ use Rattle.pc_types.proofs.Tasks.{Within}
 use Rattle.pc_types.proofs.EvalChildren.{first_of_them, items_less}
 use Rattle.pc_types.proofs.Inverse.{LazyRule, IfRule, WhileRule, SeqRule, and_rule, or_rule, if_rule, while_rule, seq_rule}
 
--- ---- behind children
+-- ---- after children
 
--- The slot is live behind the child of index j.
+-- The slot is live after the child with index j.
 pub record BehindChild (ann : Ann) (cs : List ℕ) (j s : ℕ) : Type 0 where
   pub child : ℕ
   pub is_child : slice_get cs j ≡ Some child
@@ -42,11 +42,11 @@ pub record BehindChild (ann : Ann) (cs : List ℕ) (j s : ℕ) : Type 0 where
   pub is_note : slice_get ann.notes child ≡ Some note
   pub live : IsIn note.live_after s
 
--- It is live before them, or behind one of them.
+-- It is live before them, or after one of them.
 abbrev pub Remains : Ann → List ℕ → Mask → ℕ → Type 0
 Remains ann cs l s = IsIn l s ⊎ ((j : ℕ) × BehindChild ann cs j s)
 
--- What is live behind children that are evaluated one after the other.
+-- What is live after children that are evaluated one after another.
 pub through_remains : (ann : Ann) (cs : List ℕ) (m n : Masks) (s : ℕ) → through ann cs m ≡ Some n → IsIn n.0 s → Remains ann cs m.0 s
 through_remains ann [] m n s e h = inl (subst (λ (k : Masks). IsIn k.0 s) (sym (same_Some m n e)) h)
 through_remains ann (c ∷ cs) m n s e h =
@@ -56,13 +56,13 @@ through_remains ann (c ∷ cs) m n s e h =
       | inr q ↦ inr (suc q.0, record { child = q.1.child; is_child = q.1.is_child; note = q.1.note; is_note = q.1.is_note; live = q.1.live })
     ]
 
--- What is live behind one child.
+-- What is live after one child.
 one_behind : (ann : Ann) (c : ℕ) (m n : Masks) (s : ℕ) → through ann (c ∷ []) m ≡ Some n → IsIn n.0 s → (u : Note) × (slice_get ann.notes c ≡ Some u) × IsIn u.live_after s
 one_behind ann c m n s e h =
     let f = first_of_them ann c [] m n e in
     (f.note, f.is_note, subst (λ (k : Masks). IsIn k.0 s) (sym (same_Some (after f.note) n f.rest)) h)
 
--- ---- what a rule says
+-- ---- what a rule states
 
 by_said : (ty : Option Ty) (n : Masks) (q : Said) → Some (says_of ty n) ≡ Some q → Within q.live n.0
 by_said ty n q e s h = subst (λ (p : Said). IsIn p.live s) (sym (same_Some (says_of ty n) q e)) h
@@ -76,7 +76,7 @@ abbrev pub Sets : NodeKind → ℕ → Type 0
 Sets k s = (k ≡ node.Define s) ⊎ (k ≡ node.Assign s)
 
 module _ (core : CoreData) (ann : Ann) (x : Node) (m : Masks) (q : Said) (s : ℕ) (live : IsIn q.live s) where
-  -- The last step of a rule looks at the masks behind the children.
+  -- The last step of a rule looks at the masks after the children.
   ends : (f : Masks → Option Said) → (through ann x.children m >>= f) ≡ Some q → ((n : Masks) → f n ≡ Some q → Within q.live n.0) → Remains ann x.children m.0 s
   ends f e within =
       let n = bind_some (through ann x.children m) f q e in
@@ -199,7 +199,7 @@ module _ (core : CoreData) (ann : Ann) (x : Node) (m : Masks) (q : Said) (s : �
 -- ---- control
 
 module _ (core : CoreData) (ann : Ann) (x : Node) (t : Note) (s : ℕ) (live : IsIn t.live_after s) where
-  -- A child of this index, whose masks behind it have the slot.
+  -- A child with this index, after which the masks have the slot.
   behind_one : (j c : ℕ) (cs : List ℕ) (m n : Masks) → x.children ≡ cs → slice_get cs j ≡ Some c → through ann (c ∷ []) m ≡ Some n → IsIn n.0 s → Remains ann x.children t.live_before s
   behind_one j c cs m n are at e h =
       let u = one_behind ann c m n s e h in
@@ -281,7 +281,7 @@ items_out core (d ∷ cs) l i c zero y at is k h =
     definition_out i y.kind l k (subst (λ (o : Option Node). IsIn (without_item o l) i) here first)
 items_out core (d ∷ cs) l i c (suc j) y at is k h = items_out core cs (without_item (slice_get core.nodes d) l) i c j y at is k h
 
--- Behind a sequence what its items define is not live.
+-- After a sequence, what its items define is not live.
 pub defined_out : (core : CoreData) (ann : Ann) (x : Node) (t : Note) (s : ℕ) → IsIn t.live_after s → IsSaid core ann x t → x.kind ≡ node.Seq → Defines core x.children s → ⊥
 defined_out core ann x t s live e is d =
     let r = seq_rule core ann x t t.rule (subst (λ (k : NodeKind). says core ann x (before t) t.rule k ≡ Some (said_by t)) is e) in

@@ -1,5 +1,5 @@
--- What is live at a node is in scope there: its definition is behind, and the sequence that has it is ahead. So it is no deeper
--- than the node.
+-- What is live at a node is in scope there: its definition comes before it, and the sequence that has the definition is
+-- still to come. So it is no deeper than the node.
 use Rattle.std.specs.Prelude.{◌≡◌, ◌≢◌, ◌⊎◌, ℕ, zero, suc, ◌+◌, ◌-◌, ◌<◌, ◌≤◌, List, [], ◌∷◌, ◌++◌, map, length, Some, slice_get, refl}
 use Rattle.std.proofs.Common.{inl, inr, ap, sym, subst, ◌∙◌, arith}
 use Rattle.std.proofs.lemmas.Option.{same_Some, none-some}
@@ -85,7 +85,7 @@ module _ (core : CoreData) (ann : Ann) (needs : Needs core ann) (m : ℕ) (f : M
 
   -- ---- from place to place
 
-  -- A sequence whose definition comes before a tree does not stand in it.
+  -- A sequence whose definition comes before a tree is not in the tree.
   sequence_past : (low n s : ℕ) (y : Slot) → Tree core low n → (l : LocalFits core m s y) → l.define < low → low ≤ l.sequence → n + 1 ≤ l.sequence
   sequence_past low n s y t l before ahead =
       elim (cases_lt l.sequence (n + 1)) [
@@ -96,7 +96,7 @@ module _ (core : CoreData) (ann : Ann) (needs : Needs core ann) (m : ℕ) (f : M
         | inr past ↦ past
       ]
 
-  -- What is in scope before a tree is in scope behind it.
+  -- What is in scope before a tree is in scope after it.
   tree_past : (low n s : ℕ) → Tree core low n → InScope core m f low s → InScope core m f (n + 1) s
   tree_past low n s t scope y e =
       elim (scope y e) [
@@ -106,7 +106,7 @@ module _ (core : CoreData) (ann : Ann) (needs : Needs core ann) (m : ℕ) (f : M
             inr (k.0, omega (arith, first, before), sequence_past low n s y t k.0 k.1 k.2)
       ]
 
-  -- What is in scope before a node is so behind it, unless the node is the sequence.
+  -- What is in scope before a node is in scope after it, unless the node is the sequence.
   node_past : (n s : ℕ) (x : Node) → slice_get core.nodes n ≡ Some x → (x.kind ≡ node.Seq → Defines core x.children s → ⊥) → InScope core m f n s → InScope core m f (n + 1) s
   node_past n s x at out scope y e =
       elim (scope y e) [
@@ -122,7 +122,7 @@ module _ (core : CoreData) (ann : Ann) (needs : Needs core ann) (m : ℕ) (f : M
             ]
       ]
 
-  -- A slot that is set by a node is in scope behind it.
+  -- A slot that is set by a node is in scope after it.
   set_scope : (n s : ℕ) (x : Node) → slice_get core.nodes n ≡ Some x → x.method ≡ m → Sets x.kind s → InScope core m f (n + 1) s
   set_scope n s x at own (inl is) y e =
       let named : NamesLocal core x.method s = subst (NamesFit core x.method) is (needs.formed.nodes n x at).names in
@@ -167,7 +167,7 @@ module _ (core : CoreData) (ann : Ann) (needs : Needs core ann) (m : ℕ) (f : M
 
   -- ---- down the tree
 
-  -- What is live before node k and behind it is no deeper than it.
+  -- What is live before node k and after it is no deeper than it.
   abbrev ShallowAt : ℕ → Type 0
   ShallowAt k = (x : Node) (t : Note) → slice_get core.nodes k ≡ Some x → slice_get ann.notes k ≡ Some t → SlotsShallow core x.method t.live_before x.depth × SlotsShallow core x.method t.live_after x.depth
 
@@ -185,7 +185,7 @@ module _ (core : CoreData) (ann : Ann) (needs : Needs core ann) (m : ℕ) (f : M
       (subst (λ (v : Note). SlotsShallow core x.method v.live_before x.depth × SlotsShallow core x.method v.live_after x.depth) note_is
       (shallow n x t.live_before at own before, shallow n x t.live_after at own after))
 
-  -- The root of a tree, where what is behind its children is in scope.
+  -- The root of a tree, if what comes after its children is in scope.
   root_scope : (n : ℕ) (x : Node) (t : Note) → slice_get core.nodes n ≡ Some x → x.method ≡ m → IsSaid core ann x t → ((s : ℕ) → Remains ann x.children t.live_before s → InScope core m f n s) → (s : ℕ) → IsIn t.live_after s → InScope core m f (n + 1) s
   root_scope n x t at own meets behind s h =
       elim (live_behind core ann x t s h meets) [
@@ -193,13 +193,13 @@ module _ (core : CoreData) (ann : Ann) (needs : Needs core ann) (m : ℕ) (f : M
         | inr sets ↦ set_scope n s x at own sets
       ]
 
-  -- Live before a row of trees, in this mask or behind one of the trees that come before them in the same node.
+  -- Live before a row of trees, in this mask or after one of the trees that come before them in the same node.
   abbrev LiveIn : Mask → List Mask → ℕ → Type 0
   LiveIn l [] s = IsIn l s
   LiveIn l (k ∷ ks) s = LiveIn l ks s ⊎ IsIn k s
 
-  -- Where what is live before a tree is in scope, all its nodes are right, and what is live behind it is in scope. So it is with a
-  -- row of trees.
+  -- If what is live before a tree is in scope, all its nodes are right, and what is live after it is in scope. The same
+  -- holds for a row of trees.
   mutual
     tree_scope : (low n : ℕ) → Tree core low n → IsChild core m n → (t : Note) → slice_get ann.notes n ≡ Some t → ((s : ℕ) → IsIn t.live_before s → InScope core m f low s)
         → ((k : ℕ) → low ≤ k → k ≤ n → ShallowAt k) × ((s : ℕ) → IsIn t.live_after s → InScope core m f (n + 1) s)

@@ -1,4 +1,4 @@
--- From what a child of a node starts: what is live before it is live before the node or behind an earlier child.
+-- What a child of a node starts from: what is live before it is live before the node or after an earlier child.
 use Rattle.std.specs.Prelude.{◌≡◌, ◌⊎◌, ℕ, zero, suc, ◌<◌, false, List, [], ◌∷◌, Some, slice_get, refl}
 use Rattle.std.proofs.Common.{inl, inr, ap, sym, subst, ◌∙◌, arith}
 use Rattle.std.proofs.lemmas.Option.{same_Some, none-some}
@@ -22,12 +22,12 @@ use Rattle.pc_types.proofs.EvalChildren.{first_of_them}
 use Rattle.pc_types.proofs.Inverse.{IfRule, if_rule}
 use Rattle.pc_regions.proofs.LiveRules.{BehindChild}
 
--- What is live before a child is known, or live behind an earlier child.
+-- What is live before a child is known, or live after an earlier child.
 abbrev pub Starts : Ann → (ℕ → Type 0) → List ℕ → Type 0
 Starts ann Known cs =
     (i c : ℕ) (u : Note) (s : ℕ) → slice_get cs i ≡ Some c → slice_get ann.notes c ≡ Some u → IsIn u.live_before s → Known s ⊎ ((j : ℕ) × (j < i) × BehindChild ann cs j s)
 
--- The same without the first child, behind which more is known.
+-- The same without the first child, after which more is known.
 earlier_child : (ann : Ann) (c : ℕ) (cs : List ℕ) (v : Note) (s i j : ℕ) → slice_get ann.notes c ≡ Some v → j < suc i → BehindChild ann (c ∷ cs) j s → IsIn v.live_after s ⊎ ((k : ℕ) × (k < i) × BehindChild ann cs k s)
 earlier_child ann c cs v s i zero is l b =
     let same : b.note ≡ v = same_Some b.note v (sym b.is_note ∙ ap (slice_get ann.notes) (sym (same_Some c b.child b.is_child)) ∙ is) in
@@ -37,7 +37,7 @@ earlier_child ann c cs v s i (suc j) is l b = inr (j, omega (arith, l), record {
 pub none_before : (j : ℕ) → j < 0 → ⊥
 none_before j l = omega (arith, l)
 
--- What is behind one of the children is behind the first or behind one of the others.
+-- What comes after one of the children comes after the first or after one of the others.
 pub known_behind : (ann : Ann) (Known : ℕ → Type 0) (c : ℕ) (cs : List ℕ) (v : Note) (s : ℕ) → slice_get ann.notes c ≡ Some v → Known s ⊎ ((j : ℕ) × BehindChild ann (c ∷ cs) j s) → (Known s ⊎ IsIn v.live_after s) ⊎ ((j : ℕ) × BehindChild ann cs j s)
 known_behind ann Known c cs v s is (inl k) = inl (inl k)
 known_behind ann Known c cs v s is (inr b) = elim (earlier_child ann c cs v s b.0 b.0 is (omega arith) b.1) [ inl live ↦ inl (inr live) | inr k ↦ inr (k.0, k.2) ]
@@ -49,7 +49,7 @@ next_starts_known ann Known c cs v is starts i d u s at note h =
       | inr p ↦ elim (earlier_child ann c cs v s i p.0 is p.1 p.2) [ inl k ↦ inl (inr k) | inr b ↦ inr b ]
     ]
 
--- ---- children that are evaluated one after the other
+-- ---- children that are evaluated one after another
 
 threaded_starts : (ann : Ann) (cs : List ℕ) (m : Masks) → Threaded ann cs m → Each (λ i c. (u : Note) × (slice_get ann.notes c ≡ Some u)) cs → Starts ann (λ s. IsIn m.0 s) cs
 threaded_starts ann cs m t notes zero c u s at note h = inl (subst (λ (k : Masks). IsIn k.0 s) (first_starts ann cs m c u t at note) h)
@@ -62,7 +62,7 @@ threaded_starts ann cs m t notes (suc i) c u s at note h =
 -- ---- branches
 
 module _ (core : CoreData) (ann : Ann) (x : Node) (t : Note) (r : IfRule core ann x t) where
-  -- What is live before a branch is live behind the condition.
+  -- What is live before a branch is live after the condition.
   behind_condition : (c : ℕ) (n : Masks) (u : Note) (s i : ℕ) → through ann (c ∷ []) r.behind ≡ Some n → slice_get ann.notes c ≡ Some u → 0 < i → IsIn u.live_before s
       → (j : ℕ) × (j < i) × BehindChild ann (r.condition ∷ r.then_branch ∷ r.else_branch ∷ []) j s
   behind_condition c n u s i e note l h =

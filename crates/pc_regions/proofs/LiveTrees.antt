@@ -1,4 +1,4 @@
--- The trees of nodes: what stands in a node has its own tree there, and is no less deep.
+-- The trees of nodes: what is in a node has its own tree there, and is no less deep.
 use Rattle.std.specs.Prelude.{◌≡◌, ℕ, zero, suc, ◌+◌, ◌<◌, ◌≤◌, List, [], ◌∷◌, Some, slice_get, refl}
 use Rattle.std.proofs.Common.{inl, inr, ap, sym, subst, ◌∙◌, arith}
 use Rattle.std.proofs.lemmas.Option.{same_Some, none-some}
@@ -21,7 +21,7 @@ forest_from core low high (d ∷ cs) (more t f) (suc i) c e =
     let m = forest_from core (d + 1) high cs f i c e in
     omega (arith, l, m)
 
--- What stands in a tree has a tree of its own, in it.
+-- What is in a tree has a tree of its own, in it.
 mutual
   pub inner_tree : (core : CoreData) (low n k : ℕ) → Tree core low n → low ≤ k → k ≤ n → (l : ℕ) × (low ≤ l) × Tree core l k
   inner_tree core low n k (tree x g f) l h =

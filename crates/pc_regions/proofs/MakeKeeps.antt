@@ -1,5 +1,5 @@
--- The task Make, by regions: the arguments settle in the slots of the constructor's frame, and then the object is put into the region
--- in which that begins. Where the object comes out alone, that is a new context.
+-- The task Make, by regions: the arguments settle in the slots of the constructor's frame, and then the object is put
+-- into the region in which that frame begins. If the object comes out alone, that is a new context.
 use Rattle.std.specs.Prelude.{◌≡◌, ℕ, suc, ◌+◌, ◌≤◌, Bool, true, false, ◌||◌, List, ◌∷◌, length, None, refl}
 use Rattle.std.specs.FinMap.{get}
 use Rattle.std.proofs.Common.{inl, inr, ap, sym, subst, ◌∙◌, arith}

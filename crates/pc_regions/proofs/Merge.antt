@@ -1,4 +1,5 @@
--- A region becomes a part of another: what is in it is in the other then, and what was seen from it is seen from the other.
+-- A region becomes a part of another: what is in it is then in the other, and what was seen from it is seen from the
+-- other.
 use Rattle.std.specs.Prelude.{◌≡◌, ◌⊎◌, ℕ, ◌<◌, ◌≤◌, Bool, true, false, cond, Option, Some, None, refl}
 use Rattle.std.specs.FinMap.{get}
 use Rattle.std.proofs.Common.{inl, inr, ap, sym, subst, ◌∙◌, arith}
@@ -22,7 +23,7 @@ renamed_here q r x e = ap (λ (b : Bool). cond b r x) (eq-eqb q x e)
 pub renamed_other : (q r x : ℕ) → (q ≡ x → ⊥) → renamed q r x ≡ x
 renamed_other q r x n = ap (λ (b : Bool). cond b r x) (ne_eqb q x n)
 
--- ---- what stands before and behind
+-- ---- how it stands before and after
 
 was_child : (q r u : ℕ) (at : Option Place) (s : Standing) → child_renamed q r s ≡ Child u at → (v : ℕ) × (s ≡ Child v at) × (u ≡ renamed q r v)
 was_child q r u at (Child v to) e = (v, (cc), (cc))
@@ -54,7 +55,8 @@ module _
     (w : World) (objects : ObjectMap) (count : ℕ) (ok : WorldOk w objects count) (i : ℕ) (here : i < count) (b : ℕ) (floor : b ≤ w.top i) (gone : Place → Bool) (q r : ℕ)
     -- it is another, and in use
     (apart : q ≡ r → ⊥) (used : r < w.next) (alive : w.stands r ≡ Unused → ⊥)
-    -- it is no context, is of the actor, is not frozen and not open, and the places that may hold it are left
+    -- it is not a context, it belongs to the actor, it is neither frozen nor open, and the places that may hold it are
+    -- left
     (plain : w.role q ≡ None) (mine : Belongs w i q) (warm : Frozen w q → ⊥) (shut : (j : ℕ) → w.stands q ≡ Opened j → ⊥)
     (held : (p : Place) → w.stands q ≡ Held p → gone p ≡ true) (part : (u : ℕ) (p : Place) → w.stands q ≡ Child u (Some p) → gone p ≡ true)
     -- no level is over it, and it is a child at most at a place of a stack

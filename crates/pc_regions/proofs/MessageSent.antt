@@ -1,4 +1,4 @@
--- A message is sent: there is one more for its actor, and all else is as it was.
+-- A message is sent: there is one more for its actor, and everything else is unchanged.
 use Rattle.std.specs.Prelude.{◌≡◌, ℕ, suc, ◌+◌, Bool, true, false, cond, List, length, Option, Some, nat_eq, refl}
 use Rattle.std.proofs.Common.{inl, inr, ap, arith}
 use Rattle.std.proofs.lemmas.Bool.{eqb-true}

@@ -1,5 +1,5 @@
--- What a move of a running actor has to keep, so that the configuration has regions when the move is made: some world fits what the
--- move makes, and keeps what it asks of the other actors and of waiting messages.
+-- What a move of a running actor has to preserve, so that the configuration has regions when the move is made: some
+-- world fits what the move makes, and preserves what it requires of the other actors and of waiting messages.
 use Rattle.std.specs.Prelude.{◌≡◌, ◌≢◌, ℕ, ◌+◌, ◌<◌, Bool, true, false, not, List, ◌∷◌, length, Option, Some, None, nat_eq, nat_lt, if◌then◌else◌}
 use Rattle.std.specs.FinMap.{insert}
 use Rattle.pc_heap.specs.Objects.{ObjectMap, with_value}
@@ -30,7 +30,7 @@ among count (OnStack j h d l) = nat_lt j count
 among count (InField a k) = true
 among count (InMail j t k) = true
 
--- One more for actor j, where there is one.
+-- One more for actor j, if there is one.
 abbrev pub one_more : Option ℕ → ℕ → ℕ
 one_more None k = 0
 one_more (Some j) k = if nat_eq j k then 1 else 0

@@ -1,4 +1,4 @@
--- A move that keeps what it has to leaves a configuration that has regions.
+-- A move that preserves what it has to leaves a configuration that has regions.
 use Rattle.std.specs.Prelude.{◌≡◌, ◌≢◌, ◌⊎◌, ℕ, suc, ◌+◌, ◌<◌, Bool, List, [], ◌∷◌, ◌++◌, length, Option, Some, None, slice_get, slice_set, refl}
 use Rattle.std.proofs.Common.{inl, inr, ap, sym, subst, ◌∙◌, arith, length-set, length-append, cond}
 use Rattle.std.proofs.lemmas.Bool.{ne_eqb, eq-eqb, cases_eq}
@@ -20,7 +20,7 @@ use Rattle.pc_regions.proofs.Fitting.{FramesFit, MessageFits, MailFits, ActorFit
 use Rattle.pc_regions.proofs.MoveFits.{one_more, Others, Turned, RegionMoveOk}
 use Rattle.pc_regions.proofs.OthersKept.{frames_kept, mail_kept, mail_more}
 
--- What stands at a place after a write: what was written, there, or what stood at another place.
+-- What is at a place after a write: what was written, there, or what was at another place.
 pub set_cases : {T : Type 0} → (xs : List T) (i : ℕ) (y : T) (j : ℕ) (x : T) → slice_get (slice_set xs i y) j ≡ Some x → ((j ≡ i) × (x ≡ y)) ⊎ ((j ≢ i) × (slice_get xs j ≡ Some x))
 set_cases {T = T} xs i y j x e =
     elim (cases_eq j i) [

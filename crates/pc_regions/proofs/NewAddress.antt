@@ -1,4 +1,4 @@
--- One address without an object gets one, and a region: those of all other objects are what they were.
+-- One address without an object gets an object and a region: those of all other objects are unchanged.
 use Rattle.std.specs.Prelude.{◌≡◌, ◌⊎◌, ℕ, ◌<◌, Bool, cond, Some, None}
 use Rattle.std.specs.FinMap.{get, insert}
 use Rattle.std.specs.Ordering.{eq_by_cmp}
@@ -25,7 +25,7 @@ module _ (objects : ObjectMap) (a : Address) (none : get objects a ≡ None) whe
         | inr n ↦ ap (λ (t : Bool). cond t r (f b)) n
       ]
 
-  -- Without an object behind the insertion, an address is another one and had none.
+  -- An address without an object after the insertion is another one, and had none before.
   pub still_absent : (f : Address → ℕ) (r : ℕ) (new : Object) (b : Address) → get (insert objects a new) b ≡ None → (with_region f a r b ≡ f b) × (get objects b ≡ None)
   still_absent f r new b e =
       elim (address_cases b a) [
@@ -41,7 +41,7 @@ module _ (objects : ObjectMap) (a : Address) (none : get objects a ≡ None) whe
         | inr n ↦ inr (ap (λ (t : Bool). cond t r (f b)) n, sym (get_after objects a new b ∙ ap (λ (t : Bool). cond t (Some new) (get objects b)) n) ∙ e)
       ]
 
-  -- It is a new one, or as it was.
+  -- It is a new one, or unchanged.
   pub region_low : (f : Address → ℕ) (r m : ℕ) (b : Address) → r < m → f b < m → with_region f a r b < m
   region_low f r m b new old =
       elim (address_cases b a) [

@@ -1,4 +1,4 @@
--- A new object is put into a region that is in use: all else is as it was.
+-- A new object is put into a region that is in use: everything else is unchanged.
 use Rattle.std.specs.Prelude.{◌≡◌, ℕ, ◌<◌, Bool, cond, None, refl}
 use Rattle.std.specs.FinMap.{get, insert}
 use Rattle.std.proofs.Common.{inl, inr, ap, sym, ◌∙◌}
@@ -21,7 +21,7 @@ module _ (w : World) (objects : ObjectMap) (count : ℕ) (ok : WorldOk w objects
       grows w (placed w a r) objects count ok (λ b o at. region_other objects a none w.region r b o at) (λ x s e live. e) (λ x u at e. e) (λ x j l e. e) (λ x live e. e)
       (λ j l there. refl) (λ j there. refl) (λ j there. refl)
 
-  -- The object of an actor stands.
+  -- The object of an actor exists.
   own_on : (i : ℕ) → i < count → with_region w.region a r (own_address i) ≡ w.context i 0
   own_on i there =
       elim (address_cases (own_address i) a) [

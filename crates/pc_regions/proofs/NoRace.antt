@@ -1,4 +1,4 @@
--- A configuration that is well typed and has regions is safe but for what steps lack.
+-- A configuration that is well typed and has regions is safe, except for what steps lack.
 use Rattle.std.specs.Prelude.{◌≡◌, ◌⊎◌, ℕ, Bool, true, false, List, [], ◌∷◌, length, Some, slice_get, refl, suc, zero}
 use Rattle.std.proofs.Common.{inl, inr, ap, sym, subst, ◌∙◌}
 use Rattle.std.proofs.lemmas.Option.{same_Some, none-some}

@@ -1,4 +1,4 @@
--- Where a configuration has regions, no two actors race, and waiting messages are let alone.
+-- If a configuration has regions, no two actors race, and waiting messages are let alone.
 use Rattle.std.specs.Prelude.{◌≡◌, ◌≢◌, ◌⊎◌, ℕ, zero, suc, ◌<◌, ◌≤◌, true, false, Some}
 use Rattle.std.proofs.Common.{inl, inr, ap, sym, subst, ◌∙◌, arith}
 use Rattle.std.proofs.lemmas.Option.{same_Some, none-some}
@@ -94,7 +94,7 @@ mail_is_warm w q j t k e (under_ice u at f r) = cc
 -- ---- contexts belong to their actors
 
 module _ (w : World) (objects : ObjectMap) (count : ℕ) (ok : WorldOk w objects count) (i : ℕ) (here : i < count) where
-  -- Where each lower context belongs to the actor, so does what a lower level is over.
+  -- If each lower context belongs to the actor, so does what a lower level is over.
   over_belongs : (n : ℕ) → ((l : ℕ) → l < n → l ≤ w.top i → Belongs w i (w.context i l)) → {q l : ℕ} → l < n → Over w i q l → Belongs w i q
   over_belongs n lower b (over_loose e) = loose _ e
   over_belongs n lower b (over_slot h s e) = slot h s _ e

@@ -16,7 +16,7 @@ module _ (w : World) (a : Address) (j : ℕ) where
   abbrev Own : ℕ → Type 0
   Own q = (w.stands q ≡ Held (InField a j)) ⊎ (w.stands q ≡ Child r (Some (InField a j)))
 
-  -- Such a region, which is no context, has no level over it.
+  -- Such a region, which is not a context, has no level over it.
   no_level : (i l : ℕ) {q : ℕ} → q ≡ r → Own q → w.role r ≡ None → Over w i q l → ⊥
   no_level i l is (inl e) t (over_loose f) = cc
   no_level i l is (inl e) t (over_slot h s f) = cc
@@ -34,7 +34,7 @@ module _ (w : World) (a : Address) (j : ℕ) where
   level_is : (x i n l : ℕ) → w.role x ≡ Some (i, n) → w.role x ≡ Some (i, l) → n ≡ l
   level_is x i n l e f = ap (λ (p : ℕ × ℕ). p.1) (same_Some (i, n) (i, l) (sym e ∙ f))
 
-  -- Over a context that is held so is its own level alone.
+  -- The only level over a context that is held like this is its own.
   own_level : (i n l : ℕ) {q : ℕ} → Own q → w.role r ≡ Some (i, n) → Over w i q l → n ≡ l
   own_level i n l (inl e) t (over_loose f) = absurd (cc)
   own_level i n l (inl e) t (over_slot h s f) = absurd (cc)

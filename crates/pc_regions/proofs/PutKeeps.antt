@@ -1,4 +1,4 @@
--- The task Put, by regions: the origin is let go, the value goes to the field, and what that held is pushed.
+-- The task Put, by regions: the origin is let go, the value goes to the field, and what the field held is pushed.
 use Rattle.std.specs.Prelude.{◌≡◌, ℕ, suc, ◌+◌, ◌<◌, ◌≤◌, Bool, true, ◌&&◌, List, [], ◌∷◌, length, Option, Some, None, slice_get, refl}
 use Rattle.std.proofs.Common.{inl, inr, ap, sym, subst, ◌∙◌, arith}
 use Rattle.std.proofs.lemmas.Bool.{and_parts}

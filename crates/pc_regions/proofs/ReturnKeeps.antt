@@ -94,7 +94,7 @@ module _
     abbrev at : ℕ
     at = k.holds.base + k.call.depth
 
-    -- The world has shifted up to the level at which it waits, and the value stands at the node that waits.
+    -- The world has shifted up to the level at which it waits, and the value is at the node that waits.
     module _ (w' : World) (s : Shifts w w' objects count i at (leaving i (suc (length gs)) at)) (top : w'.top i ≡ at) where
       in_slot : (h n l : ℕ) (f : Form) (v : Value) → h ≤ length gs → l ≤ at → Fits w (InSlot i h n l) f v → Fits w' (InSlot i h n l) f v
       in_slot h n l f v low under e = s.fits (InSlot i h n l) f v (stays_low i (suc (length gs)) h at l (omega (arith, low)) under) e
@@ -229,7 +229,7 @@ alias_lower w i b c k f (Truth x) low e = tt
 alias_lower w i b c k f (Text x) low e = tt
 alias_lower w i b c k f (Prim x) low e = tt
 
--- What may be sent, from a lent receiver: an `iso` alias comes down, and the rest is no alias that is used.
+-- What may be sent, from a lent receiver: an `iso` alias comes down, and the rest is not an alias that is used.
 sent_alias : (w w' : World) (i b c k m : ℕ) (f : Form) (v : Value) → sendable_form f ≡ true → Alias w i b m f v → (Alias w i b m form.Iso v → Alias w' i c k form.Iso v) → Alias w' i c k f v
 sent_alias w w' i b c k m form.Iso v s a down = down a
 sent_alias w w' i b c k m form.IsoE v s a down = calm_alias w' i c k form.IsoE v (λ e. cc) (λ e. cc)
@@ -323,7 +323,7 @@ new_below cap.Ref f e n = ap (is_below form.Ref) e
 new_below cap.Box f e n = ap (is_below form.Ref) e
 new_below cap.Tag f e n = ap (is_below form.Ref) e
 
--- Where a value is, in the slot of `this`, it is on the stack of the same level too.
+-- If a value is in the slot of `this`, it is also on the stack of the same level.
 ref_moved : (w : World) (i h n b : ℕ) (v : Value) → Fits w (InSlot i h 0 b) form.Ref v → Fits w (OnStack i h n b) form.Ref v
 ref_moved w i h n b (At a) e = e
 ref_moved w i h n b (Num x) e = tt

@@ -125,7 +125,7 @@ pub record Pushes (core : CoreData) (ann : Ann) (w : World) (objects : ObjectMap
   pub wait : WaitFits core ann w i base m fs
 
 module _ (core : CoreData) (ann : Ann) (climb : ClimbLaw core) (objects : ObjectMap) (count i m base d : ℕ) (live : Mask) (below : List Entry) (slots : List (Option Value)) (vs : List Value) (fs : List Frame) (w : World) (p : Pushes core ann w objects count i m base d live below slots vs fs) where
-  -- A value that stands at the node's entry goes up, and the frame goes on.
+  -- A value that is at the node's entry goes up, and the frame goes on.
   pub rise : (after : Mask) (t : Option Ty) (v : Value) (ts : List Task) → Within after live → OfSome core objects t v → FitsSome w (OnStack i (length fs) (length vs) (base + d)) t v → AliasSome w i base (base + d) t v
       → Rises core m after (record { ty = t; depth = d }) below (λ c l g. TasksRise core ann m ts c l g)
       → (w' : World) × Turned core ann w w' i count None objects count (record { method = m; slots = slots; stack = v ∷ vs; tasks = ts } ∷ fs)

@@ -1,4 +1,5 @@
--- A world in which the regions of objects are as they were: what is frozen, seen, or under a level stays so where what it rests on does.
+-- A world in which the regions of objects are unchanged: what is frozen, seen, or under a level stays so if what it
+-- rests on does.
 use Rattle.std.specs.Prelude.{◌≡◌, ℕ, ◌≤◌, Bool, true, false, ◌&&◌, cond, Option, Some, None, nat_eq, refl}
 use Rattle.std.proofs.Common.{inl, inr, ap, sym, subst, ◌∙◌}
 use Rattle.std.proofs.lemmas.Bool.{eq-eqb, ne_eqb, cases_eq}

@@ -1,4 +1,5 @@
--- From what each task keeps to every schedule: a configuration that is well typed and has regions leads to one by every step.
+-- From what each task preserves to every schedule: from a configuration that is well typed and has regions, every step
+-- leads to another one.
 use Rattle.std.specs.Prelude.{◌≡◌, ℕ, true, List, [], ◌∷◌, Option, Some, None, slice_get, refl}
 use Rattle.std.proofs.Common.{inl, inr, sym, subst, ◌∙◌}
 use Rattle.pc_lists.proofs.Gets.{get_below}

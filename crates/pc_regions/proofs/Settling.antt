@@ -220,7 +220,7 @@ module _
     landed_holder g (InField c n) x b k e = let is : c ≡ b = cc in subst (λ (y : Address). (o : Object) × (get objects y ≡ Some o)) is x.0
     landed_holder g (InMail j t n) x b k e = absurd (cc)
 
-    -- ---- each way to stand
+    -- ---- each way of standing
 
     not_child : (s : Standing) (u : ℕ) (at : Option Place) → s ≡ Held at_stack → s ≡ Child u at → ⊥
     not_child s u at e f = cc

@@ -17,7 +17,7 @@ pub no_more : (n m : ℕ) → n ≡ m → n ≡ m + 0
 no_more n m e = omega (arith, e)
 
 module _ (w w' : World) (objects : ObjectMap) (count i b : ℕ) (gone : Place → Bool) (x : Shifts w w' objects count i b gone) where
-  -- Where only places of the actor's frames, and of fields, are left.
+  -- If only places of the actor's frames, and of fields, are left.
   pub others_kept : ((p : Place) → elsewhere i p ≡ true → gone p ≡ false) → Others w w' i count None
   others_kept far = record {
     fits = λ p f v e a k. x.fits p f v (far p e) k;
@@ -28,11 +28,11 @@ module _ (w w' : World) (objects : ObjectMap) (count i b : ℕ) (gone : Place �
     alias = λ j c f v there n a. x.alias j c f v there n a;
   }
 
-  -- Where no field is left.
+  -- If no field is left.
   pub fields_kept : (core : CoreData) → ((a : Address) (k : ℕ) → gone (InField a k) ≡ false) → FieldsFit core w objects → FieldsFit core w' objects
   fields_kept core none fit a o e k f v at is g h = x.fits (InField a k) _ v (none a k) (fit a o e k f v at is g h)
 
-  -- Where no place of a frame below this height is left.
+  -- If no place of a frame below this height is left.
   pub below_kept : (core : CoreData) (ann : Ann) (bound : ℕ) → ((h s l : ℕ) → h < bound → gone (InSlot i h s l) ≡ false) → ((h d l : ℕ) → h < bound → gone (OnStack i h d l) ≡ false)
       → (c m : ℕ) (fs : List Frame) → length fs ≡ bound → c ≤ b → WaitFits core ann w i c m fs → WaitFits core ann w' i c m fs
   below_kept core ann bound slots stacks c m fs is low k =
@@ -95,7 +95,7 @@ lower_shift w w' objects count i b c gone low x = shifts_less w w' objects count
 pub wider : (w w' : World) (objects : ObjectMap) (count i b : ℕ) (gone more : Place → Bool) → ((p : Place) → more p ≡ false → gone p ≡ false) → Shifts w w' objects count i b gone → Shifts w w' objects count i b more
 wider w w' objects count i b gone more far x = shifts_less w w' objects count i b b gone more (omega arith) far x
 
--- Where no place of a frame below this height, at a level up to b, is left.
+-- If no place of a frame below this height, at a level up to b, is left.
 pub below_under : (w w' : World) (objects : ObjectMap) (count i b : ℕ) (gone : Place → Bool) → Shifts w w' objects count i b gone → (core : CoreData) (ann : Ann) (bound : ℕ)
     → ((h s l : ℕ) → h < bound → l ≤ b → gone (InSlot i h s l) ≡ false) → ((h d l : ℕ) → h < bound → l ≤ b → gone (OnStack i h d l) ≡ false)
     → (c m : ℕ) (fs : List Frame) → length fs ≤ bound → c ≤ b → WaitFits core ann w i c m fs → WaitFits core ann w' i c m fs

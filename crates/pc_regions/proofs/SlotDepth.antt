@@ -1,4 +1,4 @@
--- The slot of a definition or an assignment is of the node's depth, or what it holds may be sent.
+-- The slot of a definition or an assignment has the node's depth, or what it holds may be sent.
 use Rattle.std.specs.Prelude.{◌≡◌, ◌≢◌, ◌⊎◌, ℕ, zero, suc, ◌+◌, ◌-◌, ◌<◌, true, ◌&&◌, ◌∷◌, ◌++◌, map, length, Some, nat_eq, slice_get, refl}
 use Rattle.std.proofs.Common.{inl, inr, ap, sym, subst, ◌∙◌, arith}
 use Rattle.std.proofs.lemmas.Bool.{and_parts, eqb-true, or_cases}

@@ -30,7 +30,7 @@ pub child_shut : (w : World) (q u : ℕ) (at : Option Place) → w.stands q ≡ 
 child_shut w q u at e j g = cc
 
 module _ (w : World) (objects : ObjectMap) (count i base d : ℕ) (ok : WorldOk w objects count) (here : i < count) (top : w.top i ≡ base + d) (opened : OpenedTo w i base d) where
-  -- What is no open region, and is at a level from that of the frame on, is no context.
+  -- A region that is not open, and is at a level from that of the frame on, is not a context.
   role_none : (q l : ℕ) (o : Option (ℕ × ℕ)) → w.role q ≡ o → Over w i q l → base ≤ l → ((j : ℕ) → w.stands q ≡ Opened j → ⊥) → o ≡ None
   role_none q l None e over low shut = refl
   role_none q l (Some r) e over low shut =

@@ -1,4 +1,4 @@
--- The frame whose slot got a value goes on, by regions, where the value fits the slot and the old one the stack.
+-- The frame whose slot got a value goes on, by regions, if the value fits the slot and the old one the stack.
 use Rattle.std.specs.Prelude.{◌≡◌, ◌≢◌, ℕ, suc, ◌+◌, ◌<◌, ◌≤◌, Bool, true, false, ◌&&◌, List, [], ◌∷◌, length, Option, Some, None, nat_eq, nat_lt, slice_get, slice_set, refl}
 use Rattle.std.proofs.Common.{inl, inr, ap, sym, subst, ◌∙◌, arith}
 use Rattle.std.proofs.lemmas.Bool.{ne_eqb, and_right}
@@ -54,7 +54,7 @@ lower_gone i h g b low = and_right (nat_eq i i) (nat_eq h g && b) (ap (λ (c : B
 slot_stays : (i h s n t l : ℕ) → s ≢ t → stored_gone i h s n (InSlot i h t l) ≡ false
 slot_stays i h s n t l k = and_right (nat_eq i i) (nat_eq h h && nat_eq s t) (and_right (nat_eq h h) (nat_eq s t) (ne_eqb s t k))
 
--- A frame whose slot s has got a value, in a world where it fits there and the old value fits the stack, goes on.
+-- A frame whose slot s has got a value, in a world in which it fits there and the old value fits the stack, goes on.
 module _ (core : CoreData) (climb : ClimbLaw core) (ann : Ann) (needs : Needs core ann) (around : Around) (f : Frame) (fs : List Frame) (r : Runs core ann around f fs) (n : ℕ)
     (w : World) (s : Situated core ann w around f (task.Store n ∷ f.tasks) fs)
     (g : FinishRises core ann f.method s.active.depth s.active.holds.live s.active.holds.entries stores n (λ d l st. TasksRise core ann f.method f.tasks d l st))

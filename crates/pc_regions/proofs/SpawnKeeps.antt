@@ -58,7 +58,7 @@ among_more n (OnStack j h d l) e = lt-ltb j (n + 1) (one_more j n (ltb-true j n 
 among_more n (InField a k) e = refl
 among_more n (InMail j t k) e = refl
 
--- What is kept of so many actors is kept of one fewer.
+-- What is preserved of this many actors is preserved of one fewer.
 others_fewer : (w w' : World) (i n : ℕ) → Others w w' i (n + 1) None → Others w w' i n None
 others_fewer w w' i n o = record {
   fits = λ p f v e m k. o.fits p f v e (among_more n p m) k;

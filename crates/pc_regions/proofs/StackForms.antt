@@ -1,5 +1,5 @@
--- The forms and depths of what stands on a stack while a frame's tasks are done. The value of a node goes up to the node as whose
--- value it counts: through branches that are joined, and out of recovers that end.
+-- The forms and depths of what is on a stack while a frame's tasks are done. The value of a node goes up to the node as
+-- whose value it counts: through branches that are joined, and out of recovers that end.
 use Rattle.std.specs.Prelude.{◌≡◌, ◌⊎◌, ℕ, ◌+◌, ◌-◌, ◌<◌, ◌≤◌, Bool, true, false, List, [], ◌∷◌, Option, Some, None, slice_get}
 use Rattle.pc_caps.specs.Order.{is_below}
 use Rattle.pc_caps.specs.declared.capability.Cap.{Cap}
@@ -27,7 +27,7 @@ use Rattle.pc_types.proofs.Tasks.{Within, reads, writes, stores, makes, spawns, 
 
 -- ---- what a place of the stack holds
 
--- A value of this type, or any where there is none, of a node of this depth.
+-- A value of this type, or any if there is none, of a node of this depth.
 pub record Entry : Type 0 where
   pub ty : Option Ty
   pub depth : ℕ
@@ -61,7 +61,8 @@ ascend (Joins t) e = record { ty = t; depth = e.depth }
 ascend Decides e = record { ty = Some (2, form.Val); depth = e.depth }
 ascend (Recovers k) e = record { ty = recovered_type k e.ty; depth = e.depth - 1 }
 
--- What is asked for each: a type that is below the joint one, a truth value, or a value in a recover of a form that it lets out.
+-- What is required for each: a type that is below the joint one, a truth value, or, in a recover, a value of a form
+-- that it lets out.
 abbrev pub MayAscend : CoreData → Ascent → Entry → Type 0
 MayAscend core (Joins None) e = Unit {0}
 MayAscend core (Joins (Some g)) e = (t : Ty) × (e.ty ≡ Some t) × Below core t g
@@ -82,13 +83,13 @@ Climbs core (a ∷ way) e = MayAscend core a e × Climbs core way (ascend a e)
 abbrev pub SlotsShallow : CoreData → ℕ → Mask → ℕ → Type 0
 SlotsShallow core m live d = (s : ℕ) (x : Method) (y : Slot) → IsIn live s → slice_get core.methods m ≡ Some x → slice_get core.slots (x.first_slot + s) ≡ Some y → y.depth ≤ d
 
--- Before a node and behind it the live slots are no deeper than the node.
+-- The live slots before and after a node are no deeper than the node.
 abbrev pub LiveShallow : CoreData → Ann → Type 0
 LiveShallow core ann =
     (n : ℕ) (x : Node) (t : Note) → slice_get core.nodes n ≡ Some x → slice_get ann.notes n ≡ Some t → SlotsShallow core x.method t.live_before x.depth × SlotsShallow core x.method t.live_after x.depth
 
--- What follows value e, which goes its way up, counts on no more than these live slots. Where a recover ends, nothing is left of
--- what stood in it.
+-- What follows value e, which goes its way up, relies on no more than these live slots. When a recover ends, nothing is
+-- left of what was in it.
 pub record Rises (core : CoreData) (m : ℕ) (after : Mask) (e : Entry) (below : List Entry) (go : ℕ → Mask → List Entry → Type 0) : Type 0 where
   pub live : Mask
   pub left : Within live after
@@ -102,7 +103,7 @@ pub record Rises (core : CoreData) (m : ℕ) (after : Mask) (e : Entry) (below :
 abbrev pub entry_of : Node → Note → Entry
 entry_of x t = record { ty = t.ty; depth = x.depth }
 
--- The stack behind these nodes of depth d, evaluated one after the other.
+-- The stack after these nodes of depth d, evaluated one after another.
 abbrev pub piled : Ann → ℕ → List ℕ → List Entry → List Entry
 piled ann d [] below = below
 piled ann d (c ∷ cs) below = piled ann d cs (record { ty = type_of ann c; depth = d } ∷ below)

@@ -137,7 +137,7 @@ module _
           | inr n ↦ under u at (other x n ∙ e) (seen_on k)
         ]
 
-    -- Where r is not among what this level is over.
+    -- If r is not among what this level is over.
     pub over_through : (j l : ℕ) → ((x : ℕ) → Over w j x l → r ≡ x → ⊥) → {x : ℕ} → Over w j x l → Over (standing w r s) j x l
     over_through j l n {x} (over_loose e) = over_loose (other x (n x (over_loose e)) ∙ e)
     over_through j l n {x} (over_slot h t e) = over_slot h t (other x (n x (over_slot h t e)) ∙ e)

@@ -1,4 +1,4 @@
--- Where a program begins has regions: the stream's and Main's are open, and the environment is frozen.
+-- The start of a program has regions: the stream's and Main's are open, and the environment is frozen.
 use Rattle.std.specs.Prelude.{◌≡◌, ◌⊎◌, ℕ, zero, suc, ◌<◌, ◌≤◌, Bool, true, false, List, [], ◌∷◌, Option, Some, None, nat_eq, cond, slice_get, refl}
 use Rattle.std.proofs.Common.{inl, inr, ap, sym, subst, ◌∙◌, arith}
 use Rattle.std.proofs.lemmas.Bool.{eqb-true}
@@ -63,7 +63,7 @@ chosen_below false true e true = omega arith
 chosen_below false false e true = omega arith
 chosen_below false d e false = omega arith
 
--- Where no address of the first three is meant, the region is the last one.
+-- If none of the first three addresses is meant, the region is the last one.
 chosen_rest : (b d e g : Bool) → (b ≡ true → d ≡ true → ⊥) → (b ≡ true → e ≡ true → ⊥) → (g ≡ true → d ≡ true → ⊥) → ◌≡◌ {A = ℕ} (cond b (cond d 0 (cond e 1 3)) (cond g (cond d 2 3) 3)) 3
 chosen_rest true true e g x y z = absurd (x refl refl)
 chosen_rest true false true g x y z = absurd (y refl refl)

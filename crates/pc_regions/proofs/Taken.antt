@@ -1,5 +1,5 @@
--- A value that an `iso` or `trn` place holds is taken to a stack: its region is held there, or is a child there, and all else is as
--- it was.
+-- A value that an `iso` or `trn` place holds is taken to a stack: its region is held there, or is a child there, and
+-- everything else is unchanged.
 use Rattle.std.specs.Prelude.{◌≡◌, ◌≢◌, ℕ, ◌<◌, ◌≤◌, Bool, true}
 use Rattle.pc_heap.specs.Objects.{ObjectMap}
 use Rattle.pc_heap.specs.declared.value.Value.{Value}
@@ -9,12 +9,13 @@ use Rattle.pc_caps.specs.declared.capability.Form.TheVariants as form
 use Rattle.pc_regions.proofs.World.{Place, OnStack, Opened, World, home, Fits, Over, Belongs, WorldOk}
 use Rattle.pc_regions.proofs.Changes.{Shifts}
 
--- The value is no object of region q.
+-- The value is not an object of region q.
 abbrev pub Outside : World → ℕ → Value → Type 0
 Outside w q (At a) = w.region a ≢ q
 Outside w q v = Unit {0}
 
--- What an `iso` or `trn` place p holds has come to the stack: its region is held there, and all else is as it was.
+-- What an `iso` or `trn` place p holds has come to the stack: its region is held there, and everything else is
+-- unchanged.
 pub record Taken (w w' : World) (objects : ObjectMap) (count i b : ℕ) (gone : Place → Bool) (f : Form) (to : Place) (v : Value) : Type 0 where
   pub shifts : Shifts w w' objects count i b gone
   pub region : w'.region ≡ w.region

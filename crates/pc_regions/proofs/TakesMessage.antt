@@ -46,7 +46,7 @@ use Rattle.pc_regions.proofs.SameRegions as renewed
 
 -- ---- the world in which a message is taken
 
--- The argument of each number of message t for actor i is in the slot behind `this` of that number.
+-- Each argument of message t for actor i is in the slot after `this` with the same number.
 abbrev arrived : ℕ → ℕ → Place → Place
 arrived i t (InMail j n k) = cond (nat_eq i j && nat_eq t n) (InSlot i 0 (suc k) 0) (InMail j n k)
 arrived i t p = p
@@ -180,7 +180,7 @@ module _ (w : World) (i t : ℕ) where
   argument_on k p (Text x) s e = tt
   argument_on k p (Prim n) s e = tt
 
--- Each argument fits, where they are as many as the parameters.
+-- Each argument fits, if there are as many as parameters.
 arguments_at : (core : CoreData) (objects : ObjectMap) (w : World) (at : ℕ → Place) (ps : List ParamInfo) (vs : List Value) → ArgumentsOk core objects vs ps
     → ((n : ℕ) (p : ParamInfo) (v : Value) → slice_get ps n ≡ Some p → slice_get vs n ≡ Some v → Fits w (at n) (unalias p.cap) v) → ArgumentsAt w at ps vs
 arguments_at core objects w at [] [] typed fit = tt

@@ -55,7 +55,7 @@ use Rattle.pc_regions.proofs.Waiting.{slot_depth}
 use Rattle.pc_regions.proofs.Taken.{Free, Takes, TakeLaw}
 use Rattle.pc_types.proofs.Notes.{names_fit}
 
--- ---- forms that say nothing
+-- ---- forms that require nothing
 
 pub tag_fits : (w : World) (p : Place) (v : Value) → Fits w p form.Tag v
 tag_fits w p (At a) = tt
@@ -71,7 +71,7 @@ tag_alias w i b k (Truth t) = tt
 tag_alias w i b k (Text t) = tt
 tag_alias w i b k (Prim e) = tt
 
--- What a place holds is no alias.
+-- What a place holds is not an alias.
 stored_alias : (w : World) (i b l : ℕ) (k : Cap) (q : ℕ) → AliasIn w i b l (unalias k) q
 stored_alias w i b l cap.Iso q = tt
 stored_alias w i b l cap.Trn q = tt

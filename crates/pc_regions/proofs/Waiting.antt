@@ -1,5 +1,6 @@
--- Frames that wait fit where the values at their places do, up to their levels, and the regions that are open for them stay so:
--- nothing of such a frame stands at a higher level than that of the node that waits, and the frame above begins at none below.
+-- Frames that wait fit if the values at their places do, up to their levels, and the regions that are open for them
+-- stay so: nothing of such a frame is at a higher level than the node that waits, and the frame above begins at none
+-- below.
 use Rattle.std.specs.Prelude.{◌≡◌, ◌⊎◌, ◌≤◌, ℕ, suc, ◌+◌, ◌<◌, List, [], ◌∷◌, length, Option, Some, None, slice_get}
 use Rattle.std.proofs.Common.{inl, inr, ap, subst, arith}
 use Rattle.std.proofs.lemmas.Option.{same_Some}
@@ -149,7 +150,7 @@ module _
         let at = entered_at w j k.0 k.2.call.ty k.2.holds.base (k.2.holds.base + k.2.call.depth) b k.0.kind k.2.entered in
         (k.0, k.1, awaits_low (length fs) b k.0 f (omega (arith, few)) floor k.2, wait_low k.2.holds.base f.method fs (omega (arith, few)) (omega (arith, at, floor)) k.3)
 
--- ---- where all of their values fit, at whatever level
+-- ---- if all their values fit, at whatever level
 
 module _
     (core : CoreData) (ann : Ann) (w w' : World) (j bound : ℕ)

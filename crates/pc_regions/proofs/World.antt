@@ -1,5 +1,6 @@
--- Regions: each object is in one, and each region stands somehow: it is held at one place, is a child of another, is open for
--- an actor, is loose, or is frozen. What follows from that goes along chains of holders, and is no part of the state.
+-- Regions: each object is in one, and each region stands in one way: it is held at one place, is a child of another, is
+-- open for an actor, is loose, or is frozen. What follows from that goes along chains of holders, and is not part of
+-- the state.
 use Rattle.std.specs.Prelude.{◌≡◌, ◌⊎◌, ℕ, ◌<◌, ◌≤◌, Bool, true, false, Option, Some, None}
 use Rattle.std.specs.FinMap.{get}
 use Rattle.pc_heap.specs.Objects.{ObjectMap}
@@ -14,8 +15,9 @@ use Rattle.pc_valid.specs.Words.{Ty}
 
 -- ---- places
 
--- Where a value can stand. Frames count from the first, places of a stack from its bottom, and messages in the order in which
--- they were sent, so that no push, return or take renames a place. A place of a frame has the level of its context.
+-- Where a value can be. Frames count from the first, places of a stack from its bottom, and messages in the order in
+-- which they were sent, so that no push, return or take renames a place. A place of a frame has the level of its
+-- context.
 pub data Place : Type 0 where
   InSlot : (actor height slot level : ℕ) → Place
   OnStack : (actor height depth level : ℕ) → Place
@@ -24,8 +26,9 @@ pub data Place : Type 0 where
 
 -- ---- regions
 
--- Not in use; frozen; open, where an actor makes things and no place holds it; loose, with no holder, at a level of an actor;
--- held at a place that is declared `iso`; or a `trn` child of a region, at a place that is declared `trn` or at none.
+-- Not in use; frozen; open, when an actor makes things and no place holds it; loose, with no holder, at a level of an
+-- actor; held at a place that is declared `iso`; or a `trn` child of a region, at a place that is declared `trn` or at
+-- none.
 pub data Standing : Type 0 where
   Unused : Standing
   Froze : Standing
@@ -34,8 +37,8 @@ pub data Standing : Type 0 where
   Held : (at : Place) → Standing
   Child : (parent : ℕ) (at : Option Place) → Standing
 
--- Of each object its region, and of each region how it stands. Each actor has contexts, of the levels 0 to `top`, and a region
--- that is one has a role. So many messages were sent to each actor. From `next` on no region is in use.
+-- For each object its region, and for each region how it stands. Each actor has contexts, of the levels 0 to `top`, and
+-- a region that is a context has a role. Each actor was sent a number of messages. From `next` on no region is in use.
 pub record World : Type 0 where
   pub region : Address → ℕ
   pub stands : ℕ → Standing
@@ -92,7 +95,7 @@ pub data Over (w : World) (i : ℕ) : ℕ → ℕ → Type 0 where
 
 -- ---- values at places
 
--- Region q, of a value of this form at place p. An alias of form `iso` or `tag` says nothing of it.
+-- Region q, of a value of this form at place p. An alias of form `iso` or `tag` requires nothing of it.
 abbrev pub FitsIn : World → Place → Form → ℕ → Type 0
 FitsIn w p form.IsoE q = w.stands q ≡ Held p
 FitsIn w p form.TrnE q = w.stands q ≡ Child (home w p) (Some p)
@@ -112,8 +115,9 @@ abbrev pub FitsSome : World → Place → Option Ty → Value → Type 0
 FitsSome w p None v = Unit {0}
 FitsSome w p (Some t) v = Fits w p t.1 v
 
--- An alias that is about to be used, in a frame of level b of actor i at level k: its region is no context, and what is over it
--- is at a level from b to k. An `iso` one is no child, and a `trn` one is a child of the context of level k.
+-- An alias that is about to be used, in a frame of level b of actor i at level k: its region is not a context, and what
+-- is over it is at a level from b to k. An `iso` one is not a child, and a `trn` one is a child of the context of level
+-- k.
 abbrev pub AliasIn : World → ℕ → ℕ → ℕ → Form → ℕ → Type 0
 AliasIn w i b k form.Iso q = (w.role q ≡ None) × ((u : ℕ) (at : Option Place) → w.stands q ≡ Child u at → ⊥) × (l : ℕ) × (b ≤ l) × (l ≤ k) × Over w i q l
 AliasIn w i b k form.Trn q = (w.role q ≡ None) × (at : Option Place) × (w.stands q ≡ Child (w.context i k) at) × (steady at ≡ true)
@@ -129,9 +133,10 @@ AliasSome w i b k (Some t) v = Alias w i b k t.1 v
 
 -- ---- contexts
 
--- A world fits so many objects and actors: the contexts and the roles say the same, the first context of an actor is open and has
--- its object, and each other one is open, or is lent: then what is over it is at a lower level. What is in use is below `next`.
--- The region of an address without an object is not in use; that of an object is, and so is each that is or was a context.
+-- A world fits the objects and this number of actors: the contexts and the roles agree, the first context of an actor
+-- is open and has its object, and each other one is open, or is lent: then what is over it is at a lower level. What is
+-- in use is below `next`. The region of an address without an object is not in use; that of an object is, and so is
+-- each region that is or was a context.
 pub record WorldOk (w : World) (objects : ObjectMap) (count : ℕ) : Type 0 where
   pub zero : w.role 0 ≡ Some (0, 0)
   pub named : (i j : ℕ) → i < count → j ≤ w.top i → w.role (w.context i j) ≡ Some (i, j)

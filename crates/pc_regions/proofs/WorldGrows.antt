@@ -1,5 +1,5 @@
--- A world with an object more: all that stood stands as it did, and each value that fitted a place fits there still. What has no
--- object fits nowhere, but at a form that says nothing of its region.
+-- A world with one more object: everything that stood stands as it did, and each value that fitted a place still fits
+-- there. What has no object fits nowhere, except at a form that requires nothing of its region.
 use Rattle.std.specs.Prelude.{◌≡◌, ℕ, ◌<◌, Option, Some, None, refl}
 use Rattle.std.specs.FinMap.{get}
 use Rattle.std.proofs.Common.{inl, inr, ap, sym, subst, ◌∙◌}
@@ -19,7 +19,7 @@ use Rattle.pc_regions.proofs.ContextComes.{over_used}
 pub opened_used : (i : ℕ) → Opened i ≡ Unused → ⊥
 opened_used i e = cc
 
--- A place of one of so many actors, of a message, or of a field of an object.
+-- A place of one of this many actors, of a message, or of a field of an object.
 abbrev pub Known : ObjectMap → ℕ → Place → Type 0
 Known objects count (InSlot j h s l) = j < count
 Known objects count (OnStack j h d l) = j < count
@@ -51,9 +51,9 @@ module _ (w : World) (objects : ObjectMap) (count : ℕ) (ok : WorldOk w objects
   pub used_below : (q : ℕ) → (w.stands q ≡ Unused → ⊥) → q < w.next
   used_below q used = elim (cases_lt q w.next) [ inl low ↦ low | inr up ↦ absurd (used (ok.unused q up).0) ]
 
--- ---- all that stood stands
+-- ---- everything that stood still stands
 
--- For so many actors and these objects, from one world to another.
+-- For this many actors and these objects, from one world to another.
 pub record Grows (w w' : World) (objects : ObjectMap) (count : ℕ) : Type 0 where
   pub fits : (p : Place) (f : Form) (v : Value) → Known objects count p → Fits w p f v → Fits w' p f v
   pub context : (j l : ℕ) → j < count → w'.context j l ≡ w.context j l
@@ -65,7 +65,7 @@ pub record Grows (w w' : World) (objects : ObjectMap) (count : ℕ) : Type 0 whe
 
 module _
     (w w' : World) (objects : ObjectMap) (count : ℕ) (ok : WorldOk w objects count)
-    -- objects are in their regions still, what is in use stands as it did, and no region has become a child
+    -- objects are still in their regions, what is in use stands as it did, and no region has become a child
     (region : (a : Address) (o : Object) → get objects a ≡ Some o → w'.region a ≡ w.region a) (kept : (x : ℕ) (s : Standing) → w.stands x ≡ s → (s ≡ Unused → ⊥) → w'.stands x ≡ s)
     (back : (x u : ℕ) (at : Option Place) → w'.stands x ≡ Child u at → w.stands x ≡ Child u at)
     -- roles are what they were, and of what is in use no region has got one
@@ -113,7 +113,7 @@ module _
     fits_in p form.Box q there e = subst (λ (c : ℕ). Seen w' c q) (sym (homes p there)) (seen_on e)
     fits_in p form.Tag q there e = tt
 
-    -- What stands in a region that is not in use fits nowhere where its region is asked for.
+    -- A value whose region is not in use fits nowhere if its region is required.
     absent_in : (p : Place) (f : Form) (q x : ℕ) → Known objects count p → w.stands q ≡ Unused → FitsIn w p f q → FitsIn w' p f x
     absent_in p form.IsoE q x there u e = cc
     absent_in p form.TrnE q x there u e = cc

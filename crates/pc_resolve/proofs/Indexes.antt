@@ -1,4 +1,4 @@
--- The first values of keys, and the list that an index of names shows.
+-- The first values of keys, and the list that an index of names represents.
 use Rattle.std.proofs.Common.{◌≡◌, ℕ, zero, suc, List, [], ◌∷◌, ◌++◌, Bool, true, false, cond, map, length, take, Option, Some, None, is_some, Vec, Global, refl, sym, ap, ◌∙◌, if◌then◌else◌}
 use Rattle.std.specs.Prelude.{slice_get, nat_eq}
 use Rattle.std.specs.Map.{lookup}
@@ -51,11 +51,11 @@ module _ {K X : Type 0} (eq : K → K → Bool) (same : (a b : K) → eq a b ≡
   lookup_all es [] q = sym (or_none (lookup (eq q) es))
   lookup_all es (p ∷ ps) q = lookup_all (with_first eq es p) ps q ∙ (ap (λ o. or_else o (lookup (eq q) ps)) (lookup_with es p q) ∙ (or_or (lookup (eq q) es) (lookup (eq q) (p ∷ [])) (lookup (eq q) ps) ∙ ap (or_else (lookup (eq q) es)) (sym (lookup_append (eq q) (p ∷ []) ps))))
 
-  -- The first values are those that are found.
+  -- The first values are the ones that are found.
   pub lookup_firsts : (ps : List (K × X)) (q : K) → lookup (eq q) (firsts eq ps) ≡ lookup (eq q) ps
   lookup_firsts ps q = lookup_all [] ps q
 
--- ---- one pair more, and fewer
+-- ---- one more pair, and fewer
 
 module _ {K X : Type 0} (eq : K → K → Bool) where
   pub firsts_push : (es ps : List (K × X)) (p : K × X) → with_firsts eq es (ps ++ p ∷ []) ≡ with_first eq (with_firsts eq es ps) p
@@ -85,7 +85,7 @@ module _ {K X : Type 0} (eq : K → K → Bool) where
       let b = all_longer (with_first eq es p) ps in
       (a.0 ++ b.0, b.1 ∙ (ap (λ l. l ++ b.0) a.1 ∙ append_assoc es a.0 b.0))
 
-  -- A mark tells how many keys are kept where so many pairs are.
+  -- A mark gives the number of keys that are kept with this number of pairs.
   pub mark_found : (n k : ℕ) (es ps : List (K × X)) → slice_get (marks eq es ps) n ≡ Some k → take k (with_firsts eq es ps) ≡ with_firsts eq es (take n ps)
   mark_found n k es [] g = absurd (none_some g)
   mark_found zero k es (p ∷ ps) g =
@@ -93,11 +93,11 @@ module _ {K X : Type 0} (eq : K → K → Bool) where
       ap (λ i. take i (with_firsts eq es (p ∷ ps))) (sym (same_Some _ _ g)) ∙ (ap (take (length es)) m.1 ∙ take_front es m.0)
   mark_found (suc n) k es (p ∷ ps) g = mark_found n k (with_first eq es p) ps g
 
-  -- What is added is taken back where only those before it are kept.
+  -- An addition is undone by keeping only the keys before it.
   pub taken_back : (es : List (K × X)) (p : K × X) → take (length es) (with_first eq es p) ≡ es
   taken_back es p = let m = longer es p in ap (take (length es)) m.1 ∙ take_front es m.0
 
--- ---- what an index of names shows
+-- ---- what an index of names represents
 
 abbrev pub shown : Vec ℕ Global × ℕ → List ℕ × ℕ
 shown e = (e.0.items, e.1)
@@ -118,7 +118,7 @@ pub none_there : {X : Type 0} (o : Option X) → is_some o ≡ false → o ≡ N
 none_there None h = refl
 none_there (Some x) h = absurd (true_false h)
 
--- A vector whose bytes are not there goes behind the others.
+-- A vector whose bytes are new is appended.
 pub added_shown : {S : Type 0} (m : IndexMap (Vec ℕ Global) ℕ S) (new : List (Vec ℕ Global × ℕ)) (owned : Vec ℕ Global) (name : List ℕ) (value : ℕ) → owned.items ≡ name
     → lookup (bytes_eq name) (map shown m.entries) ≡ None
     → new ≡ insert_entry (λ x y. bytes_eq x.items y.items) m.entries owned value
@@ -130,7 +130,7 @@ added_shown m new owned name value is absent e =
 
 -- ---- a map by number
 
--- A number that is not there goes behind the others.
+-- A number that is new is appended.
 pub added_number : {S : Type 0} (m : IndexMap ℕ ℕ S) (new : List (ℕ × ℕ)) (key value : ℕ) → is_some (lookup (nat_eq key) m.entries) ≡ false → new ≡ insert_entry nat_eq m.entries key value → new ≡ with_first nat_eq m.entries (key, value)
 added_number m new key value absent e = rw absent (e ∙ insert_entry-new nat_eq m key value (none_there _ absent))
 

@@ -1,4 +1,4 @@
--- A scope beside the index of its names.
+-- A scope together with the index of its names.
 use Rattle.std.proofs.Common.{◌≡◌, ℕ, zero, suc, List, [], ◌∷◌, ◌++◌, map, length, take, Some, None, refl, sym, ap, ◌∙◌}
 use Rattle.std.specs.Prelude.{slice_get}
 use Rattle.std.specs.Map.{lookup}
@@ -27,7 +27,7 @@ module _ {E : Type 0} (v : E → Visible) (m : E → ℕ) where
   abbrev pub pairs : List E → List (List ℕ × ℕ)
   pairs row = map visible_pair (map v row)
 
-  -- The index has the names of the scope, and each mark tells how many of them there are before it.
+  -- The index has the names of the scope, and each mark is the number of those before it.
   abbrev pub Kept : List E → List (List ℕ × ℕ) → Type 0
   Kept row slots = (slots ≡ firsts bytes_eq (pairs row)) × (map m row ≡ marks bytes_eq [] (pairs row))
 

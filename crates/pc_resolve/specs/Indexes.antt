@@ -1,9 +1,9 @@
--- Keys with values, of which the first of each key counts.
+-- Keys with values, where the first value of each key counts.
 use Rattle.std.specs.Prelude.{ℕ, Bool, List, [], ◌∷◌, ◌++◌, is_some, length, if◌then◌else◌}
 use Rattle.std.specs.Map.{lookup}
 
 module _ {K X : Type 0} (eq : K → K → Bool) where
-  -- The pair goes behind the others, unless its key is there.
+  -- Appends the pair, unless its key is there already.
   abbrev pub with_first : List (K × X) → K × X → List (K × X)
   with_first es p = if is_some (lookup (eq p.0) es) then es else es ++ p ∷ []
 
@@ -11,11 +11,11 @@ module _ {K X : Type 0} (eq : K → K → Bool) where
   with_firsts es [] = es
   with_firsts es (p ∷ ps) = with_firsts (with_first es p) ps
 
-  -- Of the pairs with each key the first.
+  -- For each key the first pair.
   abbrev pub firsts : List (K × X) → List (K × X)
   firsts ps = with_firsts [] ps
 
-  -- For each pair, how many keys there are before it, behind those of the first list.
+  -- For each pair, the number of keys before it, after those of the first list.
   abbrev pub marks : List (K × X) → List (K × X) → List ℕ
   marks es [] = []
   marks es (p ∷ ps) = length es ∷ marks (with_first es p) ps

@@ -1,4 +1,4 @@
--- The meanings of `pc_body_spec` that those of the code are.
+-- The meanings of `pc_body_spec` that the meanings of the code represent.
 use Rattle.pc_resolve.specs.declared.meaning.Meaning.{Meaning}
 use Rattle.pc_resolve.specs.declared.meaning.Meaning.TheVariants as m
 use Rattle.pc_resolve.specs.declared.meaning.TypeMeaning.{TypeMeaning}

@@ -1,4 +1,4 @@
--- What the elements of lists are found by, and what is found.
+-- What the elements of lists are looked up by, and what is found.
 use Rattle.std.specs.Prelude.{ℕ, suc, List, [], ◌∷◌, Option, Some, None, slice_get, if◌then◌else◌}
 use Rattle.std.specs.Option.{option_map}
 use Rattle.std.specs.Str.{bytes_eq}
@@ -13,17 +13,17 @@ visible_pair v = (v.name, v.slot)
 abbrev pub placed_pair : Placed → ℕ × ℕ
 placed_pair p = (p.start, p.slot)
 
--- The names of entities with their numbers, which begin with this one.
+-- The names of entities with their numbers, which start with this one.
 abbrev pub known_pairs : ℕ → List Known → List (List ℕ × ℕ)
 known_pairs at [] = []
 known_pairs at (k ∷ ks) = (k.name, at) ∷ known_pairs (suc at) ks
 
--- The first entity of this name, with its number.
+-- The first entity with this name, with its number.
 abbrev pub known_at : ℕ → List Known → List ℕ → Option (ℕ × Known)
 known_at at [] name = None
 known_at at (k ∷ ks) name = if bytes_eq k.name name then Some (at, k) else known_at (suc at) ks name
 
--- The entity of this number, with the number.
+-- The entity with this number, and the number.
 abbrev pub picked : List Known → Option ℕ → Option (ℕ × Known)
 picked ks None = None
 picked ks (Some n) = option_map (λ k. (n, k)) (slice_get ks n)

@@ -1,4 +1,4 @@
-//! The constructors of an entity, found by their names.
+//! The constructors of an entity, looked up by their names.
 ghost use Rattle.std.specs.Prelude.{◌≡◌, [], IfOk, OnOk, map};
 ghost use Rattle.std.specs.Str.{bytes_eq};
 ghost use Rattle.pc_body_spec.specs.Scopes as spec;
@@ -27,7 +27,7 @@ impl Model for Constructor {
 }
 
 impl Constructor {
-    /// The constructor of this name, which has this number among the methods of the program.
+    /// The constructor with this name, which has this number among the methods of the program.
     pub fn new(name: List<u8>, method: u32) -> Constructor
         ensures { result ≡ record { name = name; method = method } }
     {
@@ -35,7 +35,7 @@ impl Constructor {
     }
 }
 
-/// The constructors of an entity in order, each found by its name in the same time however many there are.
+/// The constructors of an entity in order, looked up by hash of their names.
 #[derive(Drop)]
 pub struct Constructors {
     row: List<Constructor>,
@@ -57,7 +57,7 @@ impl Model for Constructors {
 }
 
 impl Constructors {
-    /// No constructors. It takes no memory.
+    /// No constructors. Does not allocate.
     pub fn new(alloc: Global) -> Constructors
         ensures { result ≡ [] }
     {
@@ -67,7 +67,7 @@ impl Constructors {
         }
     }
 
-    /// These constructors. An `Err` where memory runs out.
+    /// These constructors. `Err` if memory runs out.
     pub fn of(alloc: Global, row: List<Constructor>) -> Result<Constructors, AllocError>
         ensures { IfOk result (λ constructors. constructors ≡ row) }
     {
@@ -75,8 +75,8 @@ impl Constructors {
         Ok(Constructors { row, methods })
     }
 
-    /// The number of the constructor of this name among the methods of the program. `None` exactly where none of these has
-    /// it; the first counts.
+    /// The number of the constructor with this name among the methods of the program. `None` iff none of these has it;
+    /// the first counts.
     #[tactic(auto, using(crate::proofs::Found::constructor_found))]
     pub fn find(&self, name: &[u8]) -> Option<u32>
         ensures { result ≡ spec.constructor_named self.now name.now }
@@ -94,7 +94,7 @@ fn number_methods(alloc: Global, row: &[Constructor]) -> Result<Index, AllocErro
     Ok(methods)
 }
 
-// Those of these constructors go behind the others, unless their names are there.
+// Appends those of these constructors whose names are not there already.
 fn add_methods(methods: &mut Index, row: &[Constructor]) -> Result<(), AllocError>
     ensures { OnOk result (methods.new ≡ with_firsts bytes_eq methods.old (map constructor_pair row.now)) }
 {
@@ -104,7 +104,7 @@ fn add_methods(methods: &mut Index, row: &[Constructor]) -> Result<(), AllocErro
     Ok(())
 }
 
-// The key that is made of the names of these constructors.
+// The key made of the names of these constructors.
 fn key_of(row: &[Constructor]) -> KeyedBy {
     let mut key = KeyedBy::nothing();
     for constructor in row {

@@ -1,4 +1,4 @@
-//! What stays the same throughout the body of a method, and what names mean in it.
+//! What stays the same throughout the body of a method, and the meaning of names in it.
 ghost use Rattle.std.specs.Prelude.{◌≡◌, ◌<◌, ◌^◌, length, Option, IfOk, OnOk, OnErr, if◌then◌else◌};
 ghost use Rattle.pc_body_spec.specs.Scopes as spec;
 ghost use Rattle.pc_body_spec.specs.Faults.{is_entity};
@@ -18,8 +18,7 @@ use std::alloc::{AllocError, Global};
 use std::marker::Model;
 
 /// What stays the same throughout the body of a method: the names of the fields and methods of its entity, the entities
-/// and texts of the program by their numbers, and the slots of the method's locals. Each is found in the same time however many
-/// there are.
+/// and texts of the program by their numbers, and the slots of the method's locals. All of them are looked up by hash.
 #[derive(Drop)]
 pub struct Context {
     members: Members,
@@ -36,7 +35,7 @@ struct Members {
 }
 
 impl Members {
-    // These names, found by a hash with this key. An `Err` where memory runs out.
+    // These names, looked up by a hash with this key. `Err` if memory runs out.
     fn of(
         alloc: Global,
         key: KeyedBy,
@@ -65,8 +64,8 @@ impl Model for Context {
 
 impl Context {
     /// The context of a method: the names of the fields and methods of its entity, the entities of the program by their
-    /// numbers, those of the language first, the texts of the program by their numbers, and the slots of the method's
-    /// locals. Names are found by a hash that has the key of the texts. An `Err` where memory runs out.
+    /// numbers, the built-in ones first, the texts of the program by their numbers, and the slots of the method's
+    /// locals. Names are looked up by a hash with the key of the texts. `Err` if memory runs out.
     pub fn new(
         alloc: Global,
         fields: List<List<u8>>,
@@ -89,8 +88,8 @@ impl Context {
         })
     }
 
-    /// Goes on to another entity, whose fields and methods have these names. An `Err` where memory runs out, which changes
-    /// nothing.
+    /// Moves on to another entity, whose fields and methods have these names. `Err` if memory runs out, and then
+    /// nothing has changed.
     pub fn set_members(
         &mut self,
         alloc: Global,
@@ -104,14 +103,14 @@ impl Context {
         Ok(())
     }
 
-    /// Goes on to another method, whose locals have these slots.
+    /// Moves on to another method, whose locals have these slots.
     pub fn set_slots(&mut self, slots: LocalSlots)
         ensures { self.new ≡ record { fields = self.old.fields; methods = self.old.methods; entities = self.old.entities; texts = self.old.texts; slots = slots } }
     {
         self.slots = slots;
     }
 
-    /// What a bare name means where these locals and parameters are visible: a local or parameter, else a field of the
+    /// The meaning of a bare name if these locals and parameters are visible: a local or parameter, else a field of the
     /// entity, else a method of the entity.
     pub fn resolve(&self, scope: &[Visible], name: &[u8]) -> Meaning
         ensures { meaning_view result ≡ spec.resolve self.now scope.now name.now }
@@ -119,7 +118,7 @@ impl Context {
         self.meaning(slot_of(scope, name), name)
     }
 
-    /// What a bare name means where the visible local or parameter of this name, if there is one, has this slot.
+    /// The meaning of a bare name, given the slot of the visible local or parameter with this name, if there is one.
     pub fn meaning(&self, local: Option<u32>, name: &[u8]) -> Meaning
         ensures { meaning_view result ≡ spec.unless_local local (spec.member (spec.is_among self.now.fields name.now) (spec.is_among self.now.methods name.now)) }
     {
@@ -136,7 +135,7 @@ impl Context {
         }
     }
 
-    /// What a type name means as an expression: the value of a primitive, an entity with constructors, or nothing.
+    /// The meaning of a type name as an expression: the value of a primitive, an entity with constructors, or nothing.
     #[tactic(auto, using(crate::proofs::Found::type_found))]
     pub fn type_meaning(&self, name: &[u8]) -> TypeMeaning<'_>
         ensures { type_view result ≡ spec.type_meaning self.now name.now }
@@ -155,14 +154,14 @@ impl Context {
         self.entities.find(name).is_some()
     }
 
-    /// The slot of the local whose name begins at this byte where it is defined, or 0 where there is none.
+    /// The slot of the local whose name begins at this byte in its definition, or 0 if there is none.
     pub fn slot_at(&self, start: u32) -> u32
         ensures { result ≡ spec.slot_at self.now.slots start }
     {
         self.slots.at(start)
     }
 
-    /// The number of a text, or 0 where it is none of the program's.
+    /// The number of a text, or 0 if it is not one of the program's.
     #[tactic(auto, using(crate::proofs::Texts::text_found))]
     pub fn text_of(&self, name: &[u8]) -> u32
         ensures { result ≡ spec.text_of self.now name.now }
@@ -173,8 +172,8 @@ impl Context {
         }
     }
 
-    /// The number and the capability of a written type: the capability of its entity where none is written. `None` exactly
-    /// where there is no such entity.
+    /// The number and the capability of a written type: the capability of its entity if none is written. `None` iff
+    /// there is no such entity.
     #[tactic(auto, using(crate::proofs::Found::written_found))]
     pub fn type_of(&self, ty: &TypeRef) -> Option<(u32, Cap)>
         ensures { result ≡ slots.type_of 0 self.now.entities ty.now }
@@ -185,7 +184,7 @@ impl Context {
         }
     }
 
-    /// The key of the hashes by which names are found. No answer depends on it.
+    /// The key of the hashes by which names are looked up. No result depends on it.
     pub fn key(&self) -> KeyedBy {
         self.texts.key()
     }
@@ -208,11 +207,11 @@ fn cap_or(written: Option<Cap>, own: Cap) -> Cap
     }
 }
 
-// What the name of the entity of this number means.
+// The meaning of the name of the entity with this number.
 fn meaning_of(number: u32, known: &Known) -> TypeMeaning<'_>
     ensures { type_view result ≡ if spec.is_own number then spec.by_kind known.now.kind number known.now.constructors else spec.no_value }
 {
-    // Of the entities of the language, None alone has a value that its name stands for.
+    // Of the built-in entities only None has a value that its name denotes.
     if number != NONE_ENTITY && number < FIRST_OWN {
         return TypeMeaning::NoValue;
     }

@@ -1,4 +1,4 @@
-//! What a body sees of the entities of the program, found by their names.
+//! What a body knows of the entities of the program, looked up by their names.
 ghost use Rattle.std.specs.Prelude.{◌≡◌, ◌<◌, ◌^◌, Some, IfOk, OnOk, length};
 ghost use Rattle.std.specs.Option.{option_map};
 ghost use Rattle.std.specs.Str.{bytes_eq};
@@ -13,7 +13,7 @@ use pc_tree::EntityKind;
 use std::alloc::{AllocError, Global};
 use std::marker::Model;
 
-/// What a body sees of an entity of the program.
+/// What a body knows of an entity of the program.
 #[derive(Drop)]
 pub struct Known {
     pub(crate) name: List<u8>,
@@ -31,8 +31,8 @@ impl Model for Known {
 }
 
 impl Known {
-    /// An entity of this name and kind, whose type has this capability where none is written. A constructor that is added
-    /// where none is written is among the constructors.
+    /// An entity with this name and kind, whose type has this capability if none is written. A constructor that is
+    /// added because none is written is among the constructors.
     pub fn new(name: List<u8>, kind: EntityKind, cap: Cap, constructors: Constructors) -> Known
         ensures { result ≡ record { name = name; kind = kind; cap = cap; constructors = constructors } }
     {
@@ -45,7 +45,7 @@ impl Known {
     }
 }
 
-/// The entities of a program by their numbers, each found by its name in the same time however many there are.
+/// The entities of a program by their numbers, looked up by hash of their names.
 #[derive(Drop)]
 pub(crate) struct Entities {
     row: List<Known>,
@@ -67,7 +67,7 @@ impl Model for Entities {
 }
 
 impl Entities {
-    /// These entities, found by a hash with this key. An `Err` where memory runs out.
+    /// These entities, looked up by a hash with this key. `Err` if memory runs out.
     pub(crate) fn of(alloc: Global, key: KeyedBy, row: List<Known>) -> Result<Entities, AllocError>
         requires { length row < 2 ^ 32 }
         ensures { IfOk result (λ entities. entities ≡ row) }
@@ -76,7 +76,7 @@ impl Entities {
         Ok(Entities { row, numbers })
     }
 
-    /// The entity of this name, with its number. `None` exactly where there is none; the first counts.
+    /// The entity with this name, and its number. `None` iff there is none; the first counts.
     #[tactic(auto, using(crate::proofs::Found::entity_found))]
     pub(crate) fn find(&self, name: &[u8]) -> Option<(u32, &Known)>
         ensures { option_map (λ p. (p.0, p.1.now)) result ≡ known_at 0 self.now name.now }
@@ -87,7 +87,7 @@ impl Entities {
         }
     }
 
-    // The entity of this number, with the number.
+    // The entity with this number, and the number.
     fn numbered(&self, number: u32) -> Option<(u32, &Known)>
         ensures { option_map (λ p. (p.0, p.1.now)) result ≡ picked self.now (Some number) }
     {
@@ -108,7 +108,7 @@ fn number_entities(alloc: Global, key: KeyedBy, row: &[Known]) -> Result<Index, 
     Ok(numbers)
 }
 
-// Those of these entities go behind the others, unless their names are there.
+// Appends those of these entities whose names are not there already.
 fn add_numbers(numbers: &mut Index, row: &[Known]) -> Result<(), AllocError>
     requires { length row.now < 2 ^ 32 }
     ensures { OnOk result (numbers.new ≡ with_firsts bytes_eq numbers.old (known_pairs 0 row.now)) }

@@ -1,4 +1,4 @@
-//! Names with their values, found in the same time however many there are.
+//! Names with their values, looked up by hash.
 ghost use Rattle.std.specs.Prelude.{◌≡◌, [], OnOk, OnErr, length, take};
 ghost use Rattle.std.specs.Map.{lookup};
 ghost use Rattle.std.specs.Str.{bytes_eq};
@@ -9,7 +9,7 @@ use pc_keyed::KeyedBy;
 use std::alloc::{AllocError, Global};
 use std::marker::Model;
 
-/// Names that differ, each with a value, in the order in which they were added.
+/// Different names, each with a value, in the order in which they were added.
 #[derive(Drop)]
 pub(crate) struct Index {
     alloc: Global,
@@ -25,7 +25,7 @@ impl Model for Index {
 }
 
 impl Index {
-    /// An index without names, in which names are found by a hash with this key. It takes no memory.
+    /// An index without names, which looks names up by a hash with this key. Does not allocate.
     pub(crate) fn new(alloc: Global, key: KeyedBy) -> Index
         ensures { result ≡ [] }
     {
@@ -35,7 +35,7 @@ impl Index {
         }
     }
 
-    /// How many names there are.
+    /// The number of names.
     #[tactic(auto, using(crate::proofs::Indexes::shown_length))]
     pub(crate) fn len(&self) -> usize
         ensures { result ≡ length self.now }
@@ -43,7 +43,7 @@ impl Index {
         self.values.len()
     }
 
-    /// The value of the name. `None` exactly where the name is not there.
+    /// The value of the name. `None` iff the name is not there.
     #[tactic(auto, using(crate::proofs::Indexes::lookup_shown))]
     pub(crate) fn find(&self, name: &[u8]) -> Option<u32>
         ensures { result ≡ lookup (bytes_eq name.now) self.now }
@@ -51,7 +51,8 @@ impl Index {
         self.values.get(name).copied()
     }
 
-    /// Adds the name with this value behind the others, unless it is there, which takes no memory. An `Err` changes nothing.
+    /// Appends the name with this value, unless it is there already; then nothing is allocated. An `Err` changes
+    /// nothing.
     pub(crate) fn add(&mut self, name: &[u8], value: u32) -> Result<(), AllocError>
         ensures ok { OnOk result (self.new ≡ with_first bytes_eq self.old (name.now, value)) }
         ensures err { OnErr result (self.new ≡ self.old) }

@@ -1,7 +1,7 @@
-//! What the names in the body of a method mean.
+//! The meaning of the names in the body of a method.
 //!
-//! Proved: What a name means in a body is exactly what the definitions say, where these locals and parameters are visible, with
-//! these fields, methods and entities; `Scope` finds what is visible by its name.
+//! Proved: the meaning of a name in a body is exactly that of the definitions, given the visible locals and parameters,
+//! the fields, methods and entities; `Scope` finds what is visible by its name.
 #![tactic(auto)]
 
 mod constructors;

@@ -1,4 +1,4 @@
-//! The slots of locals, found by the places of their names.
+//! The slots of locals, looked up by the places of their names.
 ghost use Rattle.std.specs.Prelude.{◌≡◌, [], IfOk, OnOk, map, nat_eq};
 ghost use Rattle.pc_body_spec.specs.Scopes as spec;
 ghost use Rattle.pc_resolve.specs.Indexes.{firsts, with_first, with_firsts};
@@ -10,7 +10,7 @@ use pc_keyed::KeyedBy;
 use std::alloc::{AllocError, Global};
 use std::marker::Model;
 
-/// The slot of a local, and the place at which the local's name stands where it is defined.
+/// The slot of a local, and the place of its name in its definition.
 #[derive(Drop)]
 pub struct Placed {
     start: u32,
@@ -26,7 +26,7 @@ impl Model for Placed {
 }
 
 impl Placed {
-    /// The slot of this index, of the local whose name begins at this byte.
+    /// The slot with this index, of the local whose name begins at this byte.
     pub fn new(start: u32, slot: u32) -> Placed
         ensures { result ≡ record { start = start; slot = slot } }
     {
@@ -34,7 +34,7 @@ impl Placed {
     }
 }
 
-/// The slots of locals in order, each found by the place of its local's name in the same time however many there are.
+/// The slots of locals in order, looked up by hash of the places of the locals' names.
 #[derive(Drop)]
 pub struct LocalSlots {
     row: List<Placed>,
@@ -55,7 +55,7 @@ impl Model for LocalSlots {
 }
 
 impl LocalSlots {
-    /// No slots. It takes no memory.
+    /// No slots. Does not allocate.
     pub fn new(alloc: Global) -> LocalSlots
         ensures { result ≡ [] }
     {
@@ -65,7 +65,7 @@ impl LocalSlots {
         }
     }
 
-    /// These slots. An `Err` where memory runs out.
+    /// These slots. `Err` if memory runs out.
     pub fn of(alloc: Global, row: List<Placed>) -> Result<LocalSlots, AllocError>
         ensures { IfOk result (λ slots. slots ≡ row) }
     {
@@ -73,7 +73,7 @@ impl LocalSlots {
         Ok(LocalSlots { row, by_start })
     }
 
-    /// The slot of the local whose name begins at this byte, or 0 where there is none; the first counts.
+    /// The slot of the local whose name begins at this byte, or 0 if there is none; the first counts.
     #[tactic(auto, using(crate::proofs::Found::slot_found))]
     pub(crate) fn at(&self, start: u32) -> u32
         ensures { result ≡ spec.slot_at self.now start }
@@ -85,7 +85,7 @@ impl LocalSlots {
     }
 }
 
-// The slot of each place, of which the first counts.
+// The slot for each place; the first counts.
 fn index_starts(alloc: Global, row: &[Placed]) -> Result<IndexMap<u32, u32, KeyedBy>, AllocError>
     ensures { IfOk result (λ m. m.entries ≡ firsts nat_eq (map placed_pair row.now)) }
 {
@@ -94,7 +94,7 @@ fn index_starts(alloc: Global, row: &[Placed]) -> Result<IndexMap<u32, u32, Keye
     Ok(by_start)
 }
 
-// Notes the slots of all places that have none.
+// Records the slots of all places that have none so far.
 fn note_all(by_start: &mut IndexMap<u32, u32, KeyedBy>, row: &[Placed]) -> Result<(), AllocError>
     ensures { OnOk result (by_start.new.entries ≡ with_firsts nat_eq by_start.old.entries (map placed_pair row.now)) }
 {
@@ -104,7 +104,7 @@ fn note_all(by_start: &mut IndexMap<u32, u32, KeyedBy>, row: &[Placed]) -> Resul
     Ok(())
 }
 
-// Notes the slot of a place, unless the place has one.
+// Records the slot of a place, unless the place has one.
 fn note(by_start: &mut IndexMap<u32, u32, KeyedBy>, start: u32, slot: u32) -> Result<(), AllocError>
     ensures { OnOk result (by_start.new.entries ≡ with_first nat_eq by_start.old.entries (start, slot)) }
 {
@@ -115,7 +115,7 @@ fn note(by_start: &mut IndexMap<u32, u32, KeyedBy>, start: u32, slot: u32) -> Re
     Ok(())
 }
 
-// The key that is made of these places.
+// The key made of these places.
 fn key_of(row: &[Placed]) -> KeyedBy {
     let mut key = KeyedBy::nothing();
     for placed in row {

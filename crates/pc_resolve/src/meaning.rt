@@ -1,8 +1,8 @@
-//! What a name may mean.
+//! What a name can mean.
 
 use crate::constructors::Constructors;
 
-/// What a bare name means.
+/// The meaning of a bare name.
 #[derive(Clone, Copy, Debug, PartialEq, Eq)]
 pub enum Meaning {
     /// A visible local or parameter, by the index of its slot.
@@ -15,7 +15,7 @@ pub enum Meaning {
     Nothing,
 }
 
-/// What a type name means as an expression.
+/// The meaning of a type name as an expression.
 #[derive(Drop)]
 pub enum TypeMeaning<'a> {
     /// The value of a primitive, by the entity's number.

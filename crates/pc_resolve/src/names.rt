@@ -1,4 +1,4 @@
-//! Names in a row, and whether one is among them.
+//! A list of names, and whether a name is in it.
 ghost use Rattle.std.specs.Prelude.{◌≡◌, [], IfOk, OnOk};
 ghost use Rattle.pc_body_spec.specs.Scopes as spec;
 ghost use Rattle.pc_members.specs.Tables.{with_names};
@@ -9,7 +9,7 @@ use pc_members::NameTable;
 use std::alloc::{AllocError, Global};
 use std::marker::Model;
 
-/// Names in order. Whether one is among them is told in the same time however many there are.
+/// Names in order. Whether a name is among them is looked up by hash.
 #[derive(Drop)]
 pub(crate) struct NameRow {
     row: List<List<u8>>,
@@ -28,7 +28,7 @@ impl Model for NameRow {
 }
 
 impl NameRow {
-    /// These names, found by a hash with this key. An `Err` where memory runs out.
+    /// These names, looked up by a hash with this key. `Err` if memory runs out.
     pub(crate) fn of(
         alloc: Global,
         key: KeyedBy,
@@ -58,7 +58,7 @@ fn table_of(alloc: Global, key: KeyedBy, row: &[List<u8>]) -> Result<NameTable, 
     Ok(names)
 }
 
-// The names go behind the others, each once.
+// Appends the names, each once.
 fn add_names(names: &mut NameTable, row: &[List<u8>]) -> Result<(), AllocError>
     ensures { OnOk result (names.new ≡ with_names names.old row.now) }
 {

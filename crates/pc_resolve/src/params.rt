@@ -7,8 +7,8 @@ use pc_caps::List;
 use pc_tree::{Name, ParamDef};
 use std::alloc::{AllocError, Global};
 
-/// The parameters, whose slots come after that of `this`. An `Err` where memory runs out, or where there are so many that the
-/// slot behind the last one is no number of 32 bits.
+/// The parameters, whose slots come after that of `this`. `Err` if memory runs out, or if there are so many that the
+/// slot after the last one does not fit in 32 bits.
 pub fn params_scope(alloc: Global, params: &[ParamDef]) -> Result<List<Visible>, AllocError>
     ensures { IfOk result (λ scope. scope ≡ spec.params_scope params.now) }
 {
@@ -17,7 +17,7 @@ pub fn params_scope(alloc: Global, params: &[ParamDef]) -> Result<List<Visible>,
     Ok(scope)
 }
 
-// The parameters go behind the others.
+// Appends the parameters.
 fn add_params(
     alloc: Global,
     scope: &mut List<Visible>,
@@ -36,7 +36,7 @@ fn add_params(
     Ok(())
 }
 
-// The name goes behind the others, in the slot of this index.
+// Appends the name, in the slot with this index.
 fn push_name(
     alloc: Global,
     scope: &mut List<Visible>,

@@ -1,4 +1,4 @@
-//! The locals and parameters that are visible.
+//! The visible locals and parameters.
 ghost use Rattle.std.specs.Prelude.{◌≡◌, ◌∷◌, [], ◌++◌, IfOk, OnOk, OnErr, length, map, take};
 ghost use Rattle.pc_body_spec.specs.Scopes as spec;
 
@@ -8,7 +8,7 @@ use pc_keyed::KeyedBy;
 use std::alloc::{AllocError, Global};
 use std::marker::Model;
 
-/// A local or parameter that is visible, and the index of its slot.
+/// A visible local or parameter, and the index of its slot.
 #[derive(Drop)]
 pub struct Visible {
     name: List<u8>,
@@ -24,7 +24,7 @@ impl Model for Visible {
 }
 
 impl Visible {
-    /// The local or parameter of this name, in the slot of this index.
+    /// The local or parameter with this name, in the slot with this index.
     pub fn new(name: List<u8>, slot: u32) -> Visible
         ensures { result ≡ record { name = name; slot = slot } }
     {
@@ -32,8 +32,8 @@ impl Visible {
     }
 }
 
-/// The slot of the visible local or parameter of this name. `None` exactly where there is none; the first in the scope counts.
-/// It walks over the scope: where a body gets nodes, it has at most 64 slots.
+/// The slot of the visible local or parameter with this name. `None` iff there is none; the first in the scope counts.
+/// The scope is searched from the start: in a body that gets nodes it has at most 64 slots.
 pub fn slot_of(scope: &[Visible], name: &[u8]) -> Option<u32>
     ensures { result ≡ spec.slot_of scope.now name.now }
 {
@@ -52,7 +52,7 @@ struct Entered {
     names_before: usize,
 }
 
-/// The visible locals and parameters, each found by its name in the same time however many there are.
+/// The visible locals and parameters, looked up by hash of their names.
 #[derive(Drop)]
 pub struct Scope {
     row: List<Entered>,
@@ -74,7 +74,7 @@ impl Model for Scope {
 }
 
 impl Scope {
-    /// Nothing is visible. Names are found by a hash with this key. It takes no memory.
+    /// Nothing is visible. Names are looked up by a hash with this key. Does not allocate.
     pub fn new(alloc: Global, key: KeyedBy) -> Scope
         ensures { result ≡ [] }
     {
@@ -84,7 +84,7 @@ impl Scope {
         }
     }
 
-    /// These are visible. Names are found by a hash with this key. An `Err` where memory runs out.
+    /// These are visible. Names are looked up by a hash with this key. `Err` if memory runs out.
     pub fn of(alloc: Global, key: KeyedBy, row: &[Visible]) -> Result<Scope, AllocError>
         ensures { IfOk result (λ scope. scope ≡ row.now) }
     {
@@ -93,21 +93,21 @@ impl Scope {
         Ok(scope)
     }
 
-    /// How many locals and parameters are visible.
+    /// The number of visible locals and parameters.
     pub fn len(&self) -> usize
         ensures { result ≡ length self.now }
     {
         self.row.len()
     }
 
-    /// The slot of the visible local or parameter of this name. `None` exactly where there is none; the first counts.
+    /// The slot of the visible local or parameter with this name. `None` iff there is none; the first counts.
     pub fn find(&self, name: &[u8]) -> Option<u32>
         ensures { result ≡ spec.slot_of self.now name.now }
     {
         self.slots.find(name)
     }
 
-    /// The local of this name, in the slot of this index, becomes visible. An `Err` changes nothing.
+    /// Makes the local with this name, in the slot with this index, visible. An `Err` changes nothing.
     pub fn push(&mut self, name: List<u8>, slot: u32) -> Result<(), AllocError>
         ensures ok { OnOk result (self.new ≡ self.old ++ record { name = name; slot = slot } ∷ []) }
         ensures err { OnErr result (self.new ≡ self.old) }
@@ -127,7 +127,7 @@ impl Scope {
         }
     }
 
-    /// Only the first `len` stay visible.
+    /// Keeps only the first `len` visible.
     pub fn truncate(&mut self, len: usize)
         ensures { self.new ≡ take len self.old }
     {
@@ -138,7 +138,7 @@ impl Scope {
     }
 }
 
-// These become visible too.
+// Makes these visible too.
 fn enter_all(alloc: Global, scope: &mut Scope, row: &[Visible]) -> Result<(), AllocError>
     ensures { OnOk result (scope.new ≡ scope.old ++ row.now) }
 {
@@ -148,7 +148,7 @@ fn enter_all(alloc: Global, scope: &mut Scope, row: &[Visible]) -> Result<(), Al
     Ok(())
 }
 
-/// The local of this name, in the slot of this index, becomes visible.
+/// Makes the local with this name, in the slot with this index, visible.
 pub fn enter(alloc: Global, scope: &mut Scope, name: &[u8], slot: u32) -> Result<(), AllocError>
     ensures { OnOk result (scope.new ≡ scope.old ++ record { name = name.now; slot = slot } ∷ []) }
 {

@@ -1,5 +1,5 @@
--- Two annotations of a core, node by node: where they agree before a node, and start it from the same
--- masks, they agree at it.
+-- Two annotations of a core, node by node: if they agree before a node, and start it from the same masks, they agree at
+-- it.
 use Rattle.std.specs.Prelude.{◌≡◌, ℕ, ◌+◌, ◌-◌, ◌<◌, ◌≤◌, true, ◌&&◌, nat_eq, length, Some, slice_get, refl}
 use Rattle.std.proofs.Common.{inl, inr, ap, sym, subst, ◌∙◌, arith}
 use Rattle.std.proofs.lemmas.Option.{same_Some, none-some}
@@ -83,7 +83,7 @@ slot_parts core ann m s i e f g =
       subst (λ (z : Method). slice_get ann.slots (z.first_slot + s) ≡ Some i.1) at (c.1 ∙ ap (λ (j : Slot × (ℕ × Cap)). Some j.1) is),
     )
 
--- What a definition says of its slot's type.
+-- What a definition determines about its slot's type.
 pub record Defined (core : CoreData) (ann : Ann) (x : Node) (s : ℕ) : Type 0 where
   pub child : ℕ
   pub is_child : one_child x.children ≡ Some child
@@ -174,7 +174,7 @@ module _ (core : CoreData) (a b : Ann) (formed : Formed core) (wa : KeepsWritten
   pub use_alike : (n : ℕ) (x : Node) (k : NodeKind) (s : ℕ) → Agree core a b n → slice_get core.nodes n ≡ Some x → x.kind ≡ k → Uses s k → NamesSlot core x.method s → (f : Method) → slice_get core.methods x.method ≡ Some f → slice_get a.slots (f.first_slot + s) ≡ slice_get b.slots (f.first_slot + s)
   use_alike n x k s same g e u names = used_alike n x s same g names (subst (Uses s) (sym e) u)
 
-  -- What node n looks at is the same in both.
+  -- What node n depends on is the same in both.
   pub looks_alike : (n : ℕ) (x : Node) (k : NodeKind) (m : Masks) (r o : Rule) (p q : Said) → Agree core a b n → slice_get core.nodes n ≡ Some x → Each (λ i c. c < n) x.children → x.kind ≡ k → says core a x m r k ≡ Some p → says core b x m o k ≡ Some q → LooksAlike core a b x.method k
   looks_alike n x node.This m r o p q same g h e u v i l = looks_at x 0 i l (this_alike n x g)
   looks_alike n x (node.Local s) m r o p q same g h e u v i l = looks_at x s i l (use_alike n x (node.Local s) s same g e refl (subst (NamesFit core x.method) e (formed.nodes n x g).names))

@@ -1,5 +1,5 @@
--- What a rule says of a node is the same in two annotations that have the same notes of its children and the same type of
--- the slot that it looks at.
+-- The conclusion of a rule for a node is the same in two annotations with the same notes of its children and the same
+-- type of the slot that it uses.
 use Rattle.std.specs.Prelude.{◌≡◌, ℕ, suc, ◌+◌, List, [], ◌∷◌, Option, Some, None, slice_get, refl}
 use Rattle.std.proofs.Common.{ap, ◌∙◌}
 use Rattle.std.proofs.lemmas.Option.{none-some}
@@ -25,7 +25,7 @@ pub bind_same : {A B : Type 0} → (o p : Option A) (f g : A → Option B) → o
 bind_same o None f g e h = ap (λ q. q >>= f) e
 bind_same o (Some x) f g e h = ap (λ q. q >>= f) e ∙ h x refl
 
--- The index of the slot that a node of this kind looks at.
+-- The index of the slot that a node of this kind uses.
 abbrev pub looked_at : NodeKind → Option ℕ
 looked_at node.This = Some 0
 looked_at (node.Local s) = Some s
@@ -34,7 +34,7 @@ looked_at (node.Define s) = Some s
 looked_at (node.Assign s) = Some s
 looked_at k = None
 
--- A node of this kind in method m looks at a slot of the same type in both.
+-- A node of this kind in method m uses a slot with the same type in both.
 abbrev pub LooksAlike : CoreData → Ann → Ann → ℕ → NodeKind → Type 0
 LooksAlike core a b m k = (s : ℕ) → looked_at k ≡ Some s → slot_of core a m s ≡ slot_of core b m s
 
@@ -69,7 +69,7 @@ module _ (a b : Ann) where
   used_same : (core : CoreData) (x : Node) (s : ℕ) (m : Masks) → slot_of core a x.method s ≡ slot_of core b x.method s → values.used core a.slots x s m.0 ≡ values.used core b.slots x s m.0
   used_same core x s m k = bind_same (parts.slot_of core a.slots x.method s) (parts.slot_of core b.slots x.method s) _ _ k (λ i j. refl)
 
-  -- A rule looks at one slot at most.
+  -- A rule depends on at most one slot.
   rule_same : (core : CoreData) (x : Node) (ns : List Note) (r : Rule) (k : NodeKind) (m : Masks) → LooksAlike core a b x.method k → rule_says core a.slots ns x m r k ≡ rule_says core b.slots ns x m r k
   rule_same core x ns rule.This node.This m l =
       bind_same (slice_get core.methods x.method) (slice_get core.methods x.method) _ _ refl (λ f i.

@@ -1,4 +1,4 @@
--- What a rule says of a node of an annotation by the numbers of its children is what it says by their notes.
+-- The conclusion of a rule for a node of an annotation by the numbers of its children is its conclusion by their notes.
 use Rattle.std.specs.Prelude.{◌≡◌, ◌↔◌, ℕ, zero, suc, ◌-◌, Bool, true, false, cond, ◌&&◌, nat_eq, List, [], ◌∷◌, length, take, Option, Some, None, slice_get, refl}
 use Rattle.std.proofs.Common.{ap, sym, subst, ◌∙◌}
 use Rattle.std.proofs.lemmas.Option.{same_Some}
@@ -122,7 +122,7 @@ module _ (ann : Ann) where
   one_by (c ∷ []) (t ∷ s ∷ ts) h = absurd h.1
   one_by (c ∷ d ∷ cs) (t ∷ s ∷ ts) h = refl
 
-  -- Two children, and what is made of them and of their notes.
+  -- Two children, and what is computed from them and from their notes.
   two_by : {A : Type 0} → (cs : List ℕ) (ns : List Note) (f : ℕ × ℕ → Option A) (g : Note × Note → Option A) → Noted ann cs ns
       → ((c : ℕ × ℕ) (t : Note × Note) → slice_get ann.notes c.0 ≡ Some t.0 → slice_get ann.notes c.1 ≡ Some t.1 → f c ≡ g t) → (two_children cs >>= f) ≡ (two_notes ns >>= g)
   two_by [] [] f g h k = refl
@@ -434,7 +434,7 @@ noted_of ann (c ∷ cs) ns e =
     let b = bind_some (notes_of ann.notes cs) _ ns a.2 in
     subst (Noted ann (c ∷ cs)) (same_Some (a.0 ∷ b.0) ns b.2) (a.1, noted_of ann cs b.0 b.1)
 
--- What is said by the notes of the children is said by their numbers.
+-- The conclusion by the notes of the children is the one by their numbers.
 pub by_number : (core : CoreData) (ann : Ann) (x : Node) (m : Masks) (r : Rule) (k : NodeKind) (q : Said) → says core ann x m r k ≡ Some q → numbered.says core ann x m r k ≡ Some q
 by_number core ann x m r k q e =
     let a = bind_some (notes_of ann.notes x.children) _ q e in

@@ -1,5 +1,5 @@
--- Mirrors the rules of `specs/`: what each says of a node of an annotation, as computed by the numbers of its children.
--- Proofs about whole annotations take a rule apart in this form; `Bridge` shows that both say the same.
+-- As in `specs/`: the conclusion of each rule for a node of an annotation, computed by the numbers of its children.
+-- Proofs about whole annotations take a rule apart in this form; `Bridge` shows that both are the same.
 use Rattle.std.specs.Prelude.{◌≡◌, ℕ, ◌+◌, ◌-◌, Bool, true, false, ◌&&◌, cond, nat_eq, List, [], ◌∷◌, length, take, Option, Some, None, slice_get, if◌then◌else◌}
 use Rattle.pc_caps.specs.Tables.{view, fits, plain, unalias}
 use Rattle.pc_caps.specs.declared.capability.Cap.{Cap}
@@ -356,7 +356,7 @@ body_says core ann x m = do
 
 -- ---- every rule
 
--- What a rule says of node x of an annotation, with these masks before it.
+-- The conclusion of a rule for node x of an annotation, with these masks before it.
 abbrev pub says : CoreData → Ann → Node → Masks → Rule → NodeKind → Option Said
 says core ann x m rule.Number (node.Number v) = literal_says 1 m
 says core ann x m rule.Truth (node.Truth v) = literal_says 2 m
@@ -393,10 +393,10 @@ says core ann x m rule.Recover (node.Recover k) = recover_says ann x k m
 says core ann x m rule.Body node.Body = body_says core ann x m
 says core ann x m r k = None
 
--- The note of node x is what its rule says.
+-- The note of node x is the conclusion of its rule.
 abbrev pub IsSaid : CoreData → Ann → Node → Note → Type 0
 IsSaid core ann x t = says core ann x (before t) t.rule x.kind ≡ Some (said_by t)
 
--- What is read of an own field that sees form s there.
+-- Reading an own field that is seen in this form.
 abbrev pub own_seen : ℕ × FieldInfo → Form → Masks → Option Said
 own_seen f s n = cond (has n.1 f.0) (Some (says_of (Some (f.1.entity, s)) n)) None

@@ -1,4 +1,4 @@
--- That a test of one node decides whether its rule holds.
+-- A test of one node decides whether its rule holds.
 use Rattle.std.specs.Prelude.{◌≡◌, ◌↔◌, ◌<◌, ℕ, Bool, List, Some, None, IsTrue, length, slice_get}
 use Rattle.std.proofs.Common.{sym, subst, ◌∙◌}
 use Rattle.std.proofs.lemmas.Option.{same_Some, none-some}

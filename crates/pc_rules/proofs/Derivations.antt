@@ -1,4 +1,4 @@
--- Derivations, and what shows that there is none: by records, and as they are computed.
+-- Derivations, and what shows that there is none: by the records, and as computed.
 use Rattle.std.specs.Prelude.{◌≡◌, ◌↔◌, Bool, IsTrue, ℕ, ◌+◌, List, [], ◌∷◌, length, Option, Some, None, slice_get, refl}
 use Rattle.std.proofs.Common.{sym, subst, ◌∙◌}
 use Rattle.std.proofs.lemmas.Option.{same_Some, none-some}
@@ -112,7 +112,7 @@ module _ (core : CoreData) (formed : Formed core) where
             none-some (said_by own) (sym (r.none own.rule slots d) ∙ met);
       }
 
-  -- A note that says what a rule says.
+  -- A note that states the conclusion of a rule.
   abbrev noted : Rule → Masks → Said → Note
   noted r m s = record { rule = r; ty = s.ty; live_before = m.0; set_before = m.1; live_after = s.live; set_after = s.set }
 
@@ -186,7 +186,7 @@ same_have_no_rule core formed ann n = (no_rule_to core formed ann n, to_no_rule 
 pub same_are_unset : SameAreUnset
 same_are_unset core formed ann m = (unset_to core formed ann m, to_unset core formed ann m)
 
--- A node meets its rule in an annotation exactly if it does by its own note and those of its children.
+-- A node satisfies its rule in an annotation iff it does so by its own note and those of its children.
 pub holds_meets : (core : CoreData) (ann : Ann) (n : ℕ) (x : Node) (own : Note) (ns : List Note) → slice_get core.nodes n ≡ Some x → slice_get ann.notes n ≡ Some own
     → notes_of ann.notes x.children ≡ Some ns → Holds core ann.slots own ns n ↔ MeetsRule core ann n
 holds_meets core ann n x own ns g h e = (

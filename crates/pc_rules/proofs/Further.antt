@@ -1,4 +1,4 @@
--- One child further, of the children from a place on.
+-- One more child, of the children from a place on.
 use Rattle.std.specs.Prelude.{◌≡◌, ℕ, zero, suc, ◌+◌, ◌<◌, ◌≤◌, length, take, Bool, true, false, cond, ◌&&◌, List, [], ◌∷◌, drop, Option, Some, None, slice_get}
 use Rattle.std.proofs.Common.{ap, sym, subst, ◌∙◌, arith}
 use Rattle.std.proofs.lemmas.List.{drop_all, length-take-le}
@@ -64,7 +64,7 @@ this_lacks notes cs i b l e f = sym (here notes cs i b false l e f)
 pub one_more_without : (core : CoreData) (cs : List ℕ) (i : ℕ) (l m : Mask) → i < length cs → m ≡ without_item (slice_get core.nodes (get_or cs i 0)) l → without_items core (drop (i + 1) cs) m ≡ without_items core (drop i cs) l
 one_more_without core cs i l m b e = ap (without_items core (drop (i + 1) cs)) e ∙ sym (ap (λ ds. without_items core ds l) (drop_step cs i (get_or cs i 0) (slice_get-get_or cs i 0 b)))
 
--- ---- behind the last child
+-- ---- after the last child
 
 pub all_through : (ns : List Note) (i : ℕ) (m : Masks) → length ns ≤ i → Some m ≡ through_notes (drop i ns) m
 all_through ns i m l = sym (ap (λ ts. through_notes ts m) (drop_all i ns l))

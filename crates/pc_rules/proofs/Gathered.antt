@@ -83,7 +83,7 @@ pub one_lacks : (notes : List Note) (cs : List ℕ) → each_has notes cs ≡ fa
 one_lacks notes [] e = absurd (false_true (sym e))
 one_lacks notes (c ∷ cs) e = missing (slice_get notes c) (each_has notes cs) (notes_of notes cs) e (one_lacks notes cs)
 
--- What a rule says of a node whose children all have notes, and of one of which a child has none.
+-- The conclusion of a rule for a node whose children all have notes, and for one with a child that has none.
 pub says_then : (core : CoreData) (ann : Ann) (x : Node) (m : Masks) (r : Rule) (k : NodeKind) → each_has ann.notes x.children ≡ true → says core ann x m r k ≡ rule_says core ann.slots (either false ann.notes x.children) x m r k
 says_then core ann x m r k e = ap (λ (o : Option (List Note)). o >>= λ ns. rule_says core ann.slots ns x m r k) (all_there ann.notes x.children e)
 

@@ -13,7 +13,7 @@ use Rattle.pc_core.specs.Lookup.{node_end}
 use Rattle.pc_core.proofs.Homes.{Home, home}
 use Rattle.pc_rules.specs.Trees.{Tree, Forest, tree, empty, more, body_tree, forest_below}
 
--- A node of the kind of bodies is the method's body.
+-- A node with the kind of a body is the body of its method.
 pub home_body : (core : CoreData) (n : ℕ) (x : Node) (h : Home core n) → slice_get core.nodes n ≡ Some x → x.kind ≡ node.Body → n ≡ h.body
 home_body core n x h g k =
     let at : node_end h.method.first_node h.method.body ≡ h.body + 1 = ap (node_end h.method.first_node) h.is_body in
@@ -25,7 +25,7 @@ home_body core n x h g k =
 
 -- ---- trees
 
--- What stands in a tree has a tree of its own.
+-- Every node in a tree has a tree of its own.
 mutual
   tree_in : (core : CoreData) (low n k : ℕ) → Tree core low n → low ≤ k → k ≤ n → (l : ℕ) × Tree core l k
   tree_in core low n k (tree x g f) l h =

@@ -31,7 +31,7 @@ consume_takes_out core ann x s m r e =
     let same = same_Some _ r a.2 in
     (λ i. subst (λ (q : Said). (IsIn q.live i) ↔ ((i ≢ s) × IsIn m.0 i)) same (without_number_bits m.0 s i), sym (ap (λ (q : Said). q.set) same))
 
--- What is answered under a condition.
+-- The result under a condition.
 kept : {A : Type 0} → (b : Bool) (o : Option A) (y : A) → cond b o None ≡ Some y → o ≡ Some y
 kept true o y e = e
 kept false o y e = absurd (none-some y e)
@@ -56,7 +56,7 @@ slot_in k = 0
 defined_slot : (s i : ℕ) → node.Define s ≡ node.Define i → s ≡ i
 defined_slot s i e = ap slot_in e
 
--- An item takes out the slot that it defines.
+-- An item removes the slot that it defines.
 definition_bits : (k : NodeKind) (l : Mask) (i : ℕ) → (IsIn (without_definition k l) i) ↔ (IsIn l i × (k ≡ node.Define i → ⊥))
 definition_bits (node.Define s) l i = (
   λ h. let p = (without_number_bits l s i).0 h in (p.1, λ e. p.0 (sym (defined_slot s i e))),

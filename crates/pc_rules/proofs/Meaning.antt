@@ -1,4 +1,5 @@
--- A step between the computed rules and the records of `pc_valid`: the same records over what the rules compute.
+-- A step between the computed rules and the records of `pc_valid`: the same records, in terms of what the rules
+-- compute.
 use Rattle.std.specs.Prelude.{◌≡◌, ◌⊎◌, ℕ, ◌+◌, true, false, List, [], ◌∷◌, ◌++◌, ◌-◌, length, codes, Option, Some, None, slice_get}
 use Rattle.pc_caps.specs.Tables.{view, fits, sendable, sendable_form, plain, unalias, taken, may_write}
 use Rattle.pc_caps.specs.declared.capability.Cap.{Cap}
@@ -32,7 +33,7 @@ use Rattle.pc_rules.specs.Control.{without_items, joined, recovered, start_set}
 
 -- ---- words
 
--- Nodes of these notes are evaluated one after the other: each starts from the masks behind the one before it.
+-- Nodes with these notes are evaluated one after the other: each starts from the masks after the previous one.
 abbrev pub OneAfterOther : List Note → Masks → Masks → Type 0
 OneAfterOther [] from to = from ≡ to
 OneAfterOther (t ∷ ts) from to = (before t ≡ from) × OneAfterOther ts (after t) to
@@ -48,7 +49,7 @@ Reads e o = (v : Ty) × (o ≡ Some v) × (v.0 ≡ e) × (readable v.1 ≡ true)
 abbrev pub BothRead : ℕ → List Note → Type 0
 BothRead e ns = (a : Note) × (b : Note) × (ns ≡ a ∷ b ∷ []) × Reads e a.ty × Reads e b.ty
 
--- As many arguments as parameters, and each goes to its parameter.
+-- There are as many arguments as parameters, and each goes to its parameter.
 abbrev pub Go : CoreData → List Note → List ParamInfo → Type 0
 Go core [] [] = Unit {0}
 Go core (t ∷ ts) (p ∷ ps) = ((v : Ty) × (t.ty ≡ Some v) × (goes_to core v (p.entity, p.cap) ≡ true)) × Go core ts ps
@@ -64,7 +65,8 @@ Sendable ts ps = ⊥
 abbrev pub by_last : {A : Type 0} → List A → Option A
 by_last xs = slice_get xs (length xs - 1)
 
--- The node is of a constructor, outside of every recover, and its last child is `this`, before which a field is not set.
+-- The node is in a constructor, outside every recover, and its last child is `this`, before which some field is not
+-- set.
 pub record Incomplete (core : CoreData) (ns : List Note) (x : Node) : Type 0 where
   pub own : Method
   pub is_own : slice_get core.methods x.method ≡ Some own
@@ -79,7 +81,7 @@ pub record Incomplete (core : CoreData) (ns : List Note) (x : Node) : Type 0 whe
   pub is_note : by_last ns ≡ Some note
   pub lacks : full core own.entity note.set_before ≡ true → ⊥
 
--- A call: its arguments, and behind them the receiver, whose entity has the method.
+-- A call: its arguments, and after them the receiver, whose entity has the method.
 pub record Called (core : CoreData) (ns : List Note) (name : ℕ) : Type 0 where
   pub arguments : List Note
   pub receiver : Note
@@ -161,7 +163,7 @@ pub record Assign (core : CoreData) (slots : Slots) (own : Note) (ns : List Note
 
 -- ---- fields
 
--- A field that is read.
+-- Reading a field.
 pub record Get (core : CoreData) (own : Note) (ns : List Note) (x : Node) (name : ℕ) : Type 0 where
   pub complete : Incomplete core ns x → ⊥
   pub child : Note
@@ -175,7 +177,7 @@ pub record Get (core : CoreData) (own : Note) (ns : List Note) (x : Node) (name 
   pub type : own.ty ≡ Some (field.1.entity, seen)
   pub masks : OneAfterOther ns (before own) (after own)
 
--- A field of `this` that is read before all fields are set.
+-- Reading a field of `this` before all fields are set.
 pub record GetOwn (core : CoreData) (own : Note) (ns : List Note) (x : Node) (name : ℕ) : Type 0 where
   pub incomplete : Incomplete core ns x
   pub field : ℕ × FieldInfo
@@ -186,7 +188,7 @@ pub record GetOwn (core : CoreData) (own : Note) (ns : List Note) (x : Node) (na
   pub type : own.ty ≡ Some (field.1.entity, seen)
   pub masks : OneAfterOther ns (before own) (after own)
 
--- A field that is written.
+-- Writing a field.
 pub record Put (core : CoreData) (own : Note) (ns : List Note) (x : Node) (name : ℕ) : Type 0 where
   pub complete : Incomplete core ns x → ⊥
   pub first : Note
@@ -206,7 +208,7 @@ pub record Put (core : CoreData) (own : Note) (ns : List Note) (x : Node) (name 
   pub type : own.ty ≡ Some (field.1.entity, old)
   pub masks : OneAfterOther ns (before own) (after own)
 
--- A field of `this` that is written before all fields are set.
+-- Writing a field of `this` before all fields are set.
 pub record PutOwn (core : CoreData) (own : Note) (ns : List Note) (x : Node) (name : ℕ) : Type 0 where
   pub incomplete : Incomplete core ns x
   pub field : ℕ × FieldInfo
@@ -225,7 +227,7 @@ pub record PutOwn (core : CoreData) (own : Note) (ns : List Note) (x : Node) (na
 
 -- ---- calls
 
--- A constructor of a class.
+-- Constructing an object of a class.
 pub record New (core : CoreData) (own : Note) (ns : List Note) (k : ℕ) : Type 0 where
   pub called : Method
   pub is_called : slice_get core.methods k ≡ Some called
@@ -233,7 +235,7 @@ pub record New (core : CoreData) (own : Note) (ns : List Note) (k : ℕ) : Type 
   pub type : own.ty ≡ Some called.result
   pub masks : OneAfterOther ns (before own) (after own)
 
--- A constructor of an actor.
+-- Constructing an actor.
 pub record Spawn (core : CoreData) (own : Note) (ns : List Note) (k : ℕ) : Type 0 where
   pub called : Method
   pub is_called : slice_get core.methods k ≡ Some called
@@ -302,7 +304,7 @@ pub record Equal (own : Note) (ns : List Note) (o : Op) : Type 0 where
   pub type : own.ty ≡ Some (bool_entity, form.Val)
   pub masks : OneAfterOther ns (before own) (after own)
 
--- Two texts as one.
+-- Concatenation of two texts.
 pub record Join (own : Note) (ns : List Note) (o : Op) : Type 0 where
   pub operator : is_add o ≡ true
   pub both : BothRead string_entity ns
@@ -411,7 +413,7 @@ pub record Body (core : CoreData) (own : Note) (ns : List Note) (x : Node) : Typ
 
 -- ---- every rule
 
--- The note meets this rule of a node of this kind.
+-- The note satisfies this rule for a node of this kind.
 abbrev pub Means : CoreData → Slots → Note → List Note → Node → Rule → NodeKind → Type 0
 Means core slots own ns x rule.Number (node.Number v) = Literal own u64_entity
 Means core slots own ns x rule.Truth (node.Truth v) = Literal own bool_entity

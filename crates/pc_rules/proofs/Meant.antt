@@ -1,4 +1,5 @@
--- What the computed rules say is what the records of the rules ask, in both directions: values, slots, fields and operators.
+-- The computed rules conclude what the records of the rules require, in both directions: values, slots, fields and
+-- operators.
 use Rattle.std.specs.Prelude.{◌≡◌, ◌⊎◌, ◌↔◌, ℕ, Bool, true, false, cond, ◌&&◌, ◌||◌, not, nat_eq, List, [], ◌∷◌, Option, Some, None, slice_get, refl}
 use Rattle.std.proofs.Common.{inl, inr, ap, sym, subst, ◌∙◌}
 use Rattle.std.proofs.lemmas.Option.{same_Some, none-some}
@@ -34,7 +35,7 @@ use Rattle.pc_rules.proofs.Threads.{starts_so}
 use Rattle.pc_lists.proofs.Bools.{false_true}
 use Rattle.pc_rules.proofs.Agreeing.{places_equal}
 
--- ---- what a rule says, in parts
+-- ---- the conclusion of a rule, in parts
 
 pub said_parts : (own : Note) (ty : Option Ty) (m : Masks) → Some (says_of ty m) ≡ Some (said_by own) → (own.ty ≡ ty) × (after own ≡ m)
 said_parts own ty m h = let e = same_Some (says_of ty m) (said_by own) h in (sym (ap (λ (s : Said). s.ty) e), sym (ap (λ (s : Said). (s.live, s.set)) e))
@@ -132,7 +133,7 @@ so_reads e o r = and_from (nat_eq r.0.0 e) (readable r.0.1) (eq-eqb r.0.0 e r.2)
 -- ---- how a rule ends
 
 module _ (own : Note) (ns : List Note) where
-  -- The masks behind the children, and a type.
+  -- The masks after the children, and a type.
   pub ends : (ty : Option Ty) → (through_notes ns (before own) >>= λ n. Some (says_of ty n)) ≡ Some (said_by own) → (own.ty ≡ ty) × OneAfterOther ns (before own) (after own)
   ends ty h =
       let n = bind_some (through_notes ns (before own)) _ (said_by own) h in
@@ -155,7 +156,7 @@ module _ (own : Note) (ns : List Note) where
       bind_is (through_notes ns (before own)) _ (after own) (means_through ns (before own) (after own) m)
       ∙ ap (λ c. cond c (Some (says_of ty (after own))) None) e ∙ parts_said own ty (after own) t refl
 
-  -- A type and masks that follow from those behind the children.
+  -- A type and masks that follow from those after the children.
   pub ends_at : (g : Masks → Option Ty) (u : Masks → Masks) → (through_notes ns (before own) >>= λ n. Some (says_of (g n) (u n))) ≡ Some (said_by own) → (n : Masks) × OneAfterOther ns (before own) n × (own.ty ≡ g n) × (after own ≡ u n)
   ends_at g u h =
       let n = bind_some (through_notes ns (before own)) _ (said_by own) h in
@@ -165,7 +166,7 @@ module _ (own : Note) (ns : List Note) where
   pub ended_at : (g : Masks → Option Ty) (u : Masks → Masks) (n : Masks) → OneAfterOther ns (before own) n → own.ty ≡ g n → after own ≡ u n → (through_notes ns (before own) >>= λ n. Some (says_of (g n) (u n))) ≡ Some (said_by own)
   ended_at g u n m t k = bind_is (through_notes ns (before own)) _ n (means_through ns (before own) n m) ∙ parts_said own (g n) (u n) t k
 
-  -- An operator on two values of which this holds.
+  -- An operator on two values with this property.
   pub tested_means : (test : Ty × Ty → Bool) (e : ℕ) → (two_types ns >>= λ v. cond (test v) (value_says e ns (before own)) None) ≡ Some (said_by own) → (vs : Ty × Ty) × (two_types ns ≡ Some vs) × (test vs ≡ true) × (own.ty ≡ Some (e, form.Val)) × OneAfterOther ns (before own) (after own)
   tested_means test e h =
       let v = bind_some (two_types ns) _ (said_by own) h in

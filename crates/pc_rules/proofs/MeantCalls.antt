@@ -1,4 +1,4 @@
--- What the computed rules say is what the records of the rules ask, in both directions: calls, control and every rule.
+-- The computed rules conclude what the records of the rules require, in both directions: calls, control and every rule.
 use Rattle.std.specs.Prelude.{◌≡◌, ◌↔◌, ◌⊎◌, ℕ, suc, ◌+◌, ◌-◌, Bool, true, cond, ◌&&◌, ◌||◌, not, nat_eq, List, [], ◌∷◌, ◌++◌, length, take, codes, Option, Some, None, slice_get, refl}
 use Rattle.std.proofs.Common.{inl, inr, ap, sym, subst, ◌∙◌, arith}
 use Rattle.std.proofs.lemmas.Option.{same_Some, none-some}
@@ -73,7 +73,7 @@ means_sendable (t ∷ ts) (p ∷ ps) g =
     let may : (sendable_form v.1 || sendable p.cap) ≡ true = elim g.0.2 [ inl e ↦ or_left (sendable_form v.1) (sendable p.cap) e | inr e ↦ or_right (sendable_form v.1) (sendable p.cap) e ] in
     and_from (argument_sendable p t.ty) (arguments_sendable ts ps) (ap (argument_sendable p) g.0.1 ∙ may) (means_sendable ts ps g.1)
 
--- The last of a list, and those before it.
+-- The last element of a list, and those before it.
 one_less : (n : ℕ) → suc (suc n) - 1 ≡ suc (suc n - 1)
 one_less n = omega arith
 

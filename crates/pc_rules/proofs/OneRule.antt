@@ -1,4 +1,4 @@
--- At most one rule says something of a node, by its kind, its children and the method that it calls.
+-- At most one rule applies to a node, by its kind, its children and the method that it calls.
 use Rattle.std.specs.Prelude.{◌≡◌, ℕ, ◌+◌, Bool, true, false, cond, ◌&&◌, not, List, [], ◌∷◌, take, drop, Option, Some, None, nat_eq, slice_get, slice_range, codes, if◌then◌else◌, refl}
 use Rattle.std.proofs.Common.{inl, inr, ap, sym, ◌∙◌}
 use Rattle.std.proofs.lemmas.Option.{none-some}
@@ -55,7 +55,7 @@ operator_rule op.Ne vs = rule.Equal
 operator_rule op.Xor vs = rule.Logic
 operator_rule o vs = rule.Arith
 
--- The rule that may say something of node x.
+-- The rule that can apply to node x.
 abbrev pub rule_at : CoreData → Ann → Node → NodeKind → Rule
 rule_at core ann x (node.Number v) = rule.Number
 rule_at core ann x (node.Truth v) = rule.Truth
@@ -207,7 +207,7 @@ is_logic : (o : Op) (ts : Option (Ty × Ty)) → is_xor o ≡ true → rule.Logi
 is_logic op.Xor ts a = refl
 is_logic o ts a = absurd (false_true a)
 
--- What an operator's rule asks of the operator, and of the types of both sides.
+-- What an operator's rule requires of the operator, and of the types of both sides.
 asked : (ann : Ann) (x : Node) (m : Masks) (q : Said) (e : ℕ) (a : Bool) (t : Ty × Ty → Bool) → (two_types ann x.children >>= λ v. cond (a && t v) (value_says e ann x m) None) ≡ Some q → (vs : Ty × Ty) × (two_types ann x.children ≡ Some vs) × (a ≡ true) × (t vs ≡ true)
 asked ann x m q e a t h =
     let v = bind_some (two_types ann x.children) _ q h in

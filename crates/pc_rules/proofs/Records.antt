@@ -1,4 +1,4 @@
--- Each record of the rules, and its mirror over what the rules compute.
+-- Each record of the rules, and its counterpart in terms of what the rules compute.
 use Rattle.std.specs.Prelude.{◌≡◌, ◌⊎◌, ◌↔◌, ℕ, Bool, true, false, List, Option, Some, None, refl}
 use Rattle.std.proofs.Common.{inl, inr, ap, sym, subst, ◌∙◌}
 use Rattle.std.proofs.lemmas.Option.{same_Some}

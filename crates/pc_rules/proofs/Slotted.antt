@@ -1,4 +1,4 @@
--- The slots of a method: each has a written type, or it is that of a local, which is defined once.
+-- The slots of a method: each has a written type, or is that of a local, which is defined once.
 use Rattle.std.specs.Prelude.{◌≡◌, ◌⊎◌, ℕ, zero, suc, ◌+◌, ◌-◌, ◌<◌, ◌∷◌, ◌++◌, map, length, Some, slice_get}
 use Rattle.std.proofs.Common.{inl, inr, ap, sym, subst, ◌∙◌, arith}
 use Rattle.std.proofs.lemmas.List.{length-map}

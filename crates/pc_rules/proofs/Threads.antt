@@ -1,4 +1,4 @@
--- A node of which a rule says something has its children evaluated one after the other, but for the branches of an `if`,
+-- If a rule applies to a node, its children are evaluated one after the other, except for the branches of an `if`,
 -- which both follow the condition.
 use Rattle.std.specs.Prelude.{◌≡◌, ℕ, zero, suc, Bool, true, false, cond, List, [], ◌∷◌, length, Option, Some, None, slice_get}
 use Rattle.std.proofs.Common.{ap, sym, subst, ◌∙◌}
@@ -40,7 +40,7 @@ leaf ann cs m e = (m, ap (λ (ds : List ℕ). through ann ds m) (without_length 
 threaded : (ann : Ann) (cs : List ℕ) (m : Masks) (f : Masks → Option Said) (q : Said) → (through ann cs m >>= f) ≡ Some q → Threaded ann cs m
 threaded ann cs m f q e = let a = bind_some (through ann cs m) f q e in (a.0, a.1)
 
--- Behind one node, and then behind another.
+-- After one node, and then after another.
 through_one : (ann : Ann) (c : ℕ) (m n : Masks) → through ann (c ∷ []) m ≡ Some n → (t : Note) × (slice_get ann.notes c ≡ Some t) × (starts t m ≡ true) × (after t ≡ n)
 through_one ann c m n e =
     let a = bind_some (slice_get ann.notes c) _ n e in
@@ -80,7 +80,7 @@ lazy_threaded ann cs m f q e =
 
 -- ---- each rule
 
--- The two ways through an `if`.
+-- The two paths through an `if`.
 abbrev pub then_way : List ℕ → List ℕ
 then_way (c ∷ a ∷ b ∷ []) = c ∷ a ∷ []
 then_way cs = []
@@ -232,7 +232,7 @@ starts_so t m e =
     let p = and_parts (same t.live_before m.0) (same t.set_before m.1) e in
     masks_are t.live_before m.0 t.set_before m.1 (eqb-true t.live_before.0 m.0.0 p.0) (eqb-true t.set_before.0 m.1.0 p.1)
 
--- The first child starts from the masks, and each other one from those behind the one before it.
+-- The first child starts from the masks, and every other one from those after the one before it.
 pub first_starts : (ann : Ann) (cs : List ℕ) (m : Masks) (c : ℕ) (t : Note) → Threaded ann cs m → slice_get cs 0 ≡ Some c → slice_get ann.notes c ≡ Some t → before t ≡ m
 first_starts ann [] m c t h e g = absurd (none-some c e)
 first_starts ann (d ∷ cs) m c t h e g =

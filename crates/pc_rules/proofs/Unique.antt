@@ -63,7 +63,7 @@ note_of_child ann (d ∷ cs) m (suc i) c h e =
     note_of_child ann cs (after a.0) i c (h.0, k.1) e
 
 module _ (core : CoreData) (a b : Ann) (formed : Formed core) (va : Checks core a) (vb : Checks core b) where
-  -- A node that starts from the same masks in both: what stands in it agrees, and so does it.
+  -- If a node starts from the same masks in both, the annotations agree inside it and at it.
   mutual
     same_tree : (low n : ℕ) (s t : Note) → Tree core low n → Agree core a b low → slice_get a.notes n ≡ Some s → slice_get b.notes n ≡ Some t → before s ≡ before t → Agree core a b (n + 1)
     same_tree low n s t (tree x g f) same ga gb m =

@@ -20,12 +20,12 @@ use Rattle.pc_rules.specs.declared.said.Said.{Said}
 
 -- ---- arguments
 
--- The argument of this type goes to the parameter.
+-- An argument of this type goes to the parameter.
 abbrev pub argument_goes : CoreData → ParamInfo → Option Ty → Bool
 argument_goes core p None = false
 argument_goes core p (Some v) = goes_to core v (p.entity, p.cap)
 
--- As many arguments as parameters, and each goes to its parameter.
+-- There are as many arguments as parameters, and each goes to its parameter.
 abbrev pub arguments_go : CoreData → List Note → List ParamInfo → Bool
 arguments_go core [] [] = true
 arguments_go core (t ∷ ts) (p ∷ ps) = argument_goes core p t.ty && arguments_go core ts ps
@@ -33,14 +33,14 @@ arguments_go core ts ps = false
 
 -- ---- constructors
 
--- New: the arguments go; the constructor's result.
+-- New: the arguments go to the parameters; the constructor's result.
 abbrev pub new_says : CoreData → List Note → ℕ → Masks → Option Said
 new_says core ns k m = do
   f ← slice_get core.methods k
   n ← through_notes ns m
   if arguments_go core ns f.params then Some (says_of (Some f.result) n) else None
 
--- Spawn: the arguments go; the actor's entity, as `tag`.
+-- Spawn: the arguments go to the parameters; the actor's entity, as `tag`.
 abbrev pub spawn_says : CoreData → List Note → ℕ → Masks → Option Said
 spawn_says core ns k m = do
   f ← slice_get core.methods k
@@ -49,11 +49,11 @@ spawn_says core ns k m = do
 
 -- ---- calls
 
--- The arguments of a call: all its children but the last one, which is the receiver.
+-- The arguments of a call: all its children except the last one, which is the receiver.
 abbrev pub arguments : List Note → List Note
 arguments ns = take (length ns - 1) ns
 
--- The type of a call's receiver, and the number of the method of this name of the receiver's entity.
+-- The type of a call's receiver, and the number of the method with this name of the receiver's entity.
 abbrev pub called : CoreData → List Note → ℕ → Option (Ty × ℕ)
 called core ns name = do
   r ← last_note ns
@@ -73,7 +73,7 @@ is_behaviour method.Fun = false
 is_behaviour method.New = false
 is_behaviour method.Spawn = false
 
--- The method is a function, the arguments go, and the receiver fits.
+-- The method is a function, the arguments go to the parameters, and the receiver fits.
 abbrev pub calls : CoreData → List Note → Ty → Method → Bool
 calls core ns o f = is_function f.kind && (arguments_go core (arguments ns) f.params && fits o.1 f.receiver)
 
@@ -113,18 +113,18 @@ arguments_sendable [] [] = true
 arguments_sendable (t ∷ ts) (p ∷ ps) = argument_sendable p t.ty && arguments_sendable ts ps
 arguments_sendable ts ps = false
 
--- The receiver does not fit, but it is `iso` or `trn` and is lent to the method as `ref` or `box`.
+-- The receiver does not fit, but it is `iso` or `trn` and can be lent to the method as `ref` or `box`.
 abbrev pub lends : Form → Cap → Bool
 lends o k = not (fits o k) && (is_isolated o && is_lent k)
 
--- The method is a function, the arguments go, the receiver is lent, and nothing goes in that could be kept together with
--- it: each argument has a sendable form or goes to a sendable parameter.
+-- The method is a function, the arguments go to the parameters, the receiver is lent, and nothing goes in that could be
+-- kept together with it: each argument has a sendable form or goes to a sendable parameter.
 abbrev pub recovers : CoreData → List Note → Ty → Method → Bool
 recovers core ns o f =
     (is_function f.kind && arguments_go core (arguments ns) f.params)
     && (lends o.1 f.receiver && arguments_sendable (arguments ns) f.params)
 
--- What comes out of a receiver that was lent: a sendable result, or none.
+-- The result of a call on a receiver that was lent: a sendable result, or none.
 abbrev pub recovered_result : Ty → Option Ty
 recovered_result r = if sendable_form r.1 then Some r else None
 
@@ -136,7 +136,7 @@ callrecover_says core ns name m = do
   n ← through_notes ns m
   if recovers core ns i.0 f then Some (says_of (recovered_result f.result) n) else None
 
--- The method is a behaviour, and the arguments go. The receiver's form is not looked at.
+-- The method is a behaviour, and the arguments go to the parameters. The receiver's form does not matter.
 abbrev pub sends : CoreData → List Note → Method → Bool
 sends core ns f = is_behaviour f.kind && arguments_go core (arguments ns) f.params
 

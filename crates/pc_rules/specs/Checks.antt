@@ -1,5 +1,5 @@
--- Valid annotations as they are computed, and what shows that there is none: the code is proved to do this, and laws of
--- `specs/Statements.antt` that it is what `pc_valid` says by records.
+-- Valid annotations as computed, and what shows that there is none: the code is proved to compute this, and the laws of
+-- `specs/Statements.antt` state that it is what `pc_valid` defines by records.
 use Rattle.std.specs.Prelude.{◌≡◌, ℕ, zero, suc, ◌+◌, ◌<◌, ◌≤◌, Bool, true, false, length, Some, None, slice_get}
 use Rattle.pc_ann.specs.declared.annotation.Rule.{Rule}
 use Rattle.pc_sub.specs.Declarations.{DeclOk}
@@ -23,7 +23,7 @@ abbrev pub FillsFields : CoreData → Ann → Method → Type 0
 FillsFields core ann x =
     constructs x.kind ≡ true → (b : ℕ) (t : Note) → x.body ≡ Some b → slice_get ann.notes b ≡ Some t → full core x.entity t.set_after ≡ true
 
--- A valid annotation: each note is what its rule says.
+-- A valid annotation: each note is the conclusion of its rule.
 pub record Checks (core : CoreData) (ann : Ann) : Type 0 where
   pub declarations : DeclOk core
   pub slots : length ann.slots ≡ length core.slots
@@ -34,7 +34,7 @@ pub record Checks (core : CoreData) (ann : Ann) : Type 0 where
 
 -- ---- the masks that reach a node
 
--- The child of index i is an `else` branch.
+-- The child with index i is an `else` branch.
 abbrev pub is_else : NodeKind → ℕ → Bool
 is_else node.If (suc (suc zero)) = true
 is_else k i = false
@@ -51,15 +51,16 @@ pub data StartsFrom (core : CoreData) (ann : Ann) : ℕ → Masks → Type 0 whe
   next_child : {n : ℕ} (p c i : ℕ) (x : Node) (t : Note) → slice_get core.nodes p ≡ Some x → is_else x.kind (suc i) ≡ false
       → slice_get x.children (suc i) ≡ Some n → slice_get x.children i ≡ Some c → slice_get ann.notes c ≡ Some t → StartsFrom core ann n (after t)
 
--- ---- that none is valid
+-- ---- that no annotation is valid
 
--- Node n has a note that is what its rule says, and the node starts from the masks before the note.
+-- Node n has a note that is the conclusion of its rule, and the node starts from the masks before the note.
 abbrev pub GoesWell : CoreData → Ann → ℕ → Type 0
 GoesWell core ann n =
     (x : Node) × (t : Note) × (slice_get core.nodes n ≡ Some x) × (slice_get ann.notes n ≡ Some t) × IsSaid core ann x t
     × StartsFrom core ann n (before t)
 
--- With the masks from which node n starts, no rule says anything of it, whatever type its slot has if that follows from it.
+-- With the masks from which node n starts, no rule applies to it, whatever the type of its slot if that follows from
+-- it.
 pub record SaysNothing (core : CoreData) (ann : Ann) (n : ℕ) : Type 0 where
   pub declarations : DeclOk core
   pub slots : length ann.slots ≡ length core.slots
@@ -72,7 +73,7 @@ pub record SaysNothing (core : CoreData) (ann : Ann) (n : ℕ) : Type 0 where
   pub reaches : StartsFrom core ann n masks
   pub none : (r : Rule) (slots : Slots) → DifferAt core at ann.slots slots → says core (record { slots = slots; notes = ann.notes }) at masks r at.kind ≡ None
 
--- After the body of constructor m the mask is not full, and it is so after those of the constructors before it.
+-- After the body of constructor m the mask is not full, while it is full after those of the constructors before it.
 pub record StaysUnset (core : CoreData) (ann : Ann) (m : ℕ) : Type 0 where
   pub declarations : DeclOk core
   pub slots : length ann.slots ≡ length core.slots

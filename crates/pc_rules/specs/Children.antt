@@ -1,4 +1,4 @@
--- Mirrors the code: the notes of a node's children, in order, held together, or each found by its number among all notes.
+-- As in the code: the notes of a node's children, in order, held together, or each found by its number among all notes.
 use Rattle.std.specs.Prelude.{ℕ, Bool, true, false, ◌&&◌, ◌<◌, List, [], ◌∷◌, length, Option, Some, None, slice_get}
 use Rattle.pc_core.specs.declared.declarations.ParamInfo.{ParamInfo}
 use Rattle.pc_core.specs.CoreData.{CoreData}
@@ -20,7 +20,7 @@ abbrev pub each_has : List Note → List ℕ → Bool
 each_has notes [] = true
 each_has notes (c ∷ cs) = is_there (slice_get notes c) && each_has notes cs
 
--- The notes of those that have one.
+-- The notes of those nodes that have one.
 abbrev pub put_before : Option Note → List Note → List Note
 put_before None ts = ts
 put_before (Some t) ts = t ∷ ts
@@ -29,7 +29,7 @@ abbrev pub gather : List Note → List ℕ → List Note
 gather notes [] = []
 gather notes (c ∷ cs) = put_before (slice_get notes c) (gather notes cs)
 
--- All notes, or those of these numbers among them.
+-- All notes, or those with these numbers among them.
 abbrev pub either : Bool → List Note → List ℕ → List Note
 either true notes cs = notes
 either false notes cs = gather notes cs
@@ -38,19 +38,19 @@ abbrev pub MayGather : Bool → List Note → List ℕ → Type 0
 MayGather true notes cs = Unit {0}
 MayGather false notes cs = HaveNotes notes cs
 
--- The note of the child of this index.
+-- The note of the child with this index.
 abbrev pub picked : List Note → List ℕ → ℕ → Option Note
 picked notes cs i = do
   c ← slice_get cs i
   slice_get notes c
 
--- The type of the child of this index.
+-- The type of the child with this index.
 abbrev pub type_at : List Note → ℕ → Option Ty
 type_at ns i = do
   t ← slice_get ns i
   t.ty
 
--- The child of this index goes to the parameter of this index.
+-- The child with this index goes to the parameter with this index.
 abbrev pub goes_to_param : CoreData → List Note → ℕ → Option ParamInfo → Bool
 goes_to_param core ns i None = false
 goes_to_param core ns i (Some p) = argument_goes core p (type_at ns i)
@@ -58,7 +58,7 @@ goes_to_param core ns i (Some p) = argument_goes core p (type_at ns i)
 abbrev pub goes_at : CoreData → List Note → List ParamInfo → ℕ → Bool
 goes_at core ns ps i = goes_to_param core ns i (slice_get ps i)
 
--- It has a sendable form, or goes to a sendable parameter.
+-- The child has a sendable form, or goes to a sendable parameter.
 abbrev pub sendable_to_param : List Note → ℕ → Option ParamInfo → Bool
 sendable_to_param ns i None = false
 sendable_to_param ns i (Some p) = argument_sendable p (type_at ns i)

@@ -23,7 +23,7 @@ use Rattle.pc_rules.specs.declared.said.Said.{Said}
 
 -- ---- sequences
 
--- The slot that an item of a sequence defines is live no more behind the sequence.
+-- The slot that an item of a sequence defines is not live after the sequence.
 abbrev pub without_definition : NodeKind → Mask → Mask
 without_definition (node.Define s) l = without_number l s
 without_definition k l = l
@@ -36,7 +36,7 @@ abbrev pub without_items : CoreData → List ℕ → Mask → Mask
 without_items core [] l = l
 without_items core (c ∷ cs) l = without_items core cs (without_item (slice_get core.nodes c) l)
 
--- Seq: the last item's type, or none; the slots of its definitions are live no more.
+-- Seq: the last item's type, or none; the slots of its definitions are no longer live.
 abbrev pub seq_says : CoreData → List Note → Node → Masks → Option Said
 seq_says core ns x m = do
   t ← last_note ns
@@ -45,8 +45,8 @@ seq_says core ns x m = do
 
 -- ---- branches and loops
 
--- The type of two branches: that of the second where the first is below it, else that of the first where the second is
--- below it, else none.
+-- The type of two branches: that of the second if the first is below it, else that of the first if the second is below
+-- it, else none.
 abbrev pub joined_types : CoreData → Ty → Ty → Option Ty
 joined_types core a b = if lower core a b then Some b else (if lower core b a then Some a else None)
 
@@ -54,7 +54,7 @@ abbrev pub joined : CoreData → Option Ty → Option Ty → Option Ty
 joined core (Some a) (Some b) = joined_types core a b
 joined core a b = None
 
--- Both branches start from what the condition leaves; behind the node stands what both leave.
+-- Both branches start from the masks after the condition; after the node come the masks that both leave.
 abbrev pub branch_masks : Note × Note × Note → Masks → Option Masks
 branch_masks c m = if starts c.0 m && (starts c.1 (after c.0) && starts c.2 (after c.0)) then Some (meet_masks (after c.1) (after c.2)) else None
 
@@ -63,22 +63,22 @@ abbrev pub is_condition : Option Ty → Bool
 is_condition None = false
 is_condition (Some v) = reads_as bool_entity v
 
--- If: the two branches' type.
+-- If: the type of the two branches.
 abbrev pub if_says : CoreData → List Note → Masks → Option Said
 if_says core ns m = do
   c ← three_notes ns
   n ← branch_masks c m
   if is_condition c.0.ty then Some (says_of (joined core c.1.ty c.2.ty) n) else None
 
--- The body starts from what the condition leaves, keeps live what is live before the node, and leaves the set fields as
--- they are before it.
+-- The body starts from the masks after the condition, keeps live what is live before the node, and leaves the set
+-- fields as they are before the node.
 abbrev pub loop_masks : Note × Note → Masks → Option Masks
 loop_masks c m =
     if (starts c.0 m && starts c.1 (after c.0)) && (within m.0 c.1.live_after && same c.1.set_after m.1)
     then Some (after c.0)
     else None
 
--- While: None, and the masks that the condition leaves.
+-- While: None, and the masks after the condition.
 abbrev pub while_says : List Note → Masks → Option Said
 while_says ns m = do
   c ← two_notes ns
@@ -87,7 +87,8 @@ while_says ns m = do
 
 -- ---- recover
 
--- The form of a recover's value: that of its body lifted, or what the written capability gives, where that fits it.
+-- The form of a recover's value: that of its body lifted, or what the written capability gives, if the lifted form fits
+-- it.
 abbrev pub recovered : Option Cap → Form → Option Form
 recovered None f = Some (lift f)
 recovered (Some k) f = if fits (lift f) k then Some (unalias k) else None
@@ -102,15 +103,15 @@ recover_says ns k m = do
 
 -- ---- bodies
 
--- The masks with which a method starts: `this` and the parameters are live; no field is set in a constructor, and all are
--- elsewhere.
+-- The masks with which a method starts: `this` and the parameters are live; in a constructor no field is set, and
+-- elsewhere all are.
 abbrev pub start_set : CoreData → Method → Mask
 start_set core f = if constructs f.kind then empty else all_fields core f.entity
 
 abbrev pub starts_method : CoreData → Method → Masks → Bool
 starts_method core f m = same m.0 (first (1 + length f.params)) && same m.1 (start_set core f)
 
--- What a function's sequence gives is below its result. Of other methods nothing is asked.
+-- The value of a function's sequence is below its result. For other methods there is no requirement.
 abbrev pub gives : CoreData → Ty → Option Ty → Bool
 gives core r None = false
 gives core r (Some v) = lower core v r
@@ -121,7 +122,7 @@ result_ok core method.Be r v = true
 result_ok core method.New r v = true
 result_ok core method.Spawn r v = true
 
--- Body: the masks are those of the start, and a function's sequence gives its result. There is no value.
+-- Body: the masks are those of the start, and the value of a function's sequence fits its result. There is no value.
 abbrev pub body_says : CoreData → List Note → Node → Masks → Option Said
 body_says core ns x m = do
   f ← slice_get core.methods x.method

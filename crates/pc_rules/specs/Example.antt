@@ -109,7 +109,7 @@ derivation = record {
       ∷ noted rule.New (Some (6, form.IsoE)) 3 3 ∷ noted rule.Define None 3 7 ∷ noted rule.Seq None 3 3 ∷ noted rule.Body None 3 3 ∷ [];
 }
 
--- Each node meets its rule.
+-- Each node satisfies its rule.
 abbrev pub EachMeets : Type 0
 EachMeets =
     NoteIsSaid four_slots derivation 0 × NoteIsSaid four_slots derivation 1 × NoteIsSaid four_slots derivation 2
@@ -118,7 +118,7 @@ EachMeets =
 
 -- ---- wrong notes
 
--- With this note a node meets no rule, whichever is named.
+-- With this note a node satisfies no rule, whichever is named.
 abbrev pub MeetsNone : ℕ → Note → Type 0
 MeetsNone n t = (x : Node) → slice_get four_slots.nodes n ≡ Some x → (r : Rule) → IsSaid four_slots derivation x (record t { rule = r }) → ⊥
 

@@ -1,4 +1,4 @@
--- Rules for fields that are read and written.
+-- Rules for reading and writing fields.
 use Rattle.std.specs.Prelude.{ℕ, Bool, true, false, ◌&&◌, ◌||◌, not, List, Option, Some, None, nat_eq, slice_get, if◌then◌else◌}
 use Rattle.pc_caps.specs.Tables.{view, taken, may_write}
 use Rattle.pc_core.specs.Lookup.{field_named}
@@ -39,7 +39,7 @@ abbrev pub is_this : NodeKind → Bool
 is_this node.This = true
 is_this k = false
 
--- The set mask of a node's last child, where that is `this`.
+-- The set mask of a node's last child, if that is `this`.
 abbrev pub own_set : CoreData → List ℕ → List Note → Option Mask
 own_set core cs ns = do
   c ← last_child cs
@@ -55,14 +55,14 @@ abbrev pub incomplete_in : CoreData → List Note → Node → Option Method →
 incomplete_in core ns x None = false
 incomplete_in core ns x (Some f) = constructs f.kind && (nat_eq x.depth 0 && lacks_fields core f.entity (own_set core x.children ns))
 
--- A node is incomplete: its method is a constructor, its depth is 0, its last child is `this`, and that child's set mask
--- is not full.
+-- A node is incomplete: its method is a constructor, its depth is 0, its last child is `this`, and that child's set
+-- mask is not full.
 abbrev pub incomplete : CoreData → List Note → Node → Bool
 incomplete core ns x = incomplete_in core ns x (slice_get core.methods x.method)
 
 -- ---- reading
 
--- The type of a field at an origin of this type: the field's entity, in the form that the origin sees.
+-- The type of a field at an origin of this type: the field's entity, in the form seen from the origin.
 abbrev pub field_type : CoreData → Ty → ℕ → Option Ty
 field_type core o name = do
   f ← field_of core o.0 name
@@ -76,7 +76,7 @@ read_says core ns name m = do
   n ← through_notes ns m
   Some (says_of (Some ty) n)
 
--- Get: the node is not incomplete, and the origin's entity has the field and sees it in some form.
+-- Get: the node is not incomplete, and the origin's entity has the field, which is seen from the origin in some form.
 abbrev pub get_says : CoreData → List Note → Node → ℕ → Masks → Option Said
 get_says core ns x name m = if incomplete core ns x then None else read_says core ns name m
 
@@ -87,13 +87,13 @@ own_read_says core ns x name m = do
   n ← through_notes ns m
   if has n.1 f.0 then Some (says_of (Some (f.1.entity, seen)) n) else None
 
--- Getown: the node is incomplete, and the field is set. It is seen as by `ref`.
+-- Getown: the node is incomplete, and the field is set. It is seen as from `ref`.
 abbrev pub getown_says : CoreData → List Note → Node → ℕ → Masks → Option Said
 getown_says core ns x name m = if incomplete core ns x then own_read_says core ns x name m else None
 
 -- ---- writing
 
--- A `var` field of the origin's entity to which the value goes and which the origin may be written.
+-- A `var` field of the origin's entity, to which the value goes and which may be written at this origin.
 abbrev pub writes : CoreData → Ty → Form → FieldInfo → Bool
 writes core v origin f = not f.fixed && (goes_to core v (place f) && may_write origin v.1 f.cap)
 
@@ -126,13 +126,13 @@ value_type ns = do
   c ← two_notes ns
   c.0.ty
 
--- The old value of an own field, where it is set.
+-- The old value of an own field, if it is set.
 abbrev pub own_old : ℕ × FieldInfo → Mask → Option Ty
 own_old f s = do
   old ← taken form.Ref f.1.cap
   if has s f.0 then Some (f.1.entity, old) else None
 
--- The value goes to a field of the own entity that is a `var` or not set yet.
+-- The value goes to a field of the own entity that is a `var` or is not set yet.
 abbrev pub own_writes : CoreData → Ty → ℕ × FieldInfo → Mask → Bool
 own_writes core v f s = (not f.1.fixed || not (has s f.0)) && goes_to core v (place f.1)
 
@@ -145,6 +145,6 @@ own_write_says core ns x name m = do
       then Some (says_of (own_old f n.1) (n.0, with_number n.1 f.0))
       else None
 
--- Putown: the node is incomplete, and such a field is written, which is set then.
+-- Putown: the node is incomplete, and such a field is written, and is set after that.
 abbrev pub putown_says : CoreData → List Note → Node → ℕ → Masks → Option Said
 putown_says core ns x name m = if incomplete core ns x then own_write_says core ns x name m else None

@@ -43,7 +43,7 @@ is_xor o = false
 abbrev pub both_read_as : ℕ → Ty × Ty → Bool
 both_read_as e vs = reads_as e vs.0 && reads_as e vs.1
 
--- A value of this entity, as `val`, and the masks behind the children.
+-- A value of this entity, as `val`, and the masks after the children.
 abbrev pub value_says : ℕ → List Note → Masks → Option Said
 value_says e ns m = do
   n ← through_notes ns m
@@ -94,12 +94,12 @@ identity_says ns m = do
   vs ← two_types ns
   value_says bool_entity ns m
 
--- The masks behind both of two ways.
+-- The masks after both of two paths.
 abbrev pub meet_masks : Masks → Masks → Masks
 meet_masks a b = (meet a.0 b.0, meet a.1 b.1)
 
--- Lazy: `and` and `or` on two Bools; Bool. The right side starts from what the left one leaves, and may not be evaluated:
--- behind the node stands what both leave.
+-- Lazy: `and` and `or` on two Bools; Bool. The right side starts from the masks after the left one, and may not be
+-- evaluated: after the node come the masks that both leave.
 abbrev pub lazy_masks : List Note → Masks → Option Masks
 lazy_masks ns m = do
   c ← two_notes ns

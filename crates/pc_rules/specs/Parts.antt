@@ -1,4 +1,4 @@
--- What the rules look at: slots, masks, the notes of children and their types.
+-- What the rules are about: slots, masks, the notes of children and their types.
 use Rattle.std.specs.Prelude.{ℕ, ◌+◌, ◌-◌, Bool, true, false, ◌&&◌, ◌||◌, List, [], ◌∷◌, length, Option, Some, None, nat_eq, slice_get, if◌then◌else◌}
 use Rattle.pc_caps.specs.Order.{is_below}
 use Rattle.pc_caps.specs.Tables.{fits, sendable}
@@ -20,7 +20,7 @@ use Rattle.pc_masks.specs.Masks.{first, within, same}
 use Rattle.pc_valid.specs.Words.{Ty, Masks, Slots, after}
 use Rattle.pc_rules.specs.declared.said.Said.{Said}
 
--- What a rule says: this type, or none, and these masks after the node.
+-- The conclusion of a rule: this type, or none, and these masks after the node.
 abbrev pub says_of : Option Ty → Masks → Said
 says_of ty m = record { ty = ty; live = m.0; set = m.1 }
 
@@ -52,7 +52,7 @@ slot_of core slots m s = do
   ty ← slice_get slots (x.first_slot + s)
   Some (y, ty)
 
--- A slot is reachable from a node: it is of the same depth, or its capability is sendable.
+-- A slot is reachable from a node: it has the same depth, or its capability is sendable.
 abbrev pub reachable : Node → Slot × (ℕ × Cap) → Bool
 reachable x i = nat_eq i.0.depth x.depth || sendable i.1.1
 
@@ -64,7 +64,7 @@ constructs method.Spawn = true
 constructs method.Fun = false
 constructs method.Be = false
 
--- How many fields an entity has.
+-- The number of fields of an entity.
 abbrev pub fields_in : Option EntityDef → ℕ
 fields_in None = 0
 fields_in (Some x) = length x.fields
@@ -72,27 +72,27 @@ fields_in (Some x) = length x.fields
 abbrev pub field_count : CoreData → ℕ → ℕ
 field_count core e = fields_in (slice_get core.entities e)
 
--- The set mask with all fields of an entity.
+-- The set mask containing all fields of an entity.
 abbrev pub all_fields : CoreData → ℕ → Mask
 all_fields core e = first (field_count core e)
 
--- A set mask is full: it has all fields of the entity.
+-- A set mask is full: it contains all fields of the entity.
 abbrev pub full : CoreData → ℕ → Mask → Bool
 full core e s = within (all_fields core e) s
 
 -- ---- the notes of children
 
--- A node of this note starts from these masks.
+-- A node with this note starts from these masks.
 abbrev pub starts : Note → Masks → Bool
 starts t m = same t.live_before m.0 && same t.set_before m.1
 
--- The masks behind nodes of these notes, one evaluated after the other from these masks on. There are none where one of
--- them starts from other masks than the one before it leaves.
+-- The masks after nodes with these notes, evaluated one after the other from these masks on. None if one of them starts
+-- from other masks than the previous one leaves.
 abbrev pub through_notes : List Note → Masks → Option Masks
 through_notes [] m = Some m
 through_notes (t ∷ ts) m = if starts t m then through_notes ts (after t) else None
 
--- As many children as the kind has.
+-- The right number of children for the kind.
 abbrev pub one_note : List Note → Option Note
 one_note (a ∷ []) = Some a
 one_note ns = None
@@ -132,7 +132,7 @@ two_types ns = do
 abbrev pub last_child : List ℕ → Option ℕ
 last_child cs = slice_get cs (length cs - 1)
 
--- The notes of these nodes in an annotation, in order. There are none where one of them has no note.
+-- The notes of these nodes in an annotation, in order. None if one of them has no note.
 abbrev pub notes_of : List Note → List ℕ → Option (List Note)
 notes_of notes [] = Some []
 notes_of notes (c ∷ cs) = do
@@ -140,7 +140,7 @@ notes_of notes (c ∷ cs) = do
   ts ← notes_of notes cs
   Some (t ∷ ts)
 
--- The masks behind these nodes of an annotation, one evaluated after the other from these masks on.
+-- The masks after these nodes of an annotation, evaluated one after the other from these masks on.
 abbrev pub through : Ann → List ℕ → Masks → Option Masks
 through ann [] m = Some m
 through ann (c ∷ cs) m = do

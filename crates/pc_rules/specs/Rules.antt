@@ -1,5 +1,5 @@
--- The rules as they are computed: what each says of a node by the types of the slots and the notes of its children, in
--- order, and when the note of a node is what its rule says.
+-- The rules as computed: the conclusion of each for a node, by the types of the slots and the notes of its children, in
+-- order, and when the note of a node is the conclusion of its rule.
 use Rattle.std.specs.Prelude.{◌≡◌, ℕ, List, Option, Some, None, slice_get}
 use Rattle.pc_tree.specs.BuiltIn.{u64_entity, bool_entity, string_entity}
 use Rattle.pc_ann.specs.declared.annotation.Rule.{Rule}
@@ -20,8 +20,8 @@ use Rattle.pc_ann.specs.declared.annotation.Note.{Note}
 use Rattle.pc_ann.specs.declared.annotation.Ann.{Ann}
 use Rattle.pc_rules.specs.declared.said.Said.{Said}
 
--- What a rule says of node x, with these masks before it, where it is a rule for a node of this kind and its condition
--- holds: the node's type, or none, and the masks after it.
+-- The conclusion of a rule for node x, with these masks before it, if it is a rule for nodes of this kind and its
+-- condition holds: the node's type, or none, and the masks after it.
 abbrev pub rule_says : CoreData → Slots → List Note → Node → Masks → Rule → NodeKind → Option Said
 rule_says core slots ns x m rule.Number (node.Number v) = literal_says u64_entity m
 rule_says core slots ns x m rule.Truth (node.Truth v) = literal_says bool_entity m
@@ -58,22 +58,22 @@ rule_says core slots ns x m rule.Recover (node.Recover k) = recover_says ns k m
 rule_says core slots ns x m rule.Body node.Body = body_says core ns x m
 rule_says core slots ns x m r k = None
 
--- What a note says.
+-- The conclusion that a note states.
 abbrev pub said_by : Note → Said
 said_by t = record { ty = t.ty; live = t.live_after; set = t.set_after }
 
 -- ---- in an annotation
 
--- What a rule says of node x by the types and the notes of an annotation. It says nothing where a child has no note.
+-- The conclusion of a rule for node x, by the types and the notes of an annotation. None if a child has no note.
 abbrev pub says : CoreData → Ann → Node → Masks → Rule → NodeKind → Option Said
 says core ann x m r k = do
   ns ← notes_of ann.notes x.children
   rule_says core ann.slots ns x m r k
 
--- The note of node x is what its rule says.
+-- The note of node x is the conclusion of its rule.
 abbrev pub IsSaid : CoreData → Ann → Node → Note → Type 0
 IsSaid core ann x t = says core ann x (before t) t.rule x.kind ≡ Some (said_by t)
 
--- Node n has a note that is what its rule says.
+-- Node n has a note that is the conclusion of its rule.
 abbrev pub NoteIsSaid : CoreData → Ann → ℕ → Type 0
 NoteIsSaid core ann n = (x : Node) × (t : Note) × (slice_get core.nodes n ≡ Some x) × (slice_get ann.notes n ≡ Some t) × IsSaid core ann x t

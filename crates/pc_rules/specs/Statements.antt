@@ -20,23 +20,25 @@ use Rattle.pc_rules.specs.Rules.{says, said_by, IsSaid, NoteIsSaid, rule_says}
 use Rattle.pc_rules.specs.Checks.{Checks, SaysNothing, StaysUnset}
 use Rattle.pc_core.specs.Formed.{Formed}
 
--- Two notes of one node that meet the same rule from the same masks say the same type and the same masks behind it.
+-- Two notes of one node that satisfy the same rule from the same masks have the same type and the same masks after it.
 abbrev pub RulesDetermine : Type 0
 RulesDetermine = (core : CoreData) (ann : Ann) (x : Node) (a b : Note) → a.rule ≡ b.rule → before a ≡ before b → IsSaid core ann x a → IsSaid core ann x b → said_by a ≡ said_by b
 
--- Behind a consume exactly its slot is live no more, and the set fields are as before.
+-- After a consume exactly its slot is no longer live, and the set fields are as before.
 abbrev pub ConsumeTakesOut : Type 0
 ConsumeTakesOut =
     (core : CoreData) (ann : Ann) (x : Node) (s : ℕ) (m : Masks) (r : Said) → says core ann x m rule.Consume (node.Consume s) ≡ Some r
     → ((i : ℕ) → (IsIn r.live i) ↔ ((i ≢ s) × IsIn m.0 i)) × (r.set ≡ m.1)
 
--- Behind a definition exactly its slot is live besides what is behind the value, and the set fields are as there.
+-- After a definition exactly its slot is live in addition to what is live after the value, and the set fields are as
+-- there.
 abbrev pub DefinePutsIn : Type 0
 DefinePutsIn =
     (core : CoreData) (ann : Ann) (x : Node) (s : ℕ) (m n : Masks) (r : Said) → says core ann x m rule.Define (node.Define s) ≡ Some r → through ann x.children m ≡ Some n
     → ((i : ℕ) → (IsIn r.live i) ↔ (((i ≡ s) × (s < slot_limit)) ⊎ IsIn n.0 i)) × (r.set ≡ n.1)
 
--- Behind a sequence exactly the slots that its items define are live no more, and the set fields are as behind its last item.
+-- After a sequence exactly the slots that its items define are no longer live, and the set fields are as after its last
+-- item.
 abbrev pub SeqTakesOut : Type 0
 SeqTakesOut =
     (core : CoreData) (ann : Ann) (x : Node) (m n : Masks) (r : Said) → says core ann x m rule.Seq node.Seq ≡ Some r → through ann x.children m ≡ Some n
@@ -46,9 +48,9 @@ SeqTakesOut =
 abbrev pub OneValid : Type 0
 OneValid = (core : CoreData) (a b : Ann) → Formed core → Valid core a → Valid core b → a ≡ b
 
--- ---- what is computed is what the records say, in a core whose parts fit together
+-- ---- what is computed is what the records define, in a core whose parts fit together
 
--- A rule says of a node what the node's note says exactly if the record of this rule holds of the note.
+-- The conclusion of a rule for a node is what the node's note states iff the record of this rule holds for the note.
 abbrev pub SaysWhatIsMeant : Type 0
 SaysWhatIsMeant =
     (core : CoreData) → Formed core → (slots : Slots) (own : Note) (ns : List Note) (x : Node) (r : Rule) (k : NodeKind)

@@ -1,4 +1,4 @@
--- The nodes of a method as a tree. Since they stand in post-order, what stands in a node is the run of nodes up to it.
+-- The nodes of a method as a tree. Since they are in post-order, a subtree is a run of nodes that ends with its root.
 use Rattle.std.specs.Prelude.{◌≡◌, ℕ, zero, suc, ◌+◌, ◌<◌, ◌≤◌, List, [], ◌∷◌, ◌++◌, length, Some, slice_get, refl}
 use Rattle.std.proofs.Common.{ap, sym, subst, ◌∙◌, arith}
 use Rattle.std.proofs.lemmas.Option.{same_Some, none-some}
@@ -10,7 +10,8 @@ use Rattle.pc_core.specs.Lookup.{own_nodes, node_end}
 use Rattle.pc_core.specs.Methods.{PostOrder, BodyFits}
 use Rattle.pc_lists.proofs.Gets.{get_range}
 
--- What stands in node n are the nodes from number `low` up to it: its children's trees, one behind the other, and itself.
+-- The subtree of node n consists of the nodes from number `low` up to n: its children's subtrees, one after the other,
+-- and itself.
 mutual
   pub data Tree (core : CoreData) : ℕ → ℕ → Type 0 where
     tree : {low n : ℕ} (x : Node) → slice_get core.nodes n ≡ Some x → Forest core low n x.children → Tree core low n
@@ -27,7 +28,7 @@ forest_split : (core : CoreData) (low high : ℕ) (rest cs : List ℕ) → Fores
 forest_split core low high [] cs f = (low, empty, f)
 forest_split core low high (r ∷ rest) cs (more t f) = let s = forest_split core (r + 1) high rest cs f in (s.0, more t s.1, s.2)
 
--- Nodes in post-order turn the trees that wait into the trees that are left.
+-- Nodes in post-order combine the trees without a parent before them into those after them.
 forest_order : (core : CoreData) (low n : ℕ) (xs : List Node) (waiting last : List ℕ) → PostOrder n xs waiting last → Each (λ i x. slice_get core.nodes (n + i) ≡ Some x) xs → Forest core low n waiting → Forest core low (n + length xs) last
 forest_order core low n [] waiting last p h f = let e : n ≡ n + 0 = omega arith in subst (λ k. Forest core low k last) e (subst (λ ws. Forest core low n ws) p f)
 forest_order core low n (x ∷ xs) waiting last p h f =
@@ -57,7 +58,7 @@ mutual
   forest_le core low high [] empty = omega arith
   forest_le core low high (c ∷ cs) (more t f) = let l = tree_le core low c t in let m = forest_le core (c + 1) high cs f in omega (arith, l, m)
 
--- The roots of a row of trees stand in it.
+-- The roots of a sequence of trees are within it.
 pub forest_below : (core : CoreData) (low high : ℕ) (cs : List ℕ) → Forest core low high cs → Each (λ i c. c < high) cs
 forest_below core low high [] f i c e = absurd (none-some c e)
 forest_below core low high (d ∷ cs) (more t f) zero c e = let m = forest_le core (d + 1) high cs f in let s = same_Some d c e in omega (arith, m, s)

@@ -22,7 +22,7 @@ use Rattle.pc_rules.specs.declared.said.Said.{Said}
 abbrev pub literal_says : ℕ → Masks → Option Said
 literal_says e m = Some (says_of (Some (e, form.Val)) m)
 
--- `this`: the own entity, in the plain form of slot 0's capability where all fields are set and slot 0 is reachable, else
+-- `this`: the own entity, in the plain form of slot 0's capability if all fields are set and slot 0 is reachable, else
 -- as `tag`.
 abbrev pub this_form : CoreData → Node → ℕ → Slot × (ℕ × Cap) → Mask → Form
 this_form core x e i s = if full core e s && reachable x i then plain i.1.1 else form.Tag
@@ -45,13 +45,13 @@ local_says core slots x s m = do
   i ← used core slots x s m.0
   Some (says_of (Some (i.0, plain i.1)) m)
 
--- Consume: the slot's entity, in the form that no place holds; the slot is live no more.
+-- Consume: the slot's entity, in the form that no place holds; the slot is no longer live.
 abbrev pub consume_says : CoreData → Slots → Node → ℕ → Masks → Option Said
 consume_says core slots x s m = do
   i ← used core slots x s m.0
   Some (says_of (Some (i.0, unalias i.1)) (without_number m.0 s, m.1))
 
--- The type that a slot has by its definition: the written one, else that of the value, as it is stored.
+-- The type given to a slot by its definition: the written one, else that of the value when it is stored.
 abbrev pub defined_type : Option (ℕ × Cap) → Ty → ℕ × Cap
 defined_type (Some written) v = written
 defined_type None v = (v.0, stored v.1)
@@ -68,7 +68,7 @@ same_cap j k = false
 abbrev pub same_place : ℕ × Cap → ℕ × Cap → Bool
 same_place a b = nat_eq a.0 b.0 && same_cap a.1 b.1
 
--- Define: the slot has that type, and the value goes to it; the slot is live then. There is no value.
+-- Define: the slot has that type, and the value goes to it; the slot is live afterwards. There is no value.
 abbrev pub defined : List Note → ℕ → Masks → Option Said
 defined ns s m = do
   n ← through_notes ns m
@@ -89,8 +89,8 @@ is_var slot.This = false
 is_var slot.Param = false
 is_var slot.Let = false
 
--- Assign: the slot is a `var` and reachable, and the value goes to its type; the slot is live then. The value is the old
--- one, where there is one.
+-- Assign: the slot is a `var` and reachable, and the value goes to its type; the slot is live afterwards. The value is
+-- the old one, if there is one.
 abbrev pub old_value : ℕ → ℕ × Cap → Mask → Option Ty
 old_value s i l = if has l s then Some (i.0, unalias i.1) else None
 

@@ -11,7 +11,7 @@ use pc_core::{Core, Method, MethodKind, ParamInfo};
 use pc_masks::Mask;
 use pc_tree::{BOOL_ENTITY, NONE_ENTITY, STRING_ENTITY, U64_ENTITY};
 
-// Whether the argument of this type goes to the parameter.
+// Whether an argument of this type goes to the parameter.
 fn argument_goes(core: &Core, param: ParamInfo, argument: Option<(u32, Form)>) -> bool
     ensures { result ≡ spec.argument_goes core.now param argument }
 {
@@ -21,7 +21,7 @@ fn argument_goes(core: &Core, param: ParamInfo, argument: Option<(u32, Form)>) -
     }
 }
 
-// The type of the child of this index.
+// The type of the child with this index.
 fn type_at(children: &Children, index: usize) -> Option<(u32, Form)>
     ensures { result ≡ type_is children.now index }
 {
@@ -29,7 +29,7 @@ fn type_at(children: &Children, index: usize) -> Option<(u32, Form)>
     note.ty
 }
 
-// Whether the child of this index goes to the parameter of this index.
+// Whether the child with this index goes to the parameter with this index.
 fn goes_at(core: &Core, children: &Children, params: &[ParamInfo], index: usize) -> bool
     ensures { result ≡ goes_is core.now children.now params.now index }
 {
@@ -39,7 +39,7 @@ fn goes_at(core: &Core, children: &Children, params: &[ParamInfo], index: usize)
     }
 }
 
-// Whether the first `count` children are as many as the parameters, and each goes to its parameter.
+// Whether there are as many of the first `count` children as parameters, and each goes to its parameter.
 fn arguments_go(core: &Core, children: &Children, count: usize, params: &[ParamInfo]) -> bool
     requires { count ≤ length children.now }
     ensures { result ≡ spec.arguments_go core.now (take count children.now) params.now }
@@ -55,21 +55,21 @@ fn arguments_go(core: &Core, children: &Children, count: usize, params: &[ParamI
     true
 }
 
-// Whether all children are as many as the parameters, and each goes to its parameter.
+// Whether there are as many children as parameters, and each goes to its parameter.
 fn all_go(core: &Core, children: &Children, params: &[ParamInfo]) -> bool
     ensures { result ≡ spec.arguments_go core.now children.now params.now }
 {
     arguments_go(core, children, children.count(), params)
 }
 
-// The same of the arguments of a call: all its children but the last one, which is the receiver.
+// The same for the arguments of a call: all its children except the last one, which is the receiver.
 fn given_go(core: &Core, children: &Children, params: &[ParamInfo]) -> bool
     ensures { result ≡ spec.arguments_go core.now (spec.arguments children.now) params.now }
 {
     arguments_go(core, children, children.count().saturating_sub(1), params)
 }
 
-// A constructor of a class.
+// Constructing an object of a class.
 pub(crate) fn new_says(
     core: &Core,
     children: &Children,
@@ -87,7 +87,7 @@ pub(crate) fn new_says(
     }
 }
 
-// A constructor of an actor.
+// Constructing an actor.
 pub(crate) fn spawn_says(
     core: &Core,
     children: &Children,
@@ -115,7 +115,7 @@ fn argument_sendable(param: ParamInfo, argument: Option<(u32, Form)>) -> bool
     }
 }
 
-// The same of the child and the parameter of this index.
+// The same for the child and the parameter with this index.
 fn sendable_at(children: &Children, params: &[ParamInfo], index: usize) -> bool
     ensures { result ≡ sendable_is children.now params.now index }
 {
@@ -125,7 +125,7 @@ fn sendable_at(children: &Children, params: &[ParamInfo], index: usize) -> bool
     }
 }
 
-// Whether the first `count` children are as many as the parameters, and each may be sent.
+// Whether there are as many of the first `count` children as parameters, and each may be sent.
 fn arguments_sendable(children: &Children, count: usize, params: &[ParamInfo]) -> bool
     requires { count ≤ length children.now }
     ensures { result ≡ spec.arguments_sendable (take count children.now) params.now }
@@ -147,7 +147,7 @@ fn given_sendable(children: &Children, params: &[ParamInfo]) -> bool
     arguments_sendable(children, children.count().saturating_sub(1), params)
 }
 
-// The type of a call's receiver, and the number of the method of this name of its entity.
+// The type of a call's receiver, and the number of the method with this name of its entity.
 fn called(core: &Core, children: &Children, name: u32) -> Option<((u32, Form), u32)>
     ensures { result ≡ spec.called core.now children.now name }
 {
@@ -169,7 +169,7 @@ fn is_behaviour(kind: MethodKind) -> bool
     matches!(kind, MethodKind::Be)
 }
 
-// Whether the method is a function, the arguments go, and the receiver fits.
+// Whether the method is a function, the arguments go to the parameters, and the receiver fits.
 fn calls(core: &Core, children: &Children, receiver: (u32, Form), method: &Method) -> bool
     ensures { result ≡ spec.calls core.now children.now receiver method.now }
 {
@@ -178,7 +178,7 @@ fn calls(core: &Core, children: &Children, receiver: (u32, Form), method: &Metho
         && fits(receiver.1, method.receiver)
 }
 
-// The call of a method.
+// Calling a method.
 pub(crate) fn call_says(
     core: &Core,
     children: &Children,
@@ -216,7 +216,7 @@ fn lends(receiver: Form, cap: Cap) -> bool
     !fits(receiver, cap) && is_isolated(receiver) && is_lent(cap)
 }
 
-// Whether the method is a function that the receiver may be lent to.
+// Whether the method is a function to which the receiver may be lent.
 fn recovers(core: &Core, children: &Children, receiver: (u32, Form), method: &Method) -> bool
     ensures { result ≡ spec.recovers core.now children.now receiver method.now }
 {
@@ -231,7 +231,7 @@ fn recovered_result(ty: (u32, Form)) -> Option<(u32, Form)>
     if sendable_form(ty.1) { Some(ty) } else { None }
 }
 
-// The call of a method on a receiver that is lent to it.
+// Calling a method on a receiver that is lent to it.
 pub(crate) fn callrecover_says(
     core: &Core,
     children: &Children,
@@ -250,14 +250,14 @@ pub(crate) fn callrecover_says(
     }
 }
 
-// Whether the method is a behaviour, and the arguments go.
+// Whether the method is a behaviour, and the arguments go to the parameters.
 fn sends(core: &Core, children: &Children, method: &Method) -> bool
     ensures { result ≡ spec.sends core.now children.now method.now }
 {
     is_behaviour(method.kind) && given_go(core, children, method.params.as_slice())
 }
 
-// The message to an actor.
+// Sending a message to an actor.
 pub(crate) fn send_says(
     core: &Core,
     children: &Children,

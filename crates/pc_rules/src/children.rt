@@ -5,7 +5,7 @@ ghost use Rattle.pc_rules.specs.Children.{HaveNotes, is_there, each_has, picked,
 use pc_ann::Note;
 use std::marker::Model;
 
-/// The notes of a node's children, in order: all of these, or those of these numbers among them.
+/// The notes of a node's children, in order: all of these, or those with these numbers among them.
 #[derive(Drop)]
 pub(crate) struct Children<'a> {
     notes: &'a [Note],
@@ -26,7 +26,7 @@ impl<'a> Model for Children<'a> {
 }
 
 impl<'a> Children<'a> {
-    /// Notes that are there in order.
+    /// These notes, in order.
     pub(crate) fn held(notes: &'a [Note]) -> Children<'a>
         ensures { result ≡ notes.now }
     {
@@ -37,7 +37,7 @@ impl<'a> Children<'a> {
         }
     }
 
-    /// Those among these notes that have these numbers.
+    /// Those of these notes that have these numbers.
     pub(crate) fn among(notes: &'a [Note], numbers: &'a [u32]) -> Children<'a>
         requires { HaveNotes notes.now numbers.now }
         ensures { result ≡ either false notes.now numbers.now }
@@ -49,14 +49,14 @@ impl<'a> Children<'a> {
         }
     }
 
-    /// How many children there are.
+    /// The number of children.
     pub(crate) fn count(&self) -> usize
         ensures { result ≡ length self.now }
     {
         count_in(self.held, self.notes, self.numbers)
     }
 
-    /// The note of the child of this index. `None` exactly where there is none.
+    /// The note of the child with this index. `None` iff there is none.
     pub(crate) fn note(&self, index: usize) -> Option<Note>
         ensures { result ≡ slice_get self.now index }
     {

@@ -105,7 +105,7 @@ fn joined_types(core: &Core, one: (u32, Form), other: (u32, Form)) -> Option<(u3
     }
 }
 
-// The masks behind a branch, whichever way is taken.
+// The masks after a branch, whichever way is taken.
 fn branch_masks(children: (Note, Note, Note), masks: (Mask, Mask)) -> Option<(Mask, Mask)>
     ensures { result ≡ spec.branch_masks children masks }
 {
@@ -140,7 +140,7 @@ pub(crate) fn if_says(core: &Core, children: &Children, masks: (Mask, Mask)) -> 
     }
 }
 
-// The masks behind a loop.
+// The masks after a loop.
 fn loop_masks(children: (Note, Note), masks: (Mask, Mask)) -> Option<(Mask, Mask)>
     ensures { result ≡ spec.loop_masks children masks }
 {
@@ -193,7 +193,7 @@ pub(crate) fn recover_says(
     Some(says_of(Some((body.0, form)), reached))
 }
 
-/// The set fields with which a method starts: none in a constructor, and all elsewhere. Takes no memory.
+/// The set fields with which a method starts: none in a constructor, and all elsewhere. Does not allocate.
 pub fn start_set(core: &Core, method: &Method) -> Mask
     ensures { result ≡ spec.start_set core.now method.now }
 {
@@ -204,7 +204,7 @@ pub fn start_set(core: &Core, method: &Method) -> Mask
     }
 }
 
-/// The live slots with which a method starts: `this` and the parameters. Takes no memory.
+/// The live slots with which a method starts: `this` and the parameters. Does not allocate.
 pub fn start_live(method: &Method) -> Mask
     ensures { result ≡ first (1 + length method.now.params) }
 {

@@ -1,4 +1,4 @@
-//! Rules for fields that are read and written.
+//! Rules for reading and writing fields.
 ghost use Rattle.std.specs.Prelude.{◌≡◌};
 ghost use Rattle.pc_valid.specs.Words.{place as place_of};
 ghost use Rattle.pc_rules.specs.Fields as spec;
@@ -44,7 +44,7 @@ fn is_this(kind: &NodeKind) -> bool
     matches!(kind, NodeKind::This)
 }
 
-// The set mask of a node's last child, where that is `this`.
+// The set mask of a node's last child, if that is `this`.
 fn own_set(core: &Core, numbers: &[u32], children: &Children) -> Option<Mask>
     ensures { result ≡ spec.own_set core.now numbers.now children.now }
 {
@@ -67,7 +67,7 @@ fn lacks_fields(core: &Core, entity: u32, set: Option<Mask>) -> bool
     }
 }
 
-// Whether the node is one of a constructor that has not set all fields yet.
+// Whether the node is in a constructor that has not set all fields yet.
 fn incomplete(core: &Core, children: &Children, node: &Node) -> bool
     ensures { result ≡ spec.incomplete core.now children.now node.now }
 {
@@ -101,7 +101,7 @@ fn read_says(core: &Core, children: &Children, name: u32, masks: (Mask, Mask)) -
     Some(says_of(Some(ty), reached))
 }
 
-// A field that is read.
+// Reading a field.
 pub(crate) fn get_says(
     core: &Core,
     children: &Children,
@@ -137,7 +137,7 @@ fn own_read_says(
     }
 }
 
-// A field of `this` that is read before all fields are set.
+// Reading a field of `this` before all fields are set.
 pub(crate) fn getown_says(
     core: &Core,
     children: &Children,
@@ -196,7 +196,7 @@ fn write_says(core: &Core, children: &Children, name: u32, masks: (Mask, Mask)) 
     Some(says_of(Some(ty), reached))
 }
 
-// A field that is written.
+// Writing a field.
 pub(crate) fn put_says(
     core: &Core,
     children: &Children,
@@ -221,7 +221,7 @@ fn value_type(children: &Children) -> Option<(u32, Form)>
     both.0.ty
 }
 
-// The old value of an own field, where it is set.
+// The old value of an own field, if it is set.
 fn own_old(field: (u32, FieldInfo), set: Mask) -> Option<(u32, Form)>
     ensures { result ≡ spec.own_old field set }
 {
@@ -262,7 +262,7 @@ fn own_write_says(
     }
 }
 
-// A field of `this` that is written before all fields are set.
+// Writing a field of `this` before all fields are set.
 pub(crate) fn putown_says(
     core: &Core,
     children: &Children,

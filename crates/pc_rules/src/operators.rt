@@ -48,7 +48,7 @@ fn both_read_as(entity: u32, values: ((u32, Form), (u32, Form))) -> bool
     reads_as(entity, values.0) && reads_as(entity, values.1)
 }
 
-// The masks behind two children, and a value of this entity, as `val`.
+// The masks after two children, and a value of this entity, as `val`.
 fn value_says(entity: u32, children: &Children, masks: (Mask, Mask)) -> Option<Said>
     ensures { result ≡ spec.value_says entity children.now masks }
 {
@@ -101,7 +101,7 @@ pub(crate) fn equal_says(children: &Children, op: Op, masks: (Mask, Mask)) -> Op
     }
 }
 
-// Two texts as one.
+// Concatenation of two texts.
 pub(crate) fn join_says(children: &Children, op: Op, masks: (Mask, Mask)) -> Option<Said>
     ensures { result ≡ spec.join_says children.now op masks }
 {
@@ -145,14 +145,14 @@ pub(crate) fn identity_says(children: &Children, masks: (Mask, Mask)) -> Option<
     value_says(BOOL_ENTITY, children, masks)
 }
 
-// The masks behind both of two ways.
+// The masks after both of two paths.
 pub(crate) fn meet_masks(one: (Mask, Mask), other: (Mask, Mask)) -> (Mask, Mask)
     ensures { result ≡ spec.meet_masks one other }
 {
     (one.0.meet(other.0), one.1.meet(other.1))
 }
 
-// The masks behind an operator whose right side may not be evaluated.
+// The masks after an operator whose right side may not be evaluated.
 fn lazy_masks(children: &Children, masks: (Mask, Mask)) -> Option<(Mask, Mask)>
     ensures { result ≡ spec.lazy_masks children.now masks }
 {

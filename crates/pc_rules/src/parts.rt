@@ -1,4 +1,4 @@
-//! What the rules look at: slots, masks, the notes of children and their types.
+//! What the rules are about: slots, masks, the notes of children and their types.
 ghost use Rattle.std.specs.Prelude.{◌≡◌, length, slice_get};
 ghost use Rattle.pc_masks.specs.Masks.{first};
 ghost use Rattle.pc_valid.specs.Words.{after as after_of};
@@ -12,7 +12,7 @@ use pc_core::{Core, EntityDef, MethodKind, Node, Slot};
 use pc_masks::Mask;
 use pc_sub::is_sub;
 
-// What a rule says: this type, or none, and these masks.
+// The conclusion of a rule: this type, or none, and these masks.
 pub(crate) fn says_of(ty: Option<(u32, Form)>, masks: (Mask, Mask)) -> Said
     ensures { result ≡ spec.says_of ty masks }
 {
@@ -73,7 +73,7 @@ pub(crate) fn reachable(node: &Node, slot: (Slot, (u32, Cap))) -> bool
     slot.0.depth == node.depth || sendable(slot.1.1)
 }
 
-/// Whether a method of this kind is a constructor. Takes no memory.
+/// Whether a method of this kind is a constructor. Does not allocate.
 pub fn constructs(kind: MethodKind) -> bool
     ensures { result ≡ spec.constructs kind }
 {
@@ -102,14 +102,14 @@ fn all_of(entity: &EntityDef) -> Mask
     }
 }
 
-/// Whether a set mask has all fields of the entity. Takes no memory.
+/// Whether a set mask contains all fields of the entity. Does not allocate.
 pub fn full(core: &Core, entity: u32, set: Mask) -> bool
     ensures { result ≡ spec.full core.now entity set }
 {
     all_fields(core, entity).is_within(set)
 }
 
-// Whether a node of this note starts from these masks.
+// Whether a node with this note starts from these masks.
 pub(crate) fn starts(note: Note, masks: (Mask, Mask)) -> bool
     ensures { result ≡ spec.starts note masks }
 {
@@ -123,7 +123,7 @@ pub(crate) fn note_at(ann: &Ann, node: u32) -> Option<Note>
     ann.notes.get(node as usize).copied()
 }
 
-// The masks behind nodes of these notes, one evaluated after the other from these masks on.
+// The masks after nodes with these notes, evaluated one after the other from these masks on.
 pub(crate) fn through_notes(children: &Children, masks: (Mask, Mask)) -> Option<(Mask, Mask)>
     ensures { result ≡ spec.through_notes children.now masks }
 {
@@ -138,7 +138,7 @@ pub(crate) fn through_notes(children: &Children, masks: (Mask, Mask)) -> Option<
     Some(reached)
 }
 
-// The masks behind a node of this note.
+// The masks after a node with this note.
 pub(crate) fn after(note: Note) -> (Mask, Mask)
     ensures { result ≡ after_of note }
 {

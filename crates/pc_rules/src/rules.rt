@@ -21,7 +21,7 @@ use pc_core::{Core, Node, NodeKind};
 use pc_masks::Mask;
 use pc_tree::{BOOL_ENTITY, STRING_ENTITY, U64_ENTITY};
 
-// What the rule says of this node, by the types of the slots and the notes of its children.
+// The conclusion of the rule for this node, by the types of the slots and the notes of its children.
 fn rule_says(
     core: &Core,
     slots: &[(u32, Cap)],
@@ -77,7 +77,7 @@ fn rule_says(
     }
 }
 
-// The same of a node of an annotation whose children have notes.
+// The same for a node of an annotation whose children have notes.
 fn says_among(core: &Core, ann: &Ann, node: &Node, masks: (Mask, Mask), rule: Rule) -> Option<Said>
     requires { HaveNotes ann.now.notes node.now.children }
     ensures { result ≡ spec.rule_says core.now ann.now.slots (either false ann.now.notes node.now.children) node.now masks rule node.now.kind }
@@ -86,8 +86,9 @@ fn says_among(core: &Core, ann: &Ann, node: &Node, masks: (Mask, Mask), rule: Ru
     rule_says(core, ann.slots.as_slice(), &children, node, masks, rule)
 }
 
-/// What the rule says of this node, with these masks before it: its type, or none, and the masks after it. `None` exactly
-/// where it is no rule for nodes of this kind, its condition does not hold, or a child has no note. Takes no memory.
+/// The conclusion of the rule for this node, with these masks before it: its type, or none, and the masks after it.
+/// `None` iff it is not a rule for nodes of this kind, its condition does not hold, or a child has no note. Does not
+/// allocate.
 pub fn says(core: &Core, ann: &Ann, node: &Node, masks: (Mask, Mask), rule: Rule) -> Option<Said>
     ensures { result ≡ spec.says core.now ann.now node.now masks rule node.now.kind }
 {
@@ -98,7 +99,7 @@ pub fn says(core: &Core, ann: &Ann, node: &Node, masks: (Mask, Mask), rule: Rule
     }
 }
 
-// Whether the note is what was said.
+// Whether the note is this conclusion.
 fn agrees(said: Option<Said>, note: Note) -> bool
     ensures { IsTrue result ↔ (said ≡ Some (spec.said_by note)) }
 {
@@ -110,7 +111,7 @@ fn agrees(said: Option<Said>, note: Note) -> bool
     }
 }
 
-// Whether the note of this node is what its rule says.
+// Whether the note of this node is the conclusion of its rule.
 fn meets(core: &Core, ann: &Ann, node: &Node, note: Note) -> bool
     ensures { IsTrue result ↔ spec.IsSaid core.now ann.now node.now note }
 {
@@ -126,8 +127,8 @@ fn meets(core: &Core, ann: &Ann, node: &Node, note: Note) -> bool
     )
 }
 
-/// Whether node `n` meets its rule, by its own note and those of its children: its type and its masks are what the rule of
-/// its note says. Takes no memory.
+/// Whether node `n` satisfies its rule, by its own note and those of its children: its type and its masks are the
+/// conclusion of the rule of its note. Does not allocate.
 pub fn rule_holds(core: &Core, ann: &Ann, number: u32) -> bool
     requires slots { length ann.now.slots ≡ length core.now.slots }
     requires notes { length ann.now.notes ≡ length core.now.nodes }
@@ -141,7 +142,7 @@ pub fn rule_holds(core: &Core, ann: &Ann, number: u32) -> bool
     }
 }
 
-// Whether this note of the node is what its rule says by the notes of its children.
+// Whether this note of the node is the conclusion of its rule, by the notes of its children.
 fn meets_by(core: &Core, slots: &[(u32, Cap)], own: Note, children: &Children, node: &Node) -> bool
     ensures { IsTrue result ↔ (spec.rule_says core.now slots.now children.now node.now (before own) own.rule node.now.kind ≡ Some (spec.said_by own)) }
 {
@@ -158,8 +159,8 @@ fn meets_by(core: &Core, slots: &[(u32, Cap)], own: Note, children: &Children, n
     )
 }
 
-/// Whether node `n` meets the rule of this note of it, by the types of the slots and the notes of its children, in order.
-/// Takes no memory.
+/// Whether node `n` satisfies the rule of this note, by the types of the slots and the notes of its children, in order.
+/// Does not allocate.
 pub fn holds(core: &Core, slots: &[(u32, Cap)], own: &Note, children: &[Note], number: u32) -> bool
     requires slots { length slots.now ≡ length core.now.slots }
     requires node { number < length core.now.nodes }

@@ -85,7 +85,7 @@ pub(crate) fn consume_says(
     ))
 }
 
-// The type that a slot has by its definition.
+// The type given to a slot by its definition.
 fn defined_type(written: Option<(u32, Cap)>, value: (u32, Form)) -> (u32, Cap)
     ensures { result ≡ spec.defined_type written value }
 {
@@ -149,7 +149,7 @@ pub(crate) fn define_says(
     }
 }
 
-// The old value of a slot, where there is one.
+// The old value of a slot, if there is one.
 fn old_value(slot: u32, ty: (u32, Cap), live: Mask) -> Option<(u32, Form)>
     ensures { result ≡ spec.old_value slot ty live }
 {
@@ -183,7 +183,7 @@ fn assigns(core: &Core, node: &Node, slot: (Slot, (u32, Cap)), value: (u32, Form
     is_var(slot.0.kind) && reachable(node, slot) && goes_to(core, value, slot.1)
 }
 
-// The assignment to a local or parameter.
+// Assigning to a local or parameter.
 pub(crate) fn assign_says(
     core: &Core,
     slots: &[(u32, Cap)],

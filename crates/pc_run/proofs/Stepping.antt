@@ -61,14 +61,14 @@ begins core turns c is few =
     })
 
 module _ (core : CoreData) (list : List ℕ) (c : Configuration) (k : Counts) (left : List ℕ) (u : Underway core list c k left) where
-  -- The configuration is behind what was taken.
+  -- The configuration is the one after what was taken.
   behind_taken : c ≡ after core u.taken
   behind_taken = u.behind [] ∙ ap (after core) (append-nil u.taken)
 
   pub is_begun : IsBegun core list c
   is_begun = (length u.taken, behind_taken ∙ ap (after core) (sym (take-append_seam u.taken left) ∙ ap (take (length u.taken)) (sym u.list_is)))
 
-  -- All steps together lead where those that are left lead.
+  -- All steps together lead to where those that are left lead.
   pub behind_all : run_from core c left ≡ after core list
   behind_all = u.behind left ∙ ap (after core) (sym u.list_is)
 
@@ -90,7 +90,7 @@ module _ (core : CoreData) (list : List ℕ) (c : Configuration) (k : Counts) (i
         let here : LacksNothing core c = subst (λ (x : Configuration). LacksNothing core x) (sym (behind_taken core list c k (i ∷ left) u)) (safe u.taken) in
         here i l (sym (ap (λ (x : Outcome × Configuration). x.0) e) ∙ is)
 
-    -- ---- what stands behind the step
+    -- ---- what follows the step
 
     -- the rest of the run, by how the step ended
     abbrev rest_after : Outcome × Configuration → List ℕ → Configuration
@@ -167,7 +167,7 @@ module _ (core m : CoreData) (list rest : List ℕ) (c d : Configuration) (k : C
   pub turn_stepped : (p : Progress) → p ≡ counted k o → Reached core list d behind_one p
   turn_stepped p is = subst (Reached core list d behind_one) (sym is) (stepped core list c k i behind_one one_left safe d o of_core)
 
--- what is left where memory was wanting
+-- what is left if memory ran out
 pub refused : {T E : Type 0} (core : CoreData) (list : List ℕ) (c d : Configuration) (k : Counts) (left : List ℕ) (r : Result T E) → Underway core list c k left → d ≡ c → OnErr r (IsBegun core list d)
 refused core list c d k left (Ok x) u same = tt
 refused core list c d k left (Err x) u same = subst (IsBegun core list) (sym same) (is_begun core list c k left u)

@@ -110,7 +110,7 @@ module _ (core : CoreData) (list : List ℕ) where
         writes_stopped (lines texts ++ b.0) out e r (ap (λ ts. lines ts ++ b.0) are ∙ b.1) by (stops_more (lines texts) b.0 out e s)
 
   module _ (c : Configuration) (k : Counts) (u : Underway core list c k []) (texts : List (List ℕ)) (are : texts ≡ c.printed) (w x y : Option (List ℕ)) (f g h : ℕ) (front : Appends w x (lines texts)) (later : f ≤ g) where
-    -- The writing of the numbers behind them stopped.
+    -- The writing of the numbers after them stopped.
     pub summary_stopped : (report : Report) → report ≡ report_at c k → (e : RunFault) (r : Result Report RunFault) → IsErrAnd r (λ x. x ≡ e) → WriteStops (summary_of report) (change x y g h) e → WritesText core list w y r
     summary_stopped report is e r by s =
         writes_stopped (lines texts ++ summary_of report) (change w y f h) e r

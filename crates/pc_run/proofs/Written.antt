@@ -1,4 +1,4 @@
--- Writings one after the other.
+-- Writing one text after another.
 use Rattle.std.proofs.Common.{◌≡◌, ℕ, ◌+◌, ◌<◌, ◌≤◌, List, ◌∷◌, ◌++◌, length, get_or, take, drop, Option, Result, Ok, Err, sym, ap, ◌∙◌, subst, append_assoc}
 use Rattle.std.proofs.Math.Seq.{take-append_seam}
 use Rattle.std.specs.Prelude.{IsErrAnd}
@@ -30,7 +30,7 @@ stops_more a b out (TooLong n) h = absurd h
 stops_more a b out Memory h = grows_more out.before out.now a b h
 
 module _ (w x y : Option (List ℕ)) (f g h : ℕ) (a b : List ℕ) (front : Appends w x a) (later : f ≤ g) where
-  -- It stopped behind a.
+  -- It stopped after a.
   pub stops_on : (e : RunFault) → WriteStops b (change x y g h) e → WriteStops (a ++ b) (change w y f h) e
   stops_on Sink s = (rose_before f g h later s.0, grows_on w x y a b front s.1)
   stops_on (TooLong n) s = absurd s
@@ -48,7 +48,7 @@ ended_by text out e (Err x) is s = subst (WriteStops text out) (sym is) s
 
 -- ---- texts
 
--- the lines up to a place, and those behind it
+-- the lines up to a place, and those after it
 pub lines_parts : (texts : List (List ℕ)) (i : ℕ) → lines (take i texts) ++ lines (drop i texts) ≡ lines texts
 lines_parts texts i = sym (flat_map-append (λ t. t ++ line_end) (take i texts) (drop i texts)) ∙ ap lines (take-append-drop i texts)
 

@@ -6,7 +6,7 @@ use Rattle.pc_run.specs.declared.counts.Counts.{Counts}
 use Rattle.pc_run.specs.declared.counts.Progress.{Progress}
 use Rattle.pc_run.specs.declared.counts.Progress.TheVariants.{Going, TooLong}
 
--- How far a run is with one more step that ended so. A step that lacks something is not counted.
+-- The progress of a run after one more step with this outcome. A step that lacks something is not counted.
 abbrev pub counted : Counts → Outcome → Progress
 counted k outcome.Moved = Going (record { moved = k.moved + 1; skipped = k.skipped })
 counted k outcome.Skipped = Going (record { moved = k.moved; skipped = k.skipped + 1 })

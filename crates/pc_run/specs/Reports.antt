@@ -7,8 +7,8 @@ use Rattle.pc_semantics.specs.Runs.{after, outcomes}
 use Rattle.pc_semantics.specs.Text.{is_moved, is_skipped, summary, waiting}
 use Rattle.pc_run.specs.declared.report.Report.{Report}
 
--- The numbers of the run of a list of actors: the steps that moved and those that were skipped, and the actors, objects and
--- waiting messages at its end.
+-- The numbers of the run of a list of actors: the steps that moved and those that were skipped, and the actors, objects
+-- and waiting messages at its end.
 abbrev pub report_of : CoreData → List ℕ → Report
 report_of core list = record {
   moved = count_by is_moved (outcomes core list);
@@ -18,6 +18,6 @@ report_of core list = record {
   waiting = waiting (after core list);
 }
 
--- The line of these numbers.
+-- The line with these numbers.
 abbrev pub summary_of : Report → List ℕ
 summary_of r = summary r.moved r.skipped r.actors r.objects r.waiting

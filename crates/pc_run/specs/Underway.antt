@@ -12,8 +12,8 @@ use Rattle.pc_run.specs.declared.counts.Counts.{Counts}
 use Rattle.pc_run.specs.declared.counts.Progress.{Progress}
 use Rattle.pc_run.specs.declared.counts.Progress.TheVariants.{Going, TooLong}
 
--- Of the steps of a list these are left; all others moved or were skipped, and led to configuration c. What is left gives the
--- rest of the whole run.
+-- These steps of a list are left; all steps before them moved or were skipped, and led to configuration c. The rest of
+-- the whole run is given by those that are left.
 pub record Underway (core : CoreData) (list : List ℕ) (c : Configuration) (k : Counts) (left : List ℕ) : Type 0 where
   pub taken : List ℕ
   pub list_is : list ≡ taken ++ left
@@ -25,7 +25,7 @@ pub record Underway (core : CoreData) (list : List ℕ) (c : Configuration) (k :
   pub few_objects : len c.objects ≤ 3 + (k.moved + k.skipped)
   pub few_messages : waiting c ≤ 1 + (k.moved + k.skipped)
 
--- A run of a list came so far, and led to configuration c.
+-- The run of a list has come this far, and led to configuration c.
 abbrev pub Reached : CoreData → List ℕ → Configuration → List ℕ → Progress → Type 0
 Reached core list c left (Going k) = Underway core list c k left
 Reached core list c left (TooLong n) = (end_of (outcomes core list) ≡ Some (n, outcome.TooLong)) × (c ≡ after core list)

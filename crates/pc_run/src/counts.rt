@@ -7,7 +7,7 @@ ghost use Rattle.pc_run.specs.Counting.{counted};
 
 use pc_semantics::Outcome;
 
-/// How the steps so far ended.
+/// How the steps so far have ended.
 #[derive(Clone, Copy)]
 pub struct Counts {
     /// How many moved.
@@ -21,7 +21,7 @@ pub struct Counts {
 pub enum Progress {
     /// All steps so far moved or were skipped.
     Going(Counts),
-    /// The step of this number, counted from 1, would make a text that is too long.
+    /// The step with this number, counted from 1, would make a text that is too long.
     TooLong(u32),
 }
 
@@ -32,7 +32,7 @@ impl Counts {
         skipped: 0,
     };
 
-    /// How far the run is with one more step that ended so.
+    /// The progress after one more step with this outcome.
     pub fn with_step(self, outcome: Outcome) -> Progress
         requires few { self.moved + self.skipped < turn_limit }
         requires lacks_nothing { (l : Lack) → outcome ≢ Lacks l }

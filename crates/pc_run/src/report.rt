@@ -1,10 +1,10 @@
-//! What a run answers.
+//! What a run returns.
 ghost use Rattle.std.specs.Prelude.{◌≡◌};
 ghost use Rattle.pc_run.specs.declared.report.RunFault.TheVariants.{Memory};
 
 use std::alloc::{AllocError, AllocFailed};
 
-/// The numbers of a run of which no step was too long.
+/// The numbers of a run in which no step was too long.
 #[derive(Clone, Copy, Debug, PartialEq, Eq)]
 pub struct Report {
     /// How many steps moved.
@@ -19,14 +19,14 @@ pub struct Report {
     pub waiting: u64,
 }
 
-/// Why a run gave no report.
+/// Why a run has no report.
 #[derive(Clone, Copy, Debug, PartialEq, Eq)]
 pub enum RunFault {
     /// The sink did not take what was written to it.
     Sink,
-    /// The step of this number, counted from 1, would make a text that is too long.
+    /// The step with this number, counted from 1, would make a text that is too long.
     TooLong(u32),
-    /// Want of memory.
+    /// Memory ran out.
     Memory,
 }
 

@@ -37,15 +37,15 @@ fn report_of(machine: &Machine<'_>, counts: Counts) -> Report
     }
 }
 
-/// Writes what a run printed, whose steps were all taken, each text with a line end by one call of `put`, and the line of the
-/// run's numbers by one more. What is said holds of every list of steps whose run came to the machine's configuration with
-/// this progress.
+/// Writes what a run printed after all its steps were taken: each text with a line end in one call of `put`, and the
+/// line of the run's numbers in one more. The contract holds for every list of steps whose run led to the machine's
+/// configuration with this progress.
 ///
 /// # Errors
 /// - `TooLong(n)` if the n-th step would make a text that is too long. The texts are written, without the numbers.
-/// - `Sink` only if the sink's count of failures rose in this call, or stands at its last value. A prefix of the text was
+/// - `Sink` only if the sink's count of failures rose in this call, or is at its last value. A prefix of the text was
 ///   written, and nothing after the piece that failed.
-/// - `Memory` when out of memory. A prefix of the text was written.
+/// - `Memory` if memory ran out. A prefix of the text was written.
 pub fn put_run<O: Sink>(
     alloc: Global,
     machine: &Machine<'_>,
@@ -67,17 +67,17 @@ pub fn put_run<O: Sink>(
     }
 }
 
-/// Lets a machine that was just started take all turns, and then writes what was printed, each text with a line end by one
-/// call of `put`, and the line of the run's numbers by one more. The times of the turns sum to at most 1,000,000, and over
-/// no list of actors does a step of the core lack anything. The times of a turn are counted through, and no list of all steps
-/// is kept.
+/// Lets a machine that was just started take all turns, and then writes what was printed, each text with a line end in
+/// one call of `put`, and the line of the run's numbers in one more. The times of the turns sum to at most 1,000,000,
+/// and no step of the core lacks anything over any list of actors. The steps of a turn are counted, so that no list of
+/// all steps is kept.
 ///
 /// # Errors
-/// - `TooLong(n)` where the n-th step of the turns, counted from 1, would make a text that is too long. The texts that were
-///   printed before it are written, without the numbers.
-/// - `Sink` only where the sink's count of failures rose in this call, or stands at its last value. A prefix of the text was
-///   written, and nothing behind the piece that failed.
-/// - `Memory` at want of memory. A prefix of the text was written.
+/// - `TooLong(n)` if the n-th step of the turns, counted from 1, would make a text that is too long. The texts that
+///   were printed before it are written, without the numbers.
+/// - `Sink` only if the sink's count of failures rose in this call, or is at its last value. A prefix of the text was
+///   written, and nothing after the piece that failed.
+/// - `Memory` if memory ran out. A prefix of the text was written.
 pub fn run<O: Sink>(
     alloc: Global,
     machine: &mut Machine<'_>,
@@ -95,7 +95,7 @@ pub fn run<O: Sink>(
     ensures writes { WritesText machine.old.core (spread turns.now) (O.written out.old) (O.written out.new) result }
     ensures later { O.faults out.old ≤ O.faults out.new }
 
-    // The machine is behind the steps of the turns.
+    // The machine is left after the steps of the turns.
     ensures leaves { Leaves machine.old.core (spread turns.now) machine.new.configuration result }
     ensures core { machine.new.core ≡ machine.old.core }
 {

@@ -12,7 +12,7 @@ use pc_machine::Machine;
 use pc_sched::Turn;
 use std::alloc::AllocError;
 
-// Takes the steps of the turn at a place, where those of the turns before it were taken.
+// Takes the steps of the turn at a place, after those of the turns before it.
 fn take_turn(
     machine: &mut Machine<'_>,
     turns: &[Turn],

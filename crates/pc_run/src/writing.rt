@@ -11,7 +11,7 @@ use pc_caps::List;
 use pc_io::{Sink, SinkFault};
 use std::alloc::{AllocError, Global};
 
-// Writes a piece by one call of `put`.
+// Writes a piece in one call of `put`.
 fn put_piece<O: Sink>(out: &mut O, piece: &[u8]) -> Result<(), RunFault>
     ensures later { O.faults out.old ≤ O.faults out.new }
     ensures wrote { Wrote piece.now (change (O.written out.old) (O.written out.new) (O.faults out.old) (O.faults out.new)) result }
@@ -33,7 +33,7 @@ fn make_line(alloc: Global, text: &[u8]) -> Result<Vec<u8>, AllocError>
     Ok(line)
 }
 
-/// Writes texts, each with its line end by one call of `put`.
+/// Writes texts, each with its line end in one call of `put`.
 pub fn put_texts<O: Sink>(alloc: Global, texts: &[List<u8>], out: &mut O) -> Result<(), RunFault>
     ensures later { O.faults out.old ≤ O.faults out.new }
     ensures wrote { Wrote (lines texts.now) (change (O.written out.old) (O.written out.new) (O.faults out.old) (O.faults out.new)) result }
@@ -61,7 +61,7 @@ fn make_summary(alloc: Global, report: Report) -> Result<String, AllocError>
     )
 }
 
-/// Writes a run's numbers by one call of `put`.
+/// Writes a run's numbers in one call of `put`.
 pub fn put_summary<O: Sink>(alloc: Global, report: Report, out: &mut O) -> Result<(), RunFault>
     ensures later { O.faults out.old ≤ O.faults out.new }
     ensures wrote { Wrote (summary_of report) (change (O.written out.old) (O.written out.new) (O.faults out.old) (O.faults out.new)) result }

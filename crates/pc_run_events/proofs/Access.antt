@@ -1,4 +1,4 @@
--- What reads or writes a field takes no message, sends none, and makes no actor and no object.
+-- A step that reads or writes a field takes no message, sends none, and makes no actor and no object.
 use Rattle.std.specs.Prelude.{◌≡◌, ℕ, Bool, List, [], ◌∷◌, Option, Some, None, slice_get, refl}
 use Rattle.std.specs.FinMap.{get}
 use Rattle.std.proofs.lemmas.Option.{none-some}

@@ -1,4 +1,4 @@
--- What the events of a safe core name is there.
+-- What the events of a safe core name exists.
 use Rattle.std.specs.Prelude.{◌≡◌, ◌⊎◌, ◌<◌, ℕ, suc, List, take, length, Option, Some, None, IsSome, slice_get, refl}
 use Rattle.std.proofs.Common.{inl, inr, sym, subst, ◌∙◌}
 use Rattle.std.proofs.lemmas.Option.{none-some, same_Some}

@@ -343,7 +343,7 @@ module _ (core : CoreData) (list : List ℕ) (k i : ℕ) (ev : Event core list k
     pub taken_at : ahead_of core here i ≡ ahead.Take → SentAt core list k (first_row (slice_get old i))
     taken_at is = taking kind refl is moves.boxes
 
--- ---- what taking from a row answers
+-- ---- the result of taking from a row
 
 module _ (old new : List (List ℕ)) (i r : ℕ) (c : RowAt old new i (λ s t. (r ≡ first_of s) × (t ≡ drop 1 s))) where
   pub row_taken : i < length old → r ≡ first_row (slice_get old i)

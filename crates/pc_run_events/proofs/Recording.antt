@@ -56,7 +56,7 @@ none_more : (a : List Touch) → a ++ [] ≡ a
 none_more [] = refl
 none_more (x ∷ xs) = ap (λ (l : List Touch). x ∷ l) (none_more xs)
 
--- It is no access.
+-- It is not an access.
 abbrev Quiet : Option Deed → Type 0
 Quiet None = Unit {0}
 Quiet (Some (deed.Take m sent)) = Unit {0}
@@ -110,7 +110,7 @@ module _ (ts : List RunEvent) (place actor : ℕ) (clock : List ℕ) where
   quiet_touches (Some (deed.New a e)) q = none_with (deed.New a e) refl
   quiet_touches (Some (deed.Touch x)) q = absurd q
 
-  -- A deed that is no access has none.
+  -- A deed that is not an access has none.
   no_touch : (o : Option Deed) → Quiet o → (x : Option Access) → x ≡ None → touches_in (noted o) ≡ touched_with x place actor clock (touches_in ts)
   no_touch o q x none = quiet_touches o q ∙ ap (λ (o : Option Access). touched_with o place actor clock (touches_in ts)) (sym none)
 

@@ -1,5 +1,5 @@
--- What a task's move shows: a message that is sent is one of the method that is called; and an object that is made is one of the
--- constructor's entity, and is `this` in the frame that begins.
+-- What a task's move shows: a message that is sent is of the method that is called; and an object that is made is of
+-- the constructor's entity, and is `this` in the frame that begins.
 use Rattle.std.specs.Prelude.{◌≡◌, ◌&&◌, ℕ, ◌-◌, Bool, true, false, if◌then◌else◌, List, [], length, Option, Some, None, slice_get, nat_eq, nat_lt, refl}
 use Rattle.std.proofs.Common.{ap, sym, ◌∙◌}
 use Rattle.std.proofs.lemmas.Bool.{and_parts, eqb-true}

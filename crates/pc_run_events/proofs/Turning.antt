@@ -1,4 +1,4 @@
--- A turn, by what its calls answer.
+-- A turn, by the results of its calls.
 use Rattle.std.specs.Prelude.{◌≡◌, ◌<◌, ℕ, suc, ◌+◌, List, [], length, get_or, Option, Some, slice_get}
 use Rattle.std.proofs.Common.{ap, sym, subst, ◌∙◌, arith}
 use Rattle.std.proofs.lemmas.Option.{none-some}

@@ -1,4 +1,4 @@
--- The events of a run that are no plain steps.
+-- The events of a run that are more than plain steps.
 use Rattle.std.specs.Prelude.{◌≡◌, ◌<◌, ℕ, zero, suc, List, [], ◌∷◌, length, Option, Some, None, slice_get}
 use Rattle.pc_core.specs.CoreData.{CoreData}
 use Rattle.pc_heap.specs.Objects.{class_at}
@@ -21,7 +21,7 @@ abbrev pub SentAt : CoreData → List ℕ → (taken place : ℕ) → Type 0
 SentAt core list q zero = (p : ℕ) → Carries core list p q → ⊥
 SentAt core list q (suc p) = Carries core list p q
 
--- The method of message n of those that wait for an actor, counted from 0, the oldest first.
+-- The method of message n of those that wait for an actor, counted from 0 with the oldest first.
 abbrev pub method_waiting : Configuration → (actor n : ℕ) → Option ℕ
 method_waiting c a n = do
   x ← slice_get c.actors a
@@ -32,8 +32,8 @@ method_waiting c a n = do
 abbrev pub MadeThere : (before after : Configuration) → Address → (entity : ℕ) → Type 0
 MadeThere c d a e = (class_at c.objects a ≡ None) × (class_at d.objects a ≡ Some e)
 
--- What the step of actor i at place p does. A message that is sent comes last in its receiver's mailbox. A step that makes an actor also
--- makes the actor's own object, and that is no deed of its own.
+-- What the step of actor i at place p does. A message that is sent comes last in its receiver's mailbox. A step that
+-- makes an actor also makes the actor's own object, which does not count as a deed of its own.
 abbrev pub Does : CoreData → List ℕ → (place actor : ℕ) → Deed → Type 0
 Does core list p i (deed.Take m sent) =
     (ahead_of core (at_place core list p) i ≡ ahead.Take) × (method_waiting (at_place core list p) i 0 ≡ Some m) × SentAt core list p sent

@@ -1,4 +1,4 @@
--- What the kept places are, and a run under way.
+-- The meaning of the kept places, and a run under way.
 use Rattle.std.specs.Prelude.{◌≡◌, ◌<◌, ◌+◌, ℕ, zero, suc, List, [], ◌∷◌, length, Some, slice_get}
 use Rattle.pc_core.specs.CoreData.{CoreData}
 use Rattle.pc_semantics.specs.Configurations.{Configuration}
@@ -10,7 +10,7 @@ use Rattle.pc_run_events.specs.declared.events.Deed.{Deed}
 use Rattle.pc_run_events.specs.declared.events.RunEvent.{RunEvent}
 use Rattle.pc_trace.specs.Reached.{Reached}
 
--- The event at this place, counted from 1 and earlier than place k, put message n into the mailbox of actor r; or none did.
+-- The event at this place, counted from 1 and before place k, put message n into the mailbox of actor r; or none did.
 abbrev pub SentBefore : CoreData → List ℕ → (k r n place : ℕ) → Type 0
 SentBefore core list k r n zero = (e : ℕ) → e < k → Put core list e r n → ⊥
 SentBefore core list k r n (suc e) = (e < k) × Put core list e r n
@@ -24,7 +24,7 @@ pub record PostsKeep (core : CoreData) (list : List ℕ) (k : ℕ) (posts : List
   pub count : length posts ≡ length (at_place core list k).actors
   pub row : (a : ℕ) (s : List ℕ) → slice_get posts a ≡ Some s → RowKeeps core list k a s
 
--- At the start: nobody, or the stream and Main, for whom a message waits that no event sent.
+-- At the start: no actors, or the stream and Main, for whom a message waits that no event sent.
 abbrev pub first_posts : ℕ → List (List ℕ)
 first_posts zero = []
 first_posts (suc n) = [] ∷ (0 ∷ []) ∷ []

@@ -47,7 +47,7 @@ abbrev pub more_text : List ℕ → Text
 more_text [] = []
 more_text (n ∷ ns) = codes "," ++ (decimal n ++ more_text ns)
 
--- Numbers with one comma between two.
+-- Numbers with a comma between any two.
 abbrev pub clock_text : List ℕ → Text
 clock_text [] = []
 clock_text (n ∷ ns) = decimal n ++ more_text ns
@@ -75,6 +75,6 @@ is_access (deed.New a e) = false
 abbrev pub count_line : (events accesses : ℕ) → Text
 count_line n m = codes "events " ++ (decimal n ++ (codes " accesses " ++ (decimal m ++ (codes " ordered" ++ line_end))))
 
--- The events, a line each, and then their number and that of the accesses among them.
+-- The events, a line each, followed by their number and the number of accesses among them.
 abbrev pub run_text : CoreData → List RunEvent → Text
 run_text core events = events_text core events ++ count_line (length events) (length (touches_in events))

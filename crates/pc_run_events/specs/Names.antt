@@ -9,7 +9,7 @@ use Rattle.pc_run_events.specs.declared.events.Deed.{Deed}
 use Rattle.pc_run_events.specs.declared.events.Deed.TheVariants as deed
 use Rattle.pc_run_events.specs.declared.events.RunEvent.{RunEvent}
 
--- What is not there has no name.
+-- What does not exist has no name.
 abbrev pub entity_name : Option EntityDef → Text
 entity_name None = []
 entity_name (Some x) = x.name
@@ -23,9 +23,9 @@ abbrev pub method_text : CoreData → Option Method → Text
 method_text core None = []
 method_text core (Some m) = entity_name (slice_get core.entities m.entity) ++ (codes "." ++ name_text (slice_get core.names m.name))
 
--- ---- what events name is there
+-- ---- what events name exists
 
--- The method is there, with its entity and its name.
+-- The method exists, with its entity and its name.
 abbrev pub HasName : CoreData → (method : ℕ) → Type 0
 HasName core m = (x : Method) × (slice_get core.methods m ≡ Some x) × IsSome (slice_get core.entities x.entity) × IsSome (slice_get core.names x.name)
 

@@ -1,4 +1,4 @@
--- A turn of a run: what its step does, and what becomes of the places at which waiting messages were sent.
+-- A turn of a run: what its step does, and how it changes the places at which waiting messages were sent.
 use Rattle.std.specs.Prelude.{◌≡◌, ◌<◌, ℕ, if◌then◌else◌, nat_lt, List, [], ◌∷◌, ◌++◌, drop, length, Option, Some, None, slice_get}
 use Rattle.std.specs.FinMap.{len}
 use Rattle.pc_heap.specs.Objects.{class_at}
@@ -38,8 +38,8 @@ abbrev pub task_deed : Option Access → Option Deed → Option Deed
 task_deed None made = made
 task_deed (Some x) made = Some (deed.Touch x)
 
--- What a step of this kind did, by what was seen before it and by the configuration after it. A message that it took was sent at this
--- place.
+-- What a step of this kind did, given what was seen before it and the configuration after it. A message that it took
+-- was sent at this place.
 abbrev pub deed_by : Ahead → Sight → Configuration → (actor sent : ℕ) → Option Deed
 deed_by ahead.Take s d i sent = s.method >>= (λ m. Some (deed.Take m sent))
 deed_by (ahead.Send r) s d i sent = s.method >>= (λ m. Some (deed.Send r m))
@@ -58,7 +58,7 @@ abbrev pub first_row : Option (List ℕ) → ℕ
 first_row None = 0
 first_row (Some row) = first_of row
 
--- The place at which the message was sent that a step of this kind takes; 0 if it takes none.
+-- The place at which the message that a step of this kind takes was sent; 0 if it takes none.
 abbrev pub sent_by : Ahead → (actor : ℕ) → List (List ℕ) → ℕ
 sent_by ahead.Take i posts = first_row (slice_get posts i)
 sent_by (ahead.Send r) i posts = 0

@@ -41,7 +41,7 @@ fn object_made(machine: &Machine<'_>, actor: u32, before: u64) -> Option<Deed>
     }
 }
 
-// What a task did that sent nothing and made no actor.
+// What a task did that sent no message and made no actor.
 fn task_deed(machine: &Machine<'_>, actor: u32, seen: &Sight) -> Option<Deed>
     ensures { result ≡ spec.task_deed seen.now.access (spec.object_made seen.now.objects machine.now.configuration actor) }
 {
@@ -51,8 +51,8 @@ fn task_deed(machine: &Machine<'_>, actor: u32, seen: &Sight) -> Option<Deed>
     }
 }
 
-/// What a step of an actor did, by what was known of it before and by the machine after it. A message that it took was sent at this
-/// place.
+/// What a step of an actor did, given what was known of it before and the machine after it. A message that it took was
+/// sent at this place.
 pub fn deed_after(machine: &Machine<'_>, actor: u32, seen: &Sight, sent: u64) -> Option<Deed>
     ensures { result ≡ spec.deed_after seen.now machine.now.configuration actor sent }
 {

@@ -13,13 +13,13 @@ pub enum Deed {
     Send { receiver: u32, method: u32 },
     /// It makes this actor, for which a message of this method then waits.
     Make { actor: u32, method: u32 },
-    /// It makes an object of this entity, at this address. The object is no actor's own object.
+    /// It makes an object of this entity, at this address. The object is not an actor's own object.
     New { address: Address, entity: u32 },
     /// It reads or writes a field of an object.
     Touch(Access),
 }
 
-/// An event of a run that is more than a plain step, and what was known to its actor then.
+/// An event of a run that is more than a plain step, and what its actor knew then.
 #[derive(Debug, Drop)]
 pub struct RunEvent {
     /// The place of the event in the list, counted from 1.
@@ -28,6 +28,6 @@ pub struct RunEvent {
     pub actor: u32,
     /// What it does.
     pub deed: Deed,
-    /// For each actor that there was then, the number of its events that are this one or come before it.
+    /// For each actor that existed then, the number of its events that are this one or come before it.
     pub clock: List<u64>,
 }

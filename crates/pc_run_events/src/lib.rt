@@ -1,10 +1,12 @@
-//! The events of a run that are no plain steps, each with its clock: messages that are taken and sent, actors and objects that are
-//! made, fields that are read and written. `specs/Events.antt` says which they are, `docs/events.md` what is written of them.
+//! The events of a run that are more than plain steps, each with its clock: messages that are taken and sent, actors
+//! and objects that are made, fields that are read and written. `specs/Events.antt` defines which they are, and
+//! `docs/events.md` what is written of them.
 //!
-//! Proved: `accepted_events` gives exactly these events of the run of a safe core, in order, each with the clock of `pc_events`. A message
-//! that is taken is the one that the event at its place put into the mailbox. The method of a message is that of the message in the
-//! mailbox, and an object that is made stands at an address that had none before. The accesses among the events are those of `pc_trace`,
-//! and those that conflict are ordered. `write_events` gives their lines, byte for byte.
+//! Proved: `accepted_events` returns exactly these events of the run of a safe core, in order, each with the clock of
+//! `pc_events`. A message that is taken is the one that the event at its place put into the mailbox. The method of a
+//! message is that of the message in the mailbox, and an object that is made is at an address that had none before. The
+//! accesses among the events are those of `pc_trace`, and those that conflict are ordered. `write_events` writes their
+//! lines, byte for byte.
 #![tactic(auto)]
 
 mod deeds;

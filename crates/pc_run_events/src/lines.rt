@@ -13,7 +13,7 @@ use pc_heap::Address;
 use pc_semantics::Access;
 use std::alloc::{AllocError, Global};
 
-// Puts a number at the end.
+// Appends a number.
 fn push_number(text: &mut Vec<u8>, number: u64) -> Result<(), AllocError>
     ensures { OnOk result (text.new.items ≡ text.old.items ++ decimal number) }
 {
@@ -21,7 +21,7 @@ fn push_number(text: &mut Vec<u8>, number: u64) -> Result<(), AllocError>
     text.extend_from_slice(buffer.format(number).as_bytes())
 }
 
-// Puts numbers at the end, each after a comma.
+// Appends numbers, each after a comma.
 fn push_more(text: &mut Vec<u8>, numbers: &[u64]) -> Result<(), AllocError>
     ensures { OnOk result (text.new.items ≡ text.old.items ++ spec.more_text numbers.now) }
 {
@@ -32,7 +32,7 @@ fn push_more(text: &mut Vec<u8>, numbers: &[u64]) -> Result<(), AllocError>
     Ok(())
 }
 
-// Puts the numbers of a clock at the end, with one comma between two.
+// Appends the numbers of a clock, with a comma between any two.
 fn push_clock(text: &mut Vec<u8>, clock: &[u64]) -> Result<(), AllocError>
     ensures { OnOk result (text.new.items ≡ text.old.items ++ spec.clock_text clock.now) }
 {
@@ -52,7 +52,7 @@ fn kind_of(write: bool) -> &'static str
     if write { "write" } else { "read" }
 }
 
-// Puts an address at the end.
+// Appends an address.
 fn push_address(text: &mut Vec<u8>, address: Address) -> Result<(), AllocError>
     ensures { OnOk result (text.new.items ≡ text.old.items ++ spec.address_text address) }
 {
@@ -61,7 +61,7 @@ fn push_address(text: &mut Vec<u8>, address: Address) -> Result<(), AllocError>
     push_number(text, u64::from(address.serial))
 }
 
-// Puts an access at the end.
+// Appends an access.
 fn push_access(text: &mut Vec<u8>, access: &Access) -> Result<(), AllocError>
     ensures { OnOk result (text.new.items ≡ text.old.items ++ spec.access_text access.now) }
 {
@@ -72,7 +72,7 @@ fn push_access(text: &mut Vec<u8>, access: &Access) -> Result<(), AllocError>
     push_number(text, u64::from(access.field))
 }
 
-// Puts the taking of a message at the end.
+// Appends the take of a message.
 fn push_take(text: &mut Vec<u8>, core: &Core, method: u32, sent: u64) -> Result<(), AllocError>
     ensures { OnOk result (text.new.items ≡ text.old.items ++ spec.take_text core.now method sent) }
 {
@@ -82,7 +82,7 @@ fn push_take(text: &mut Vec<u8>, core: &Core, method: u32, sent: u64) -> Result<
     push_number(text, sent)
 }
 
-// Puts an actor and the method of a message for it at the end.
+// Appends an actor and the method of a message for it.
 fn push_message(text: &mut Vec<u8>, core: &Core, actor: u32, method: u32) -> Result<(), AllocError>
     ensures { OnOk result (text.new.items ≡ text.old.items ++ spec.message_text core.now actor method) }
 {
@@ -91,7 +91,7 @@ fn push_message(text: &mut Vec<u8>, core: &Core, actor: u32, method: u32) -> Res
     push_method(text, core, method)
 }
 
-// Puts the making of an object at the end.
+// Appends the making of an object.
 fn push_new(
     text: &mut Vec<u8>,
     core: &Core,
@@ -106,7 +106,7 @@ fn push_new(
     push_entity(text, core, entity)
 }
 
-// Puts what an event does at the end.
+// Appends what an event does.
 fn push_deed(text: &mut Vec<u8>, core: &Core, deed: &Deed) -> Result<(), AllocError>
     ensures { OnOk result (text.new.items ≡ text.old.items ++ spec.deed_text core.now deed.now) }
 {
@@ -125,7 +125,7 @@ fn push_deed(text: &mut Vec<u8>, core: &Core, deed: &Deed) -> Result<(), AllocEr
     }
 }
 
-// Puts the place and the actor of an event at the end.
+// Appends the place and the actor of an event.
 fn push_words(alloc: Global, text: &mut Vec<u8>, event: &RunEvent) -> Result<(), AllocError>
     ensures { OnOk result (text.new.items ≡ text.old.items ++ spec.event_words event.now) }
 {
@@ -133,7 +133,7 @@ fn push_words(alloc: Global, text: &mut Vec<u8>, event: &RunEvent) -> Result<(),
     text.extend_from_slice(words.as_bytes())
 }
 
-// Puts the line of an event at the end.
+// Appends the line of an event.
 fn push_event(
     alloc: Global,
     text: &mut Vec<u8>,
@@ -149,7 +149,7 @@ fn push_event(
     text.extend_from_slice(b"\n")
 }
 
-// Puts the lines of events at the end.
+// Appends the lines of events.
 fn push_events(
     alloc: Global,
     text: &mut Vec<u8>,
@@ -187,7 +187,7 @@ fn count_accesses(events: &[RunEvent]) -> usize
     count
 }
 
-// Puts the last line at the end.
+// Appends the last line.
 fn push_counts(
     alloc: Global,
     text: &mut Vec<u8>,

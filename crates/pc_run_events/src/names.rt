@@ -5,7 +5,7 @@ ghost use Rattle.pc_run_events.specs.Names as spec;
 use pc_core::{Core, Method};
 use std::alloc::AllocError;
 
-/// Puts the name of an entity at the end, by its number; nothing if there is no such entity.
+/// Appends the name of an entity, by its number; nothing if there is no such entity.
 pub fn push_entity(text: &mut Vec<u8>, core: &Core, entity: u32) -> Result<(), AllocError>
     ensures { OnOk result (text.new.items ≡ text.old.items ++ spec.entity_name (slice_get core.now.entities entity)) }
 {
@@ -15,7 +15,7 @@ pub fn push_entity(text: &mut Vec<u8>, core: &Core, entity: u32) -> Result<(), A
     }
 }
 
-// Puts the name of this number at the end.
+// Appends the name with this number.
 fn push_name(text: &mut Vec<u8>, core: &Core, name: u32) -> Result<(), AllocError>
     ensures { OnOk result (text.new.items ≡ text.old.items ++ spec.name_text (slice_get core.now.names name)) }
 {
@@ -25,7 +25,7 @@ fn push_name(text: &mut Vec<u8>, core: &Core, name: u32) -> Result<(), AllocErro
     }
 }
 
-// Puts a method at the end, by its entity's name and its own.
+// Appends a method, by its entity's name and its own.
 fn push_found(text: &mut Vec<u8>, core: &Core, method: &Method) -> Result<(), AllocError>
     ensures { OnOk result (text.new.items ≡ text.old.items ++ spec.method_text core.now (Some method.now)) }
 {
@@ -34,7 +34,7 @@ fn push_found(text: &mut Vec<u8>, core: &Core, method: &Method) -> Result<(), Al
     push_name(text, core, method.name)
 }
 
-/// Puts a method at the end as `E.m`, by its number; nothing if there is no such method.
+/// Appends a method as `E.m`, by its number; nothing if there is no such method.
 pub fn push_method(text: &mut Vec<u8>, core: &Core, method: u32) -> Result<(), AllocError>
     ensures { OnOk result (text.new.items ≡ text.old.items ++ spec.method_text core.now (slice_get core.now.methods method)) }
 {

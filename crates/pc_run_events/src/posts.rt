@@ -1,4 +1,4 @@
-//! At which places the messages that wait were sent.
+//! The places at which the messages that wait were sent.
 ghost use Rattle.std.specs.Prelude.{◌≡◌, ◌<◌, ◌++◌, ◌∷◌, [], drop, length, slice_get, OnOk};
 ghost use Rattle.pc_run_events.specs.Posts.{RowAt, first_of};
 
@@ -6,8 +6,8 @@ use std::alloc::{AllocError, Global};
 use std::collections::VecDeque;
 use std::marker::Model;
 
-/// The places at which the messages that wait for an actor were sent, that of the oldest first. Places are counted from 1; a message
-/// that no event sent has 0.
+/// The places at which the messages that wait for an actor were sent, the oldest message's first. Places are counted
+/// from 1; a message that no event sent has 0.
 #[derive(Drop)]
 pub struct Row {
     waiting: VecDeque<u64>,
@@ -39,7 +39,7 @@ impl Row {
         Ok(())
     }
 
-    // The oldest message goes. 0 if none waits.
+    // The oldest message is removed. 0 if none waits.
     fn take(&mut self) -> u64
         ensures place { result ≡ first_of self.old }
         ensures rest { self.new ≡ drop 1 self.old }
@@ -51,7 +51,7 @@ impl Row {
     }
 }
 
-/// For each actor the places at which the messages that wait for it were sent.
+/// For each actor, the places at which the messages that wait for it were sent.
 #[derive(Drop)]
 pub struct Posts {
     all: Vec<Row>,
@@ -66,7 +66,7 @@ impl Model for Posts {
 }
 
 impl Posts {
-    /// No actor. It does not allocate.
+    /// No actors. It does not allocate.
     pub fn new(alloc: Global) -> Posts
         ensures { result ≡ [] }
     {
@@ -75,7 +75,7 @@ impl Posts {
         }
     }
 
-    /// An actor after the others, for which no message waits.
+    /// Appends an actor for which no message waits.
     pub fn add_idle(&mut self, alloc: Global) -> Result<(), AllocError>
         ensures { OnOk result (self.new ≡ self.old ++ [] ∷ []) }
     {
@@ -83,7 +83,7 @@ impl Posts {
         Ok(())
     }
 
-    /// An actor after the others, for which a message waits that was sent at this place.
+    /// Appends an actor for which a message waits that was sent at this place.
     pub fn add_waiting(&mut self, alloc: Global, place: u64) -> Result<(), AllocError>
         ensures { OnOk result (self.new ≡ self.old ++ (place ∷ []) ∷ []) }
     {
@@ -93,7 +93,7 @@ impl Posts {
         Ok(())
     }
 
-    /// A message for an actor that was sent at this place.
+    /// A message for an actor, sent at this place.
     pub fn put(&mut self, actor: usize, place: u64) -> Result<(), AllocError>
         requires { actor < length self.old }
         ensures { OnOk result (RowAt self.old self.new actor (λ s t. t ≡ s ++ place ∷ [])) }
@@ -101,7 +101,7 @@ impl Posts {
         put_at(&mut self.all, actor, place)
     }
 
-    /// The oldest message of an actor is taken. Answers the place at which it was sent, or 0 if none waits.
+    /// The oldest message of an actor is taken. Returns the place at which it was sent, or 0 if none waits.
     pub fn take(&mut self, actor: usize) -> u64
         requires { actor < length self.old }
         ensures { RowAt self.old self.new actor (λ s t. (result ≡ first_of s) × (t ≡ drop 1 s)) }
@@ -119,7 +119,7 @@ fn put_at(all: &mut Vec<Row>, actor: usize, place: u64) -> Result<(), AllocError
     row.put(place)
 }
 
-// The oldest message of one of these goes.
+// The oldest message of one of these is removed.
 fn take_at(all: &mut Vec<Row>, actor: usize) -> u64
     requires { actor < length all.old.items }
     ensures { RowAt all.old.items all.new.items actor (λ s t. (result ≡ first_of s) × (t ≡ drop 1 s)) }

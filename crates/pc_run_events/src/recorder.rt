@@ -23,7 +23,7 @@ use pc_semantics::{Ahead, Outcome};
 use pc_trace::{ACTOR_LIMIT, TraceFault};
 use std::alloc::{AllocError, Global};
 
-// The clocks at the start of a program: nobody, or the stream and Main, for whom a message waits that no event sent.
+// The clocks at the start of a program: no actors, or the stream and Main, for whom a message waits that no event sent.
 fn first_seats(alloc: Global, actors: u32) -> Result<Seats, AllocError>
     ensures { IfOk result (λ seats. seats ≡ seats_at_start actors) }
 {
@@ -35,7 +35,7 @@ fn first_seats(alloc: Global, actors: u32) -> Result<Seats, AllocError>
     Ok(seats)
 }
 
-// The same of the places at which messages were sent.
+// The same for the places at which messages were sent.
 fn first_posts(alloc: Global, actors: u32) -> Result<Posts, AllocError>
     ensures { IfOk result (λ posts. posts ≡ posts_at_start actors) }
 {
@@ -81,8 +81,8 @@ fn moved(outcome: Outcome, place: u64) -> Result<bool, TraceFault>
     }
 }
 
-// What becomes of the places at which waiting messages were sent, after a step of this kind at this place. Answers the place at which
-// the message was sent that the step took, and 0 if it took none.
+// Updates the places at which waiting messages were sent, after a step of this kind at this place. Returns the place at
+// which the message that the step took was sent, or 0 if it took none.
 fn post(
     alloc: Global,
     posts: &mut Posts,
@@ -176,10 +176,10 @@ fn turn(
     Ok(())
 }
 
-/// The events of a run of a core that are no plain steps, in order, with their clocks.
+/// The events of a run of a core that are more than plain steps, in order, with their clocks.
 ///
 /// # Errors
-/// - `TooLong` and `Lacks` iff a step of the list ends the run so, with its place, counted from 1.
+/// - `TooLong` and `Lacks` iff a step of the list ends the run in this way, with its place, counted from 1.
 /// - `TooMany` iff a step would make the 65th actor, with its place; the first of these three.
 /// - `Memory` if memory ran out.
 pub fn recorded(alloc: Global, core: &Core, list: &[u32]) -> Result<List<RunEvent>, TraceFault>

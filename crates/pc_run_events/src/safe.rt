@@ -14,9 +14,9 @@ use pc_core::Core;
 use pc_trace::{AcceptedFault, TraceFault};
 use std::alloc::Global;
 
-/// The events of a run of a safe core that are no plain steps, in order, each with its clock. The accesses among them are those that
-/// `pc_trace` reports, and those that conflict are ordered. The methods and entities that they name are there, with their names. The
-/// list has at most 4,000,000 places.
+/// The events of a run of a safe core that are more than plain steps, in order, each with its clock. The accesses among
+/// them are those that `pc_trace` reports, and those that conflict are ordered. The methods and entities that they name
+/// exist and have names. The list has at most 4,000,000 places.
 ///
 /// # Errors
 /// - `TooLong` iff a step of the list would make a text that is too long, with its place, counted from 1.

@@ -1,4 +1,4 @@
-//! Machines of accepted programs, behind the steps of lists of actors.
+//! Machines of accepted programs after the steps of lists of actors.
 ghost use Rattle.std.specs.Prelude.{◌≤◌, length};
 ghost use Rattle.pc_valid.specs.Valid.{Valid};
 ghost use Rattle.pc_machine.specs.Limits.{list_limit};
@@ -35,7 +35,7 @@ fn seen_of(machine: &Machine<'_>, two: (u32, u32)) -> Seen {
     }
 }
 
-// What is seen of the machine behind a list of actors, as `accepted_runs` answers it.
+// What is seen of the machine after a list of actors, as `accepted_runs` returns it.
 fn seen_in_run(
     alloc: Global,
     core: &Core,
@@ -52,7 +52,7 @@ fn seen_in_run(
     }
 }
 
-// The same as `accepted_is_safe` answers it.
+// The same as `accepted_is_safe` returns it.
 fn seen_in_safe_run(
     alloc: Global,
     core: &Core,
@@ -69,7 +69,7 @@ fn seen_in_safe_run(
     }
 }
 
-// What is seen in both ways, where it is the same.
+// What is seen in both ways, if it is the same.
 fn seen_in_both(alloc: Global, core: &Core, actors: &[u32], two: (u32, u32)) -> Option<Seen>
     requires { length actors.now ≤ list_limit }
 {
@@ -105,7 +105,7 @@ fn push_turn(list: &mut Vec<u32>, actor: u32, times: u32) -> Result<(), AllocErr
     Ok(())
 }
 
-// The list of actors that turns are, each an actor and how often.
+// The list of actors for these turns, each an actor and a number of steps.
 fn list_of(alloc: Global, turns: &[(u32, u32)]) -> Result<Vec<u32>, AllocError> {
     let mut list = Vec::new(alloc);
     for (actor, times) in turns {
@@ -114,8 +114,8 @@ fn list_of(alloc: Global, turns: &[(u32, u32)]) -> Result<Vec<u32>, AllocError> 
     Ok(list)
 }
 
-/// What is seen behind turns, of the machine and of two of its actors, where `accepted_runs` and `accepted_is_safe` answer
-/// the same. There is no answer where the program is not accepted, where a text is too long, and at want of memory.
+/// What is seen of the machine and of two of its actors after turns, if `accepted_runs` and `accepted_is_safe` agree.
+/// There is no answer if the program is not accepted, if a text is too long, or if memory ran out.
 pub fn seen_behind(
     alloc: Global,
     program: &[u8],

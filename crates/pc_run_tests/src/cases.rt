@@ -1,4 +1,4 @@
-//! Runs of small programs: what they answer and write. Each is tried once more where memory was wanting.
+//! Runs of small programs: what they return and write. Each is tried once more if memory ran out.
 use crate::programs::run_program;
 use pc_io::MemSink;
 use pc_run::{Report, RunFault};
@@ -8,7 +8,7 @@ use std::alloc::Global;
 /// What a run reports: steps that moved and were skipped, actors, objects, and messages that wait.
 type Numbers = (u64, u64, u32, u64, u64);
 
-/// A run: its schedule, the calls of its sink that fail, each after so many bytes, and what it answers and writes.
+/// A run: its schedule, the calls of its sink that fail, each after a number of bytes, and what it returns and writes.
 pub(crate) type Run = (
     &'static [u8],
     &'static [(u32, u32)],
@@ -32,7 +32,7 @@ fn is_answer(answer: Result<Report, RunFault>, wanted: Result<Numbers, RunFault>
     }
 }
 
-// Whether a run to a sink answers and writes what it is to. There is no answer where memory was wanting and a prefix was
+// Whether a run to a sink returns and writes what it should. There is no answer if memory ran out and a prefix was
 // written.
 fn is_right(alloc: Global, program: &[u8], run: &Run, sink: &mut MemSink) -> Option<bool> {
     let (schedule, _, wanted, text) = *run;
@@ -54,7 +54,7 @@ fn is_right_once(alloc: Global, program: &[u8], run: &Run) -> Option<bool> {
     }
 }
 
-// Whether a program runs so, at the second time where memory was wanting at the first.
+// Whether a program runs like this, on the second try if memory ran out on the first.
 fn runs(alloc: Global, program: &[u8], run: &Run) -> bool {
     match is_right_once(alloc, program, run) {
         Some(right) => right,
@@ -98,7 +98,7 @@ fn a_run_writes_its_texts_and_then_its_numbers(rt: HostRuntime) {
     assert!(rt; all_run(rt.alloc(), HELLO, &HELLO_RUNS));
 }
 
-// The first join is the constructor's 24th step, a turn of the loop takes 12 steps, and the 12th join is too long.
+// The first join is the constructor's 24th step, a round of the loop takes 12 steps, and the 12th join is too long.
 const DOUBLES_RUNS: [Run; 3] = [
     (b"1*9 0 1*1000", &[], Err(RunFault::TooLong(157)), b"go\n"),
     (
@@ -134,8 +134,8 @@ const COUNTS: &[u8] = b"actor Main
 
 const COUNTED: &[u8] = b"\nsteps 974999 skipped 25001 actors 2 objects 3 waiting 0\n";
 
-// Whether a million turns to a sink are taken. Behind four steps the loop takes 12 each time, and the tenth of them sends: in
-// 900,000 turns that is 74,999 texts, each of which is a turn of the stream and a byte on the sink.
+// Whether a million turns to a sink are taken. After four steps, each round of the loop takes 12, and the tenth of them
+// sends: in 900,000 turns that is 74,999 texts, each of which is a turn of the stream and a byte on the sink.
 fn takes_a_million_turns(alloc: Global, sink: &mut MemSink) -> bool {
     match run_program(alloc, COUNTS, b"1*900000 0*100000", sink) {
         Ok(report) => {

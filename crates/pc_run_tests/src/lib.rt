@@ -1,4 +1,4 @@
-//! Tests of accepted programs, from their texts: a derivation that is found, whole runs, and machines behind a list.
+//! Tests of accepted programs, from their texts: a derivation that is found, whole runs, and machines after a list.
 #![tactic(auto)]
 
 #[cfg(test)]

@@ -29,7 +29,7 @@ fn is_accepted(alloc: Global, core: &Core) -> bool
     }
 }
 
-// Runs a core from its start on.
+// Runs a core from its start.
 fn run_core(
     alloc: Global,
     core: &Core,
@@ -66,7 +66,7 @@ fn run_accepted(
     }
 }
 
-/// Runs an accepted program over a schedule. What is no accepted program or no schedule is answered as want of memory.
+/// Runs an accepted program under a schedule. If one of them is invalid, the answer is that memory ran out.
 pub fn run_program(
     alloc: Global,
     program: &[u8],

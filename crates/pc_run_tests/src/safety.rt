@@ -3,7 +3,7 @@ use crate::behind::{Seen, seen_behind};
 use pc_test_inputs::programs::{HELLO, READERS};
 use std::alloc::Global;
 
-// Whether so many texts were printed and so many messages wait behind these turns of the program.
+// Whether this many texts are printed and this many messages wait after these turns of the program.
 fn are_counted(alloc: Global, turns: &[(u32, u32)], printed: usize, waiting: u64) -> bool {
     match seen_behind(alloc, HELLO, turns, (0, 1)) {
         Some(seen) => seen.actors == 2 && seen.printed == printed && seen.waiting == waiting,

@@ -1,4 +1,4 @@
-//! Runs of programs with bodies in traits and interfaces: what takes a body over runs it with its own names.
+//! Runs of programs with bodies in traits and interfaces: an entity that takes over a body runs it with its own names.
 use crate::cases::{Run, all_run};
 
 // Main takes 75 steps: 3 before the items, 35 for each of the two calls, one between them, and the return. Of a call's 35 steps

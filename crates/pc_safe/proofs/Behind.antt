@@ -1,4 +1,4 @@
--- A machine behind a list of actors of a safe core.
+-- A machine after a list of actors of a safe core.
 use Rattle.std.specs.Prelude.{ℕ, List, Result, Ok, Err}
 use Rattle.std.proofs.Common.{sym, subst}
 use Rattle.pc_core.specs.CoreData.{CoreData}

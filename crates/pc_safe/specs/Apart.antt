@@ -1,4 +1,4 @@
--- That no actors race in the machine that a run leaves, and that what waits there is let alone.
+-- No actors race in the machine that a run leaves, and what waits there is let alone.
 use Rattle.std.specs.Prelude.{Result, MatchResult}
 use Rattle.pc_core.specs.CoreData.{CoreData}
 use Rattle.pc_machine.specs.Machines.{MachineData}
@@ -10,7 +10,7 @@ use Rattle.pc_list_steps.specs.declared.fault.StepsFault.TheVariants.{TooLong, M
 abbrev pub IsApart : CoreData → MachineData → Type 0
 IsApart core machine = (Race core machine.configuration → ⊥) × Quiet core machine.configuration
 
--- So is that of the machine before a step that is too long.
+-- So does that of the machine before a step that is too long.
 abbrev pub StopsApart : CoreData → StepsFault → Type 0
 StopsApart core (TooLong step machine) = IsApart core machine
 StopsApart core Memory = Unit {0}

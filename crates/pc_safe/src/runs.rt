@@ -13,15 +13,15 @@ use pc_machine::{Machine, start};
 use pc_types::accepted_never_lacks;
 use std::alloc::Global;
 
-/// Runs an accepted core: the steps of these actors, one after the other, from its start. The list has at most 4,000,000
-/// actors.
+/// Runs an accepted core: takes the steps of these actors, one after another, from its start. The list has at most
+/// 4,000,000 actors.
 ///
-/// The promise on every list of actors holds whatever the call answers, and for lists of every length.
+/// The promise about every list of actors holds whatever the call returns, and for lists of any length.
 ///
 /// # Errors
-/// - `TooLong` exactly where a step of the list would make a text that is too long, with the place of the first such step and
-///   the machine before it.
-/// - `Memory` at want of memory.
+/// - `TooLong` iff a step of the list would make a text that is too long, with the place of the first such step and the
+///   machine before it.
+/// - `Memory` if memory ran out.
 pub fn accepted_runs<'p>(
     alloc: Global,
     core: &'p Core,
@@ -34,7 +34,7 @@ pub fn accepted_runs<'p>(
     // Over every list of actors, no actor's next step lacks its value, slot, object, field or method.
     ensures never_lacks { (list : Sequence ℕ) → LacksNothing core.now (after core.now list) }
 
-    // The machine is the one behind this list; or the list meets a text that is too long.
+    // The machine is the one after this list; or the list comes to a text that is too long.
     ensures ends { RunEnds core.now actors.now result }
 {
     core.formed();

@@ -14,15 +14,15 @@ use pc_machine::Machine;
 use pc_regions::valid_is_safe;
 use std::alloc::Global;
 
-/// Runs an accepted core: the steps of these actors, one after the other, from its start. The list has at most 4,000,000
-/// actors.
+/// Runs an accepted core: takes the steps of these actors, one after another, from its start. The list has at most
+/// 4,000,000 actors.
 ///
-/// That the core is safe holds whatever the call answers, and for lists of every length.
+/// The core is safe whatever the call returns, and for lists of any length.
 ///
 /// # Errors
-/// - `TooLong` exactly where a step of the list would make a text that is too long, with the place of the first such step and
-///   the machine before it.
-/// - `Memory` at want of memory.
+/// - `TooLong` iff a step of the list would make a text that is too long, with the place of the first such step and the
+///   machine before it.
+/// - `Memory` if memory ran out.
 pub fn accepted_is_safe<'p>(
     alloc: Global,
     core: &'p Core,
@@ -32,11 +32,11 @@ pub fn accepted_is_safe<'p>(
     requires valid { Valid core.now ann.now }
     requires few { length actors.now ≤ list_limit }
 
-    // Behind every list of actors no two of them race, what waits in messages is let alone, and no actor's next step lacks
-    // its value, slot, object, field or method.
+    // After every list of actors, no two of them race, what waits in messages is let alone, and no actor's next step
+    // lacks its value, slot, object, field or method.
     ensures safe { Safe core.now }
 
-    // The machine is the one behind this list; or the list meets a text that is too long.
+    // The machine is the one after this list; or the list comes to a text that is too long.
     ensures ends { RunEnds core.now actors.now result }
 
     // In the machine no two actors race, and what waits in messages is let alone.
@@ -48,7 +48,7 @@ pub fn accepted_is_safe<'p>(
     accepted_runs(alloc, core, ann, actors)
 }
 
-/// A core is safe where some annotation of it is valid. The call does nothing.
+/// A core is safe if it has a valid annotation. The call does nothing.
 pub fn derivable_is_safe(core: &Core)
     requires derivable { Derivable core.now }
     ensures safe { Safe core.now }

@@ -1,4 +1,4 @@
--- A text is cut into pieces in one way, and they spell one list of turns.
+-- A text is cut into pieces in only one way, and they spell only one list of turns.
 use Rattle.std.proofs.Common.{◌≡◌, ℕ, ◌+◌, ◌<◌, ◌≤◌, List, [], ◌∷◌, ◌++◌, length, get_or, drop, refl, sym, ap, ap₂, ◌∙◌, subst, inl, inr, ◌⊎◌, arith, length-append}
 use Rattle.std.specs.List.{prefix_len}
 use Rattle.pc_sched.specs.declared.turns.Turn.{Turn}
@@ -15,7 +15,7 @@ word_run b r h = omega (arith, run_app no_blank b r h.1, end_none r h.2)
 no_both : (x : ℕ) (r b s : List ℕ) → x ∷ r ≡ b ++ s → IsPiece (blank x) r → IsPiece (word b) s → ⊥
 no_both x r b s e h i = omega (arith, end_none (x ∷ r) h, word_run b s i, ap (prefix_len no_blank) e, i.0)
 
--- two pieces that stand in front of one text are the same
+-- two pieces at the start of one text are the same
 pub piece_one : (p q : Piece) (r s : List ℕ) → bytes_of p ++ r ≡ bytes_of q ++ s → IsPiece p r → IsPiece q s → (p ≡ q) × (r ≡ s)
 piece_one (blank x) (blank y) r s e h i = (ap (λ l. blank (get_or l 0 0)) e, ap (drop 1) e)
 piece_one (blank x) (word c) r s e h i = absurd (no_both x r c s e h i)
@@ -45,7 +45,7 @@ spelled_one (word b ∷ ps) ts us h i = h.2 ∙ ap₂ (λ t l. t ∷ l) (turn_on
 pub turns_one : (text : List ℕ) (ts us : List Turn) → Turns text ts → Turns text us → ts ≡ us
 turns_one text ts us h i = spelled_one h.0 ts us h.2 (subst (λ l. Spelled l us) (sym (pieces_one h.0 i.0 text h.1 i.1)) i.2)
 
--- where a word stands, the cut to the end goes through it
+-- if there is a word, the cut to the end goes through it
 pub through : (ps qs : List Piece) (text b rest : List ℕ) → Pieces text ps (b ++ rest) → IsPiece (word b) rest → Pieces text qs [] → (ms : List Piece) × (qs ≡ ps ++ word b ∷ ms)
 through [] [] text b rest h w i = absurd (omega (arith, w.0, ap length h, ap length i, length-append b rest))
 through [] (q ∷ qs) text b rest h w i =
@@ -57,7 +57,7 @@ through (p ∷ ps) (q ∷ qs) text b rest h w i =
     let more = through ps qs h.0 b rest h.3 w (subst (λ l. Pieces l qs []) (sym one.1) i.3) in
     (more.0, ap₂ (λ x xs. x ∷ xs) (sym one.0) more.1)
 
--- Two words of a text: they are the same, or one comes behind the other.
+-- Two words of a text: they are the same, or one comes after the other.
 abbrev pub Meet : List Piece → List ℕ → List ℕ → List Piece → List ℕ → List ℕ → Type 0
 Meet ps b rest qs c more =
     ((b ≡ c) × (rest ≡ more) × (ps ≡ qs))
@@ -79,7 +79,7 @@ meet (p ∷ ps) (q ∷ qs) text b rest c more h w i v =
     let one = piece_one p q h.0 i.0 (sym h.1 ∙ i.1) h.2 i.2 in
     meet_on p q ps qs b rest c more one.0 (meet ps qs h.0 b rest c more h.3 w (subst (λ l. Pieces l qs (c ++ more)) (sym one.1) i.3) v)
 
--- The word spells a turn, and with it there are not too many.
+-- The word spells a turn, and with it there are not too many turns.
 abbrev pub Passes : List ℕ → List Turn → Type 0
 Passes b turns = (turn : Turn) × Spells b turn × (total turns + turn.times ≤ turn_limit)
 

@@ -45,7 +45,7 @@ pub starts_so : (text : List ℕ) → Sofar text 0 0 []
 starts_so text = record { pieces = []; within = omega arith; cut = refl; spelled = refl; counted = refl; few = omega arith }
 
 module _ (text : List ℕ) (at count : ℕ) (turns : List Turn) (inside : at < length text) (so : Sofar text at count turns) where
-  -- the word at the place, where one stands
+  -- the word at the place, if there is one
   word_stands : 0 < prefix_len no_blank (drop at text) → IsPiece (word (word_at text at)) (drop (prefix_len no_blank (drop at text)) (drop at text))
   word_stands some = (omega (arith, some, length-prefix_len no_blank (drop at text)), run_all no_blank (drop at text), run_ends (drop at text))
 

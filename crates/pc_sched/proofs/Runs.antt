@@ -13,12 +13,12 @@ ends_step : (b : ℕ) (bs : List ℕ) (n : ℕ) (t : Bool) → no_blank b ≡ t 
 ends_step b bs n true e more = let one : 1 + n ≡ suc n = omega arith in rw one more
 ends_step b bs n false e more = not-false (is_blank b) e
 
--- behind bytes that are no blanks, the text ends or a blank follows
+-- after bytes that are no blanks, the text ends or a blank follows
 pub run_ends : (text : List ℕ) → AtWordEnd (drop (prefix_len no_blank text) text)
 run_ends [] = tt
 run_ends (b ∷ bs) = ends_step b bs (prefix_len no_blank bs) (no_blank b) refl (run_ends bs)
 
--- where a word ends, no byte of one follows
+-- where a word ends, no byte of a word follows
 pub end_none : (rest : List ℕ) → AtWordEnd rest → prefix_len no_blank rest ≡ 0
 end_none [] h = refl
 end_none (b ∷ bs) h = rw h refl
@@ -27,6 +27,6 @@ first_step : (b : ℕ) (n : ℕ) (t : Bool) → no_blank b ≡ t → cond t (1 +
 first_step b n true e none = absurd (omega (arith, none))
 first_step b n false e none = not-false (is_blank b) e
 
--- where no word begins, a blank does
+-- if no word begins, a blank does
 pub first_blank : (b : ℕ) (bs : List ℕ) → prefix_len no_blank (b ∷ bs) ≡ 0 → is_blank b ≡ true
 first_blank b bs none = first_step b (prefix_len no_blank bs) (no_blank b) refl none

@@ -44,7 +44,7 @@ same_cases text p q ts us b c s z (inl (one, same, all)) =
 same_cases text p q ts us b c s z (inr (inl (ms, is))) = absurd (s.stops (passes s.here.pieces ms z.here.pieces b ts us s.here.spelled z.here.spelled is z.here.few))
 same_cases text p q ts us b c s z (inr (inr (ms, is))) = absurd (z.stops (passes z.here.pieces ms s.here.pieces c us ts z.here.spelled s.here.spelled is s.here.few))
 
--- two words at which there is no going on are the same
+-- two words that cannot be passed are the same
 same : (text : List ℕ) (p q : ℕ) (ts us : List Turn) (b c : List ℕ) → Stopped text p ts b → Stopped text q us c → (p ≡ q) × (b ≡ c)
 same text p q ts us b c s z = same_cases text p q ts us b c s z (meet s.here.pieces z.here.pieces text b s.here.rest c z.here.rest s.here.cut s.here.stands z.here.cut z.here.stands)
 
@@ -110,14 +110,14 @@ pub is_answer : (text : List ℕ) (result : Result (List Turn) SchedFault) → I
 is_answer text (Ok turns) ok err = ok
 is_answer text (Err f) ok err = err
 
--- the turns within the limit are the answer
+-- the turns within the limit are returned
 pub answers_list : (text : List ℕ) (result : Result (List Turn) SchedFault) (turns : List Turn) → IsAnswer text result → TurnList text turns → Answers result (Ok turns)
 answers_list text (Ok other) turns right h = inl (ap Ok (turns_one text other turns right.0 h.0))
 answers_list text (Err (fault.BadWord p)) turns right h = absurd (never_both text turns (fault.BadWord p) h right)
 answers_list text (Err (fault.TooMany p)) turns right h = absurd (never_both text turns (fault.TooMany p) h right)
 answers_list text (Err fault.Memory) turns right h = inr refl
 
--- the first fault is the answer
+-- the first fault is returned
 pub answers_fault : (text : List ℕ) (result : Result (List Turn) SchedFault) (g : SchedFault) → IsAnswer text result → FirstFault text g → Answers result (Err g)
 answers_fault text (Ok turns) g right h = absurd (never_both text turns g right h)
 answers_fault text (Err (fault.BadWord p)) g right h = inl (ap Err (fault_one text (fault.BadWord p) g right h))

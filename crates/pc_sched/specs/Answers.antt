@@ -1,4 +1,4 @@
--- What may be answered.
+-- What reading a schedule may return.
 use Rattle.std.specs.Prelude.{◌≡◌, ℕ, List, Result, Err, ◌⊎◌, ⊤}
 use Rattle.pc_sched.specs.declared.turns.Turn.{Turn}
 use Rattle.pc_sched.specs.declared.fault.SchedFault.{SchedFault}
@@ -10,6 +10,6 @@ abbrev pub Refuses : List ℕ → SchedFault → Type 0
 Refuses text fault.Memory = ⊤
 Refuses text f = FirstFault text f
 
--- The answer is this one, or memory ran out.
+-- The result is this answer, or memory ran out.
 abbrev pub Answers : Result (List Turn) SchedFault → Result (List Turn) SchedFault → Type 0
 Answers result wanted = (result ≡ wanted) ⊎ (result ≡ Err fault.Memory)

@@ -1,4 +1,4 @@
--- The laws on turns and faults.
+-- The laws of turns and faults.
 use Rattle.std.specs.Prelude.{◌≡◌, ℕ, List, ◌⊎◌}
 use Rattle.pc_sched.specs.declared.turns.Turn.{Turn}
 use Rattle.pc_sched.specs.declared.fault.SchedFault.{SchedFault}
@@ -12,7 +12,7 @@ OneList = (text : List ℕ) (one other : List Turn) → Turns text one → Turns
 abbrev pub ListOrFault : Type 0
 ListOrFault = (text : List ℕ) → ((turns : List Turn) × TurnList text turns) ⊎ ((f : SchedFault) × FirstFault text f)
 
--- It has not both.
+-- It does not have both.
 abbrev pub NotBoth : Type 0
 NotBoth = (text : List ℕ) (turns : List Turn) (f : SchedFault) → TurnList text turns → FirstFault text f → ⊥
 

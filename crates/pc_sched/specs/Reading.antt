@@ -1,4 +1,4 @@
--- How the piece with which a text begins is read.
+-- How the first piece of a text is read.
 use Rattle.std.specs.Prelude.{◌≡◌, ℕ, ◌+◌, ◌^◌, ◌<◌, ◌≤◌, nat_lt, Bool, ◌||◌, ◌==◌, List, [], ◌∷◌, ◌++◌, length, take, drop, Option, Some, None, if◌then◌else◌, ⊤, ◌⊎◌}
 use Rattle.std.specs.List.{prefix_len}
 use Rattle.std.specs.Char.{is_ascii_digit}
@@ -11,7 +11,7 @@ use Rattle.pc_sched.specs.Schedules.{no_blank, value}
 abbrev pub below : ℕ → Option ℕ
 below v = if nat_lt v (2 ^ 32) then Some v else None
 
--- whether a text is not one to ten digits
+-- whether a text is anything but one to ten digits
 abbrev pub no_digits : List ℕ → Bool
 no_digits b = length b == 0 || nat_lt 10 (length b) || nat_lt (prefix_len is_ascii_digit b) (length b)
 
@@ -41,14 +41,14 @@ BelowOrNone (Some x) v = (x ≡ v) × (v < 2 ^ 32)
 abbrev pub word_at : List ℕ → ℕ → List ℕ
 word_at text at = take (prefix_len no_blank (drop at text)) (drop at text)
 
--- A blank was passed, or a word read: where it ends, how many turns there are then, and the turns.
+-- A blank was skipped, or a word read: where it ends, how many turns there are then, and the turns.
 abbrev pub Steps : List ℕ → (at total : ℕ) → (old new : List Turn) → ℕ × ℕ → Type 0
 Steps text at total old new r =
     ((prefix_len no_blank (drop at text) ≡ 0) × (r ≡ (at + 1, total)) × (new ≡ old))
     ⊎ ((turn : Turn) × (0 < prefix_len no_blank (drop at text)) × (turn_of (word_at text at) ≡ Some turn) × (total + turn.times ≤ turn_limit)
     × (r ≡ (at + prefix_len no_blank (drop at text), total + turn.times)) × (new ≡ old ++ turn ∷ []))
 
--- the fault of a step
+-- the step has this fault
 abbrev pub Stuck : List ℕ → (at total : ℕ) → SchedFault → Type 0
 Stuck text at total (fault.BadWord p) = (p ≡ at) × (0 < prefix_len no_blank (drop at text)) × (turn_of (word_at text at) ≡ None)
 Stuck text at total (fault.TooMany p) = (p ≡ at) × (0 < prefix_len no_blank (drop at text)) × (turn : Turn) × (turn_of (word_at text at) ≡ Some turn) × (turn_limit < total + turn.times)

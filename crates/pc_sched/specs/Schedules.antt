@@ -1,4 +1,4 @@
--- What turns a text spells, and its first fault where it spells none.
+-- The turns that a text spells, and its first fault if it spells none.
 --
 -- A text is cut into pieces, each a blank or a word. Each word spells a turn.
 use Rattle.std.specs.Prelude.{◌≡◌, ℕ, ◌+◌, ◌-◌, ◌*◌, ◌<◌, ◌≤◌, ◌^◌, Bool, true, not, ◌||◌, ◌==◌, List, [], ◌∷◌, ◌++◌, length, ◌⊎◌, ⊤}
@@ -30,22 +30,22 @@ abbrev pub AtWordEnd : List ℕ → Type 0
 AtWordEnd [] = ⊤
 AtWordEnd (b ∷ bs) = is_blank b ≡ true
 
--- One blank, or bytes that are no blanks, as many as there are, before the rest.
+-- One blank, or all non-blank bytes up to the next blank, before the rest.
 abbrev pub IsPiece : Piece → List ℕ → Type 0
 IsPiece (blank b) rest = is_blank b ≡ true
 IsPiece (word b) rest = (0 < length b) × (list_all no_blank b ≡ true) × AtWordEnd rest
 
--- The text is cut into these pieces, and the rest.
+-- The text is cut into these pieces and the rest.
 abbrev pub Pieces : List ℕ → List Piece → List ℕ → Type 0
 Pieces text [] rest = text ≡ rest
 Pieces text (p ∷ ps) rest = (mid : List ℕ) × (text ≡ bytes_of p ++ mid) × IsPiece p mid × Pieces mid ps rest
 
--- the number that decimal digits make behind those that made acc
+-- the number whose first digits give acc and whose next digits are these
 abbrev pub value : ℕ → List ℕ → ℕ
 value acc [] = acc
 value acc (b ∷ bs) = value (acc * 10 + (b - 48)) bs
 
--- One to ten digits, of a value below 2^32.
+-- One to ten digits whose value is below 2^32.
 pub record Number (b : List ℕ) (n : ℕ) : Type 0 where
   pub some : 0 < length b
   pub few : length b ≤ 10
@@ -53,7 +53,7 @@ pub record Number (b : List ℕ) (n : ℕ) : Type 0 where
   pub is : n ≡ value 0 b
   pub small : n < 2 ^ 32
 
--- The word is an actor's number, which is one turn, or that number, `*` and how many turns.
+-- The word is an actor's number, for one turn, or that number, `*` and a number of turns.
 abbrev pub Spells : List ℕ → Turn → Type 0
 Spells b turn =
     (Number b turn.actor × (turn.times ≡ 1))
@@ -65,20 +65,20 @@ Spelled [] turns = turns ≡ []
 Spelled (blank b ∷ ps) turns = Spelled ps turns
 Spelled (word b ∷ ps) turns = (turn : Turn) × (more : List Turn) × (turns ≡ turn ∷ more) × Spells b turn × Spelled ps more
 
--- how many turns there are
+-- the number of turns
 abbrev pub total : List Turn → ℕ
 total [] = 0
 total (turn ∷ turns) = turn.times + total turns
 
--- The text spells these turns. There is no limit on their number.
+-- The text spells these turns. Their number is not limited.
 abbrev pub Turns : List ℕ → List Turn → Type 0
 Turns text turns = (ps : List Piece) × Pieces text ps [] × Spelled ps turns
 
--- The text spells these turns, and they are not too many.
+-- The text spells these turns, and there are not too many.
 abbrev pub TurnList : List ℕ → List Turn → Type 0
 TurnList text turns = Turns text turns × (total turns ≤ turn_limit)
 
--- The word stands at a place, and all that is before it spells these turns, which are not too many.
+-- The word is at this place, and everything before it spells these turns, of which there are not too many.
 pub record WordAt (text : List ℕ) (at : ℕ) (turns : List Turn) (b : List ℕ) : Type 0 where
   pub pieces : List Piece
   pub rest : List ℕ
@@ -88,8 +88,8 @@ pub record WordAt (text : List ℕ) (at : ℕ) (turns : List Turn) (b : List ℕ
   pub few : total turns ≤ turn_limit
   pub place : at + length (b ++ rest) ≡ length text
 
--- The first fault of a text: the first word that spells no turn, or with whose turn there are too many. Want of memory
--- is none.
+-- The first fault of a text: the first word that spells no turn, or whose turn exceeds the limit. Running out of memory
+-- is not one.
 abbrev pub FirstFault : List ℕ → SchedFault → Type 0
 FirstFault text (fault.BadWord at) = (turns : List Turn) × (b : List ℕ) × WordAt text at turns b × ((turn : Turn) → Spells b turn → ⊥)
 FirstFault text (fault.TooMany at) = (turns : List Turn) × (b : List ℕ) × WordAt text at turns b × (turn : Turn) × Spells b turn × (turn_limit < total turns + turn.times)

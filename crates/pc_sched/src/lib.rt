@@ -1,10 +1,10 @@
-//! Schedules: which actor takes how many turns. `docs/schedules.md` says what their text is, `specs/Schedules.antt`
+//! Schedules: which actor takes how many turns. `docs/schedules.md` describes their text, `specs/Schedules.antt`
 //! defines it.
 //!
-//! Proved: `read` is Ok with exactly the turns that a schedule's text spells, or else names the first word that spells
-//! none or makes them too many; a text has turns or one first fault, and not both.
+//! Proved: `read` is Ok with the turns that a schedule's text spells, or else names the first word that spells none or
+//! makes them too many; a text has turns or one first fault, and not both.
 //!
-//! Not proved: time. Tests go to the limits, and look at no clock.
+//! Not proved: running times. Tests reach the limits, but measure no time.
 #![tactic(auto)]
 
 mod fault;

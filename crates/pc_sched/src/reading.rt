@@ -1,4 +1,4 @@
-//! The reading of a schedule, word by word.
+//! Reading a schedule, word by word.
 ghost use Rattle.std.specs.Prelude.{◌≡◌, ◌<◌, ◌≤◌, List as Sequence, length, Ok, Err, IfOk, IfErr};
 ghost use Rattle.std.specs.List.{prefix_len};
 ghost use Rattle.pc_sched.specs.declared.turns.Turn.{Turn};
@@ -24,7 +24,7 @@ fn is_blank(byte: u8) -> bool
     byte == b' ' || byte == b'\t' || byte == b'\r' || byte == b'\n'
 }
 
-/// How many bytes at the front are no blanks.
+/// The number of bytes at the front that are no blanks.
 fn word_len(text: &[u8]) -> usize
     ensures value { result ≡ prefix_len schedules.no_blank text.now }
     ensures within { result ≤ length text.now }
@@ -36,8 +36,8 @@ fn word_len(text: &[u8]) -> usize
     n
 }
 
-/// Reads the blank or the word at a place, and puts the turn of a word at the end of the turns, of which there are
-/// `total`. The answer is its end, and how many turns there are then.
+/// Reads the blank or the word at a place, and appends the turn of a word to the turns, of which there are `total`.
+/// Returns where it ends, and how many turns there are then.
 fn step(
     text: &[u8],
     at: usize,
@@ -66,7 +66,7 @@ fn step(
     Ok((at + n, total + turn.times))
 }
 
-/// Reads a text word by word to its end.
+/// Reads a text word by word, to its end.
 fn read_all(alloc: Global, text: &[u8]) -> Result<List<Turn>, SchedFault>
     requires { length text.now ≤ schedule_limit }
     ensures ok { IfOk result (TurnList text.now) }
@@ -81,21 +81,21 @@ fn read_all(alloc: Global, text: &[u8]) -> Result<List<Turn>, SchedFault>
     Ok(turns)
 }
 
-/// The turns that a text of at most 1,048,576 bytes spells: at most 1,000,000 of them.
+/// The turns that a text of at most 1,048,576 bytes spells, at most 1,000,000 of them.
 ///
-/// Words are separated by blanks: spaces, tabs, CR and LF. A word is an actor's number, or that number, a `*` and how
-/// many turns the actor takes. Each number has one to ten digits and is below 2^32. Without `*` it is one turn.
+/// Words are separated by blanks: spaces, tabs, CR and LF. A word is an actor's number, for one turn, or that number, a
+/// `*` and the number of turns. Each number has one to ten digits and is below 2^32.
 ///
-/// The first fault is that of the first word which is of no such form, or with which the turns are too many.
+/// The first fault is that of the first word that has no such form, or with which there are too many turns.
 pub fn read(alloc: Global, bytes: &[u8]) -> Result<List<Turn>, SchedFault>
     requires { length bytes.now ≤ schedule_limit }
-    // The turns are the text's.
+    // The turns are those of the text.
     ensures ok { IfOk result (TurnList bytes.now) }
     // The fault is the first of the text, or memory ran out.
     ensures err { IfErr result (Refuses bytes.now) }
-    // Where the text spells turns within the limit, they are the answer, unless memory ran out.
+    // If the text spells turns within the limit, they are returned, unless memory ran out.
     ensures listed { (turns : Sequence Turn) → TurnList bytes.now turns → Answers result (Ok turns) }
-    // Where there is a first fault, it is the answer, unless memory ran out.
+    // If there is a first fault, it is returned, unless memory ran out.
     ensures faulty { (fault : SchedFault) → FirstFault bytes.now fault → Answers result (Err fault) }
 {
     read_all(alloc, bytes)

@@ -1,4 +1,4 @@
-//! A word as turns: an actor's number, and how many times.
+//! A word as turns: an actor's number, and how often it is that actor's turn.
 ghost use Rattle.std.specs.Prelude.{◌≡◌, ◌≤◌, ◌+◌, ◌-◌, ◌*◌, length, true};
 ghost use Rattle.std.specs.List.{prefix_len, list_all};
 ghost use Rattle.pc_sched.specs.Schedules as schedules;
@@ -6,7 +6,7 @@ ghost use Rattle.std.specs.Char.{is_ascii_digit};
 ghost use Rattle.pc_sched.specs.Reading as reading;
 ghost use Rattle.pc_sched.specs.Reading.{BelowOrNone};
 
-/// So many turns of one actor, one behind the other.
+/// This number of turns of one actor, one after the other.
 #[derive(Clone, Copy, Debug, PartialEq, Eq)]
 pub struct Turn {
     /// The actor's number.
@@ -15,10 +15,10 @@ pub struct Turn {
     pub times: u32,
 }
 
-/// How many digits at most spell a number.
+/// The greatest number of digits of a number.
 const MOST_DIGITS: usize = 10;
 
-/// How many bytes at the front are digits.
+/// The number of bytes at the front that are digits.
 fn digits_len(text: &[u8]) -> usize
     ensures value { result ≡ prefix_len is_ascii_digit text.now }
     ensures within { result ≤ length text.now }
@@ -30,7 +30,7 @@ fn digits_len(text: &[u8]) -> usize
     n
 }
 
-/// A number with one digit more, if it is below 2^32.
+/// A number extended by one digit, if the result is below 2^32.
 fn with_digit(value: u32, byte: u8) -> Option<u32>
     requires { is_ascii_digit byte ≡ true }
     ensures { BelowOrNone result (value * 10 + (byte - 48)) }
@@ -38,7 +38,7 @@ fn with_digit(value: u32, byte: u8) -> Option<u32>
     value.checked_mul(10)?.checked_add((byte - b'0') as u32)
 }
 
-/// The number of some digits, if it is below 2^32.
+/// The number denoted by some digits, if it is below 2^32.
 #[tactic(auto, using(crate::proofs::Values::value_at, crate::proofs::Values::value_all, crate::proofs::Values::value_grows))]
 fn value_of(digits: &[u8]) -> Option<u32>
     requires { list_all is_ascii_digit digits.now ≡ true }

@@ -1,4 +1,4 @@
--- A row goes on, or another begins behind it.
+-- A row goes on, or another begins after it.
 use Rattle.std.proofs.Common.{◌≡◌, ◌≢◌, ◌<◌, ◌≤◌, ◌+◌, ◌^◌, ℕ, List, [], ◌∷◌, ◌++◌, length, take, get_or, refl, sym, ap, ◌∙◌, subst, arith}
 use Rattle.std.proofs.lemmas.List.{length-take-le, take_more}
 use Rattle.std.specs.List.{AllByRecursion}
@@ -65,7 +65,7 @@ begins list xs t actor small n r =
 pub one_more : (first : ℕ) (rest : List ℕ) (i : ℕ) (d : ℕ) (rows : List Turn) → i < length rest → RowsOf ((first ∷ take i rest) ++ get_or rest i d ∷ []) rows → RowsOf (first ∷ take (i + 1) rest) rows
 one_more first rest i d rows within r = subst (λ (l : List ℕ). RowsOf (first ∷ l) rows) (sym (take_more rest i d within)) r
 
--- What comes of a step of some actor, where that is the row's.
+-- The result of a step of some actor, if it is the row's.
 pub goes_on_with : (list : List ℕ) (xs : List Turn) (t : Turn) (actor : ℕ) → actor ≡ t.actor → t.times < turn_limit → RowsOf list (xs ++ t ∷ [])
     → RowsOf (list ++ actor ∷ []) (xs ++ record { actor = actor; times = t.times + 1 } ∷ [])
 goes_on_with list xs t actor e few r =

@@ -1,4 +1,4 @@
--- A list of steps has one line.
+-- A list of steps has only one line.
 use Rattle.std.proofs.Common.{◌≡◌, ◌<◌, ℕ, zero, suc, cond, nat_eq, List, [], ◌∷◌, ◌++◌, replicate, refl, sym, ap, ◌∙◌, arith}
 use Rattle.std.proofs.lemmas.Bool.{eq-eqb, ne_eqb}
 use Rattle.pc_sched.specs.declared.turns.Turn.{Turn}

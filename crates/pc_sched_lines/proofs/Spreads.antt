@@ -1,4 +1,4 @@
--- The steps of turns, one behind the other.
+-- The steps of turns, one after another.
 use Rattle.std.proofs.Common.{◌≡◌, ◌≤◌, ℕ, ◌+◌, List, [], ◌∷◌, ◌++◌, length, replicate, refl, sym, ap, ◌∙◌, arith, append_assoc, append-nil, length-append}
 use Rattle.std.proofs.lemmas.List.{length-replicate, replicate_more}
 use Rattle.pc_sched.specs.declared.turns.Turn.{Turn}
@@ -12,7 +12,7 @@ spread_app (t ∷ xs) ys = ap (λ l. replicate t.times t.actor ++ l) (spread_app
 pub spread_push : (xs : List Turn) (t : Turn) → spread (xs ++ t ∷ []) ≡ spread xs ++ replicate t.times t.actor
 spread_push xs t = spread_app xs (t ∷ []) ∙ ap (λ l. spread xs ++ l) (append-nil (replicate t.times t.actor))
 
--- A step behind the last turn is a turn with one step more.
+-- A step after the last turn is a turn with one more step.
 pub spread_longer : (xs : List Turn) (t : Turn) → spread (xs ++ record { actor = t.actor; times = t.times + 1 } ∷ []) ≡ spread (xs ++ t ∷ []) ++ t.actor ∷ []
 spread_longer xs t =
     spread_push xs (record { actor = t.actor; times = t.times + 1 }) ∙ ap (λ l. spread xs ++ l) (sym (replicate_more t.times t.actor))

@@ -4,17 +4,17 @@ use Rattle.std.specs.List.{AllByRecursion}
 use Rattle.pc_sched.specs.declared.turns.Turn.{Turn}
 use Rattle.pc_run.specs.Spreading.{spread}
 
--- The turn is of another actor than the first of these.
+-- The turn is of a different actor than the first of these.
 abbrev pub Differs : Turn → List Turn → Type 0
 Differs turn [] = ⊤
 Differs turn (next ∷ more) = turn.actor ≢ next.actor
 
--- Each turn has a step, and no two that follow one another are of one actor. So none of them could be longer.
+-- Each turn has a step, and no two successive turns are of one actor. So none of them could be longer.
 abbrev pub AreRows : List Turn → Type 0
 AreRows [] = ⊤
 AreRows (turn ∷ turns) = (0 < turn.times) × Differs turn turns × AreRows turns
 
--- Its numbers are such as a schedule may have.
+-- Its numbers are allowed in a schedule.
 abbrev pub Fits : Turn → Type 0
 Fits turn = (turn.actor < 2 ^ 32) × (turn.times < 2 ^ 32)
 

@@ -1,7 +1,8 @@
 //! Schedules from lists of steps: the steps of a schedule's turns as one list, and a list as the line of a schedule.
 //!
-//! Proved: `steps_of` gives the actors of all steps of some turns. `line_of` writes one line that is a schedule of exactly the
-//! steps of a list, in which each longest row of steps of one actor is one word; a list has one such line (`lines_are_one`).
+//! Proved: `steps_of` returns the actors of all steps of some turns. `line_of` writes one line that is a schedule of
+//! exactly the steps of a list, in which each maximal row of steps of one actor is one word; a list has only one such
+//! line (`lines_are_one`).
 #![tactic(auto)]
 
 mod laws;

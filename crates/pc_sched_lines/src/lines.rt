@@ -21,7 +21,7 @@ fn word_of(alloc: Global, turn: Turn) -> Result<String, AllocError>
     }
 }
 
-// Puts the word of a turn behind a text.
+// Appends the word of a turn to a text.
 fn push_word(alloc: Global, text: &mut Vec<u8>, turn: Turn) -> Result<(), AllocError>
     ensures { OnOk result (text.new.items ≡ text.old.items ++ line.word_of turn) }
 {
@@ -30,7 +30,7 @@ fn push_word(alloc: Global, text: &mut Vec<u8>, turn: Turn) -> Result<(), AllocE
     Ok(())
 }
 
-// Puts the words of turns behind a text, each behind a blank, and a line end.
+// Appends the words of turns to a text, each after a blank, and a line end.
 fn push_words(alloc: Global, text: &mut Vec<u8>, turns: &[Turn]) -> Result<(), AllocError>
     ensures { OnOk result (text.new.items ≡ text.old.items ++ line.words_behind turns.now) }
 {
@@ -42,7 +42,7 @@ fn push_words(alloc: Global, text: &mut Vec<u8>, turns: &[Turn]) -> Result<(), A
     Ok(())
 }
 
-// The words of turns with one blank between two, and a line end.
+// The words of turns with one blank between any two, and a line end.
 fn write_turns(alloc: Global, turns: &[Turn]) -> Result<List<u8>, AllocError>
     ensures { IfOk result (λ text. text ≡ line.line_of turns.now) }
 {
@@ -57,9 +57,9 @@ fn write_turns(alloc: Global, turns: &[Turn]) -> Result<List<u8>, AllocError>
     Ok(List::from_vec(text))
 }
 
-/// A list of at most 1,000,000 steps as one line of a schedule. Each longest row of steps of one actor is a word, the
-/// actor's number, or that number, a `*` and how many steps the row has where these are more than one. One blank stands
-/// between two words, and a line end behind the last.
+/// A list of at most 1,000,000 steps as one line of a schedule. Each maximal row of steps of one actor is a word: the
+/// actor's number, or that number, a `*` and the number of steps in the row if there are several. There is one blank
+/// between any two words, and a line end after the last.
 #[tactic(auto, using(crate::proofs::Spelling::is_line))]
 pub fn line_of(alloc: Global, list: &[u32]) -> Result<List<u8>, AllocError>
     requires { length list.now ≤ turn_limit }

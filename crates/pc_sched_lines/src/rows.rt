@@ -7,7 +7,8 @@ use pc_caps::List;
 use pc_sched::Turn;
 use std::alloc::{AllocError, Global};
 
-// The row that is made behind finished ones, where a step of this actor comes. One that ends there is put behind those.
+// The row in the making, which follows the finished ones, after a step of this actor. If the step ends it, it is added
+// to them.
 fn with_step(rows: &mut List<Turn>, row: Turn, actor: u32) -> Result<Turn, AllocError>
     requires { row.times < turn_limit }
     ensures { (list : Sequence ℕ) → RowsOf list (rows.old ++ row ∷ []) → IfOk result (λ next. RowsOf (list ++ actor ∷ []) (rows.new ++ next ∷ [])) }

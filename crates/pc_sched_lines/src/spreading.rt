@@ -6,7 +6,7 @@ use pc_caps::List;
 use pc_sched::Turn;
 use std::alloc::{AllocError, Global};
 
-// Puts the steps of a turn behind a list.
+// Appends the steps of a turn to a list.
 fn push_steps(list: &mut List<u32>, turn: Turn) -> Result<(), AllocError>
     ensures { OnOk result (list.new ≡ list.old ++ replicate turn.times turn.actor) }
 {
@@ -16,7 +16,7 @@ fn push_steps(list: &mut List<u32>, turn: Turn) -> Result<(), AllocError>
     Ok(())
 }
 
-/// The actors of all steps that turns are, one after the other.
+/// The actors of all steps of these turns, one after another.
 pub fn steps_of(alloc: Global, turns: &[Turn]) -> Result<List<u32>, AllocError>
     ensures { IfOk result (λ list. list ≡ spread turns.now) }
 {

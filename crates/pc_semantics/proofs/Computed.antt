@@ -1,4 +1,4 @@
--- The small programs, computed. Where a step looks at objects, the laws of maps say what is there.
+-- The small programs, computed. If a step looks at objects, the laws of maps determine what is there.
 use Rattle.pc_semantics.proofs.Maps.{get_inserted, gets, counts, makes}
 use Rattle.pc_semantics.proofs.Parts.{text_is, Leads, then_run, then_moves}
 use Rattle.std.specs.Prelude.{◌≡◌, ℕ, zero, suc, Bool, true, false, List, [], ◌∷◌, ◌++◌, length, replicate, Some, codes, refl}
@@ -116,7 +116,7 @@ taken_in_order =
 
 -- ---- a constructor
 
--- The address of the first object that Main makes, and the object before and behind its constructor.
+-- The address of the first object that Main makes, and the object before and after its constructor.
 abbrev new_address : Address
 new_address = record { maker = 1; serial = 1 }
 

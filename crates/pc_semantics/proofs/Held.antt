@@ -1,4 +1,4 @@
--- The slots of a frame, of which the empty ones behind the others are not held.
+-- The slots of a frame, whose last empty ones are not stored.
 use Rattle.std.proofs.Common.{◌≡◌, ℕ, zero, suc, ◌≤◌, List, [], ◌∷◌, ◌++◌, None, slice_get, set, replicate, length, refl, sym, ap, ◌∙◌, arith}
 use Rattle.std.specs.Prelude.{Option}
 use Rattle.pc_semantics.specs.Fields.{held}
@@ -12,7 +12,7 @@ nothing_past [] (suc n) (suc slot) l = nothing_past [] n slot (omega arith)
 nothing_past (x ∷ xs) n zero l = absurd (omega arith)
 nothing_past (x ∷ xs) n (suc slot) l = nothing_past xs n slot (omega arith)
 
--- An empty slot that is made empty is as it was.
+-- Making an empty slot empty changes nothing.
 pub same_past : (xs : List (Option Value)) (n slot : ℕ) → length xs ≤ slot → xs ++ replicate n None ≡ set (xs ++ replicate n None) slot None
 same_past [] zero slot l = refl
 same_past [] (suc n) zero l = refl
@@ -20,7 +20,7 @@ same_past [] (suc n) (suc slot) l = ap (λ z. None ∷ z) (same_past [] n slot (
 same_past (x ∷ xs) n zero l = absurd (omega arith)
 same_past (x ∷ xs) n (suc slot) l = ap (λ z. x ∷ z) (same_past xs n slot (omega arith))
 
--- Where there is no empty slot behind the held ones, or the slot is one of these, a value goes into what is held.
+-- If there are no empty slots after the stored ones, or the slot is one of these, a value goes into what is stored.
 pub put_front : (xs : List (Option Value)) (n slot : ℕ) (v : Option Value) → ((length xs ≤ slot) → (n ≡ 0)) → set xs slot v ++ replicate n None ≡ set (xs ++ replicate n None) slot v
 put_front [] n slot v all =
     let none : n ≡ 0 = all (omega arith) in

@@ -1,4 +1,4 @@
--- The tasks of a frame, from the entries that stand for them.
+-- The tasks of a frame, from the entries that represent them.
 use Rattle.std.proofs.Common.{◌≡◌, ℕ, ◌<◌, List, [], ◌∷◌, ◌++◌, Some, None, slice_get, take, drop, set, map, refl, sym, ap, ◌∙◌}
 use Rattle.std.proofs.lemmas.Option.{same_Some, none-some}
 use Rattle.pc_semantics.specs.declared.frames.Task.{Task}
@@ -16,7 +16,7 @@ pub no_task : (es : List Entry) → slice_get es 0 ≡ None → None ≡ slice_g
 no_task [] is = refl
 no_task (x ∷ es) is = absurd (none-some x (sym is))
 
--- The items of a sequence are the first one's evaluation and then the others, each behind a drop.
+-- The items of a sequence are the evaluation of the first and then the others, each after a drop.
 pub items_are : (c : ℕ) (cs : List ℕ) → items (c ∷ cs) ≡ task.Eval c ∷ as_items cs
 items_are c [] = refl
 items_are c (d ∷ cs) = ap (λ ts. task.Eval c ∷ task.Discard ∷ ts) (items_are d cs)
@@ -28,7 +28,7 @@ items_from (x ∷ cs) shared c is same =
     ∙ sym (items_are c cs)
     ∙ ap (λ z. items (z ∷ cs)) (sym (same_Some x c (sym is)))
 
--- The second entry goes on behind its first task.
+-- The second entry goes on after its first task.
 pub second_goes_on : (es : List Entry) (x a n e : Entry) → slice_get (x ∷ es) 1 ≡ Some e → entry_tasks n ≡ behind_tasks e.behind → all_tasks (set (set (x ∷ es) 1 a) 1 n) ≡ entry_tasks x ++ drop 1 (all_tasks es)
 second_goes_on [] x a n e is same = absurd (none-some e is)
 second_goes_on (y ∷ ys) x a n e is same =
@@ -42,7 +42,7 @@ second_ends (y ∷ ys) x a e is none =
     let rest : behind_tasks y.behind ≡ [] = ap (λ z. behind_tasks z.behind) (same_Some y e is) ∙ none in
     ap (λ z. entry_tasks x ++ (z ++ all_tasks ys)) (sym rest)
 
--- Entries of one task each stand for these tasks.
+-- Entries of one task each represent these tasks.
 pub singles_are : (ts : List Task) (es : List Entry) → all_tasks (map single ts ++ es) ≡ ts ++ all_tasks es
 singles_are [] es = refl
 singles_are (t ∷ ts) es = ap (λ z. t ∷ z) (singles_are ts es)

@@ -14,7 +14,7 @@ use Rattle.pc_semantics.specs.Configurations.{Configuration, with_frames}
 use Rattle.pc_semantics.specs.Around.{Move, Stuck, Overflows, Goes, Writes, Makes, Spawns, Enters, Sends, Leaves}
 use Rattle.pc_semantics.specs.Step.{begin_method, begun, delivered, made, printed_text, run_frames, run_task, step, step_of, take, take_first}
 
--- The configuration is as it was, if the step did not move.
+-- The configuration is unchanged if the step did not move.
 abbrev Stays : Configuration → Outcome × Configuration → Type 0
 Stays c r = r.0 ≢ Moved → r.1 ≡ c
 

@@ -13,7 +13,7 @@ use Rattle.pc_semantics.specs.Step.{around, take_first}
 use Rattle.pc_semantics.specs.declared.ahead.Ahead.{Ahead}
 use Rattle.pc_semantics.specs.declared.ahead.Ahead.TheVariants as ahead
 
--- A task, by the move that it makes.
+-- What a task is to do, by the move that it makes.
 abbrev pub by_move : Move → Ahead
 by_move (Stuck l) = ahead.Lacks
 by_move Overflows = ahead.TooLong
@@ -25,14 +25,14 @@ by_move (Enters g f) = ahead.Task
 by_move (Sends j m f) = ahead.Send j
 by_move (Leaves v) = ahead.Task
 
--- The taking of the oldest message, by how it ends.
+-- How the take of the oldest message ends.
 abbrev pub by_outcome : Outcome → Ahead
 by_outcome outcome.Moved = ahead.Take
 by_outcome outcome.Skipped = ahead.Skipped
 by_outcome (outcome.Lacks l) = ahead.Lacks
 by_outcome outcome.TooLong = ahead.TooLong
 
--- The first of the tasks that a frame has.
+-- What the first of a frame's tasks is to do.
 abbrev pub of_tasks : CoreData → Around → Frame → List Task → Ahead
 of_tasks core around f [] = ahead.Lacks
 of_tasks core around f (t ∷ ts) = by_move (task_move core around (with_tasks f ts) t)

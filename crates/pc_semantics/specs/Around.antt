@@ -20,7 +20,7 @@ pub record Around : Type 0 where
   pub actor : ℕ
   pub actors : ℕ
 
--- What a task does. The last frame of each is the task's own, as it goes on.
+-- What a task does. The last frame in each case is the task's own frame, as it goes on.
 pub data Move : Type 0 where
   -- it lacks something
   Stuck : Lack → Move
@@ -37,7 +37,7 @@ pub data Move : Type 0 where
   Enters : Frame → Frame → Move
   -- a message for an actor
   Sends : ℕ → Message → Frame → Move
-  -- the frame ends, and leaves a value to the one below, or none
+  -- the frame ends, and leaves a value or none to the frame below
   Leaves : Option Value → Move
 
 -- ---- frames
@@ -54,21 +54,21 @@ with_slot f s v = record { method = f.method; slots = slice_set f.slots s v; sta
 abbrev pub with_tasks : Frame → List Task → Frame
 with_tasks f ts = record { method = f.method; slots = f.slots; stack = f.stack; tasks = ts }
 
--- These tasks come first.
+-- The frame with these tasks before its own.
 abbrev pub doing : Frame → List Task → Frame
 doing f ts = with_tasks f (ts ++ f.tasks)
 
--- The slots of a method that begins: `this`, the arguments, and empty ones.
+-- The slots of a method when it begins: `this`, the arguments, and empty ones.
 abbrev pub first_slots : Method → Value → List Value → List (Option Value)
 first_slots x this arguments = Some this ∷ map Some arguments ++ replicate (x.slots - suc (length arguments)) None
 
--- The frame of method m that begins: its body is evaluated.
+-- The frame of method m when it begins: its body is to be evaluated.
 abbrev pub first_frame : ℕ → Method → Value → List Value → ℕ → Frame
 first_frame m x this arguments body = record { method = m; slots = first_slots x this arguments; stack = []; tasks = task.Eval body ∷ [] }
 
 -- ---- values
 
--- None, the value of what has no other.
+-- None, the value of everything that has no other.
 abbrev pub none : Value
 none = Prim none_entity
 
@@ -86,7 +86,7 @@ entity_of objects (At a) = class_at objects a
 
 -- ---- the top of the stack
 
--- The task goes on with the top value and the frame without it.
+-- The task goes on with the top value, and with the frame without it.
 abbrev pub with_top : Frame → List Value → (Value → Frame → Move) → Move
 with_top f [] next = Stuck lack.Value
 with_top f (v ∷ below) next = next v (with_stack f below)
@@ -94,7 +94,7 @@ with_top f (v ∷ below) next = next v (with_stack f below)
 abbrev pub pop : Frame → (Value → Frame → Move) → Move
 pop f next = with_top f f.stack next
 
--- The values of that many arguments, which were pushed one after the other, and what is below them.
+-- The values of this number of arguments, in the order in which they were pushed, and the stack below them.
 abbrev pub popped : ℕ → List Value → List Value → Option (List Value × List Value)
 popped zero stack arguments = Some (arguments, stack)
 popped (suc k) [] arguments = None

@@ -18,7 +18,7 @@ use Rattle.pc_semantics.specs.Around.{Around, Move, Stuck, Goes, Makes, Spawns, 
 
 -- ---- counting
 
--- The method takes that many arguments; otherwise it is not there.
+-- The move if the method takes this number of arguments; otherwise the method is missing.
 abbrev pub counted : Method → List Value → Move → Move
 counted x arguments move = if nat_eq (length arguments) (length x.params) then move else Stuck lack.Method
 
@@ -38,7 +38,7 @@ abbrev pub make_task : CoreData → Around → Frame → List ℕ → NodeKind �
 make_task core around f cs (node.New m) = pop_arguments f (length cs) (λ arguments g. make_of core around m arguments g (slice_get core.methods m))
 make_task core around f cs k = Stuck lack.Value
 
--- ---- Spawn: a new actor with its object, and its constructor's message waits
+-- ---- Spawn: a new actor with its object, whose constructor's message waits
 
 abbrev pub spawn_of : CoreData → Around → ℕ → List Value → Frame → Option Method → Move
 spawn_of core around m arguments f None = Stuck lack.Method
@@ -56,7 +56,7 @@ abbrev pub enter : ℕ → Method → Value → List Value → Frame → Option 
 enter m x this arguments f None = Stuck lack.Method
 enter m x this arguments f (Some body) = Enters (first_frame m x this arguments body) f
 
--- A message goes to the actor whose own object this is.
+-- A message to the actor whose own object this value is.
 abbrev pub send : Around → ℕ → Method → List Value → Frame → Value → Move
 send around m x arguments f (At a) =
     if nat_eq a.serial 0 && nat_lt a.maker around.actors
@@ -115,7 +115,7 @@ invoke_task core around f cs k = Stuck lack.Value
 
 -- ---- Return: the frame ends
 
--- A class's constructor gives its object, which is in the first slot.
+-- A class's constructor returns its object, which is in the first slot.
 abbrev pub leave_object : Option (Option Value) → Move
 leave_object (Some (Some v)) = Leaves (Some v)
 leave_object o = Stuck lack.Slot

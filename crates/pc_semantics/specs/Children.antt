@@ -1,4 +1,4 @@
--- The tasks that a node's children are.
+-- The tasks for a node's children.
 use Rattle.std.specs.Prelude.{ℕ, List, map}
 use Rattle.pc_semantics.specs.declared.frames.Task.{Task}
 use Rattle.pc_semantics.specs.declared.frames.Task.TheVariants as task

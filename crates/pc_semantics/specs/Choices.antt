@@ -1,4 +1,4 @@
--- Tasks that look at what was evaluated and go one way or another.
+-- Tasks that look at a value and choose what to do next.
 use Rattle.std.specs.Prelude.{ℕ, Bool, true, false, List, [], ◌∷◌}
 use Rattle.pc_heap.specs.declared.value.Value.{Value}
 use Rattle.pc_heap.specs.declared.value.Value.TheVariants.{Truth}
@@ -10,7 +10,7 @@ use Rattle.pc_semantics.specs.declared.outcome.Lack.TheVariants as lack
 use Rattle.pc_semantics.specs.Around.{Move, Stuck, Goes, pushed, doing, none, pop}
 use Rattle.pc_semantics.specs.Operators.{binary, negated, compared}
 
--- A truth value is asked for.
+-- The value must be a truth value.
 abbrev pub truth : (Bool → Frame → Move) → Value → Frame → Move
 truth next (Truth b) f = next b f
 truth next v f = Stuck lack.Value
@@ -52,7 +52,7 @@ branch cs b f = Stuck lack.Value
 abbrev pub branch_task : Frame → List ℕ → Move
 branch_task f cs = pop f (truth (branch cs))
 
--- ---- Loop: the body, and then the whole again, or None
+-- ---- Loop: the body and then the whole loop again, or None
 
 abbrev pub turn : ℕ → List ℕ → Bool → Frame → Move
 turn n (c ∷ a ∷ []) true f = Goes (doing f (task.Eval a ∷ task.Discard ∷ task.Eval n ∷ []))

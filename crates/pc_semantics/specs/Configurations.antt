@@ -1,4 +1,4 @@
--- The state of a machine, and where a program begins.
+-- The state of the machine, and the configuration in which a program begins.
 use Rattle.std.specs.Prelude.{ℕ, List, [], ◌∷◌, Option, Some, None, slice_get, slice_set, length, map, codes, position}
 use Rattle.std.specs.Str.{bytes_eq}
 use Rattle.std.specs.FinMap.{empty, insert}
@@ -14,8 +14,8 @@ use Rattle.pc_core.specs.declared.declarations.EntityDef.{EntityDef}
 use Rattle.pc_semantics.specs.declared.actors.Actor.{Actor}
 use Rattle.pc_semantics.specs.declared.frames.Frame.{Frame}
 
--- The objects by their addresses, the actors in the order in which they were made, and the texts that were printed. How many
--- objects an actor has made is the number of addresses of which it is the maker.
+-- The objects by their addresses, the actors in the order in which they were made, and the texts that were printed. The
+-- number of objects that an actor has made is the number of addresses with that actor as maker.
 pub record Configuration : Type 0 where
   pub objects : ObjectMap
   pub actors : List Actor
@@ -33,17 +33,17 @@ with_frames c i a frames = with_actor c i (record { mailbox = a.mailbox; frames 
 
 -- ---- addresses
 
--- The first object of which an actor is the maker is the actor's own.
+-- An actor's own object is the first one that it is the maker of.
 abbrev pub own_address : ℕ → Address
 own_address i = record { maker = i; serial = 0 }
 
 -- ---- the start
 
--- The number of the entity of this name.
+-- The number of the entity with this name.
 abbrev pub entity_named : CoreData → List ℕ → Option ℕ
 entity_named core name = position (bytes_eq name) (map (λ x. x.name) core.entities)
 
--- The entity Main and its constructor `create`, by their numbers.
+-- The entity Main and its constructor `create`, by number.
 abbrev pub main_create : CoreData → Option (ℕ × ℕ)
 main_create core = do
   main ← entity_named core (codes "Main")
@@ -59,15 +59,15 @@ fields_in (Some x) = length x.fields
 abbrev pub blank_object : CoreData → ℕ → Object
 blank_object core e = new_object e (fields_in (slice_get core.entities e))
 
--- The environment: its field `out` is actor 0.
+-- The environment, whose field `out` is actor 0.
 abbrev pub environment : CoreData → Object
 environment core = with_field (blank_object core env_entity) 0 (At (own_address 0))
 
 abbrev pub environment_address : Address
 environment_address = record { maker = 0; serial = 1 }
 
--- Actor 0 is the OutStream and actor 1 is Main, each with its object. Actor 0 has made the environment, and the message that
--- creates Main carries it.
+-- Actor 0 is the OutStream and actor 1 is Main, each with its object. Actor 0 has made the environment, and the message
+-- that creates Main carries it.
 abbrev pub start_of : CoreData → Option (ℕ × ℕ) → Configuration
 start_of core None = record { objects = empty; actors = []; printed = [] }
 start_of core (Some main) = record {
@@ -78,6 +78,6 @@ start_of core (Some main) = record {
   printed = [];
 }
 
--- Where the program of a core begins.
+-- The configuration in which a core's program begins.
 abbrev pub start : CoreData → Configuration
 start core = start_of core (main_create core)

@@ -19,23 +19,23 @@ abbrev pub push_slot : Frame → Option (Option Value) → Move
 push_slot f (Some (Some v)) = Goes (pushed f v)
 push_slot f o = Stuck lack.Slot
 
--- A slot's value is pushed, and the slot is empty.
+-- A slot's value is pushed, and the slot becomes empty.
 abbrev pub take_slot : Frame → ℕ → Option (Option Value) → Move
 take_slot f s (Some (Some v)) = Goes (pushed (with_slot f s None) v)
 take_slot f s o = Stuck lack.Slot
 
 -- ---- children
 
--- All children, and then this task.
+-- All children are evaluated, and then this task is done.
 abbrev pub children_first : Frame → List ℕ → Task → Move
 children_first f children t = Goes (doing f (evaluations children ++ t ∷ []))
 
--- The first child, and then these tasks.
+-- The first child is evaluated, and then these tasks are done.
 abbrev pub first_then : Frame → List ℕ → List Task → Move
 first_then f [] ts = Stuck lack.Value
 first_then f (c ∷ children) ts = Goes (doing f (task.Eval c ∷ ts))
 
--- The items of a sequence: each value but the last is dropped.
+-- The items of a sequence: every value but the last is dropped.
 abbrev pub items : List ℕ → List Task
 items [] = []
 items (c ∷ []) = task.Eval c ∷ []

@@ -20,15 +20,15 @@ use Rattle.pc_semantics.specs.Safety.{Race}
 use Rattle.pc_semantics.specs.Text.{run_text, steps_of, waiting}
 use Rattle.pc_semantics.specs.Programs.{hello, two_messages, one_node, on_one, on_two, lazy, choice, counting, spawning, making, touching, field_n, n, zz}
 
--- The text of a run of turns, each an actor and how many steps it takes.
+-- The run of these turns has this output; a turn is an actor and a number of steps.
 abbrev pub Writes : CoreData → List (ℕ × ℕ) → List ℕ → Type 0
 Writes core turns text = run_text core (steps_of turns) ≡ text
 
--- How the last of so many steps of Main ends.
+-- How the last of this number of steps of Main ends.
 abbrev pub Ends : CoreData → ℕ → Outcome → Type 0
 Ends core k o = outcomes core (replicate k 1) ≡ replicate (k - 1) Moved ++ o ∷ []
 
--- The value on top of Main's stack behind so many of its steps.
+-- The value on top of Main's stack after this number of its steps.
 abbrev pub top_of_main : CoreData → ℕ → Option Value
 top_of_main core k = do
   a ← slice_get (after core (replicate k 1)).actors 1
@@ -40,12 +40,12 @@ Leaves core k v = top_of_main core k ≡ Some v
 
 -- ---- whole runs
 
--- Ten steps of Main: the take, the body, the sequence, the call, the text, the field, the local, the read, the invocation,
--- the return. Then the stream takes the message.
+-- Ten steps of Main: the take, the body, the sequence, the call, the text, the field, the local, the read, the
+-- invocation and the return. Then the stream takes the message.
 abbrev pub HelloRuns : Type 0
 HelloRuns = Writes hello ((1, 10) ∷ (0, 1) ∷ []) (codes "hi\nsteps 11 skipped 0 actors 2 objects 3 waiting 0\n")
 
--- Without turns nothing happens, and neither does it in the turns of an actor that is not there.
+-- Without turns nothing happens, and nor does it in the turns of an actor that does not exist.
 abbrev pub NoActorNoStep : Type 0
 NoActorNoStep =
     Writes hello [] (codes "steps 0 skipped 0 actors 2 objects 3 waiting 1\n")
@@ -59,7 +59,7 @@ TakenInOrder =
     × ((after two_messages (steps_of ((1, 17) ∷ (0, 1) ∷ []))).printed ≡ codes "a" ∷ [])
     × ((after two_messages (steps_of ((1, 17) ∷ (0, 2) ∷ []))).printed ≡ codes "a" ∷ codes "b" ∷ [])
 
--- A new actor has its object and its constructor's message, which it takes when it is its turn.
+-- A new actor has its object and its constructor's message, which it takes when its turn comes.
 abbrev pub SpawnedHasItsMessage : Type 0
 SpawnedHasItsMessage =
     (outcomes spawning (steps_of ((1, 5) ∷ (2, 4) ∷ [])) ≡ replicate 9 Moved)
@@ -74,9 +74,9 @@ ConstructorSets =
     (outcomes making (steps_of ((1, 22) ∷ (0, 1) ∷ [])) ≡ replicate 23 Moved)
     × ((after making (steps_of ((1, 22) ∷ (0, 1) ∷ []))).printed ≡ codes "5" ∷ [])
 
--- ---- parts of Main's constructor; the first three steps are the take, the body and the sequence
+-- ---- parts of Main's constructor, whose first three steps are the take, the body and the sequence
 
--- `and` and `or` do not look at the right side where the left one decides; where it does not, they do.
+-- `and` and `or` do not look at the right side if the left side decides, and do otherwise.
 abbrev pub LazyRight : Type 0
 LazyRight =
     Leaves (lazy (node.Truth false) node.And) 6 (Truth false)
@@ -87,7 +87,7 @@ LazyRight =
 abbrev pub BranchTaken : Type 0
 BranchTaken = Leaves (choice (node.Truth true)) 8 (Num 1) × Leaves (choice (node.Truth false)) 8 (Num 2)
 
--- Twice round the loop, and out: the local is 2.
+-- Twice round the loop, and then out of it: the local is 2.
 abbrev pub held_by_main : CoreData → (steps slot : ℕ) → Option (Option Value)
 held_by_main core k s = do
   a ← slice_get (after core (replicate k 1)).actors 1
@@ -110,8 +110,8 @@ Wraps =
 
 -- ---- steps that end a run
 
--- A number and a truth value have no sum; a slot that nothing defined is empty; a number is no object; a field that nothing
--- set has no value; nothing has the method.
+-- A number and a truth value have no sum; a slot that was never set is empty; a number is not an object; a field that
+-- was never set has no value; nothing has the method.
 abbrev pub EachLackComes : Type 0
 EachLackComes =
     Ends (on_two (node.Number 1) (node.Truth true) (node.Binary op.Add)) 7 (Lacks lack.Value)
@@ -120,7 +120,7 @@ EachLackComes =
     × Ends (on_one field_n node.This (node.Field n)) 6 (Lacks lack.Field)
     × Ends (on_one [] node.This (node.Call zz)) 6 (Lacks lack.Method)
 
--- A text of the greatest length may not get one byte more.
+-- A text of the greatest length cannot be made a byte longer.
 abbrev pub full_text : List ℕ
 full_text = replicate text_limit 97
 
@@ -131,14 +131,14 @@ TextTooLong =
 
 -- ---- races
 
--- Two actors, of which each is about to do its task on one object, actor 1's own.
+-- Two actors, each about to do its task on one object, which is actor 1's own.
 abbrev pub about_to : Task → Actor
 about_to t = record { mailbox = []; frames = record { method = 1; slots = []; stack = At (own_address 1) ∷ Num 1 ∷ []; tasks = t ∷ [] } ∷ [] }
 
 abbrev pub both_about_to : Task → Task → Configuration
 both_about_to t u = record { objects = (start touching).objects; actors = about_to t ∷ about_to u ∷ []; printed = [] }
 
--- Where both write its field, or one writes it and the other reads it, they race. Where both read it, they do not.
+-- If both write its field, or one writes it and the other reads it, they race. If both read it, they do not.
 abbrev pub RacesAreSeen : Type 0
 RacesAreSeen =
     Race touching (both_about_to (task.Put 2) (task.Put 2)) × Race touching (both_about_to (task.Get 1) (task.Put 2))

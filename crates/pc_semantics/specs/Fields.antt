@@ -13,7 +13,7 @@ use Rattle.pc_semantics.specs.declared.frames.Frame.{Frame}
 use Rattle.pc_semantics.specs.declared.outcome.Lack.TheVariants as lack
 use Rattle.pc_semantics.specs.Around.{Around, Move, Stuck, Goes, Writes, pushed, with_slot, or_none, pop}
 
--- ---- Get: the origin goes, and the field's value comes
+-- ---- Get: the origin is replaced by the field's value
 
 abbrev pub get_value : Frame → Option (Option Value) → Move
 get_value f (Some (Some v)) = Goes (pushed f v)
@@ -31,7 +31,7 @@ abbrev pub get_from : CoreData → Around → ℕ → Value → Frame → Move
 get_from core around name (At a) f = get_of core f name (get around.objects a)
 get_from core around name v f = Stuck lack.Object
 
--- ---- Put: the origin and the value go, the field is set, and its old value comes, or None
+-- ---- Put: the origin and the value are replaced by the field's old value, or None; and the field is set
 
 abbrev pub put_value : Frame → Address → ℕ → Value → Option (Option Value) → Move
 put_value f a i v None = Stuck lack.Field
@@ -49,7 +49,7 @@ abbrev pub put_into : CoreData → Around → ℕ → Value → Value → Frame 
 put_into core around name (At a) v f = put_of core f name a v (get around.objects a)
 put_into core around name o v f = Stuck lack.Object
 
--- ---- Store: the value goes into the slot, and the old value comes, or None
+-- ---- Store: the value goes into the slot, and is replaced by the slot's old value, or None
 
 abbrev pub held : Option (Option Value) → Option Value
 held None = None

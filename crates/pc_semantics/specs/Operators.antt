@@ -1,4 +1,4 @@
--- What operators give.
+-- The values of operators.
 use Rattle.std.specs.Prelude.{ℕ, ◌+◌, ◌-◌, ◌*◌, ◌/◌, ◌%◌, ◌^◌, Bool, false, not, List, ◌++◌, length, Option, Some, None, nat_eq, nat_lt, cond, if◌then◌else◌}
 use Rattle.std.specs.Str.{bytes_eq}
 use Rattle.pc_caps.specs.Limits.{text_limit}
@@ -11,14 +11,14 @@ use Rattle.pc_semantics.specs.declared.frames.Frame.{Frame}
 use Rattle.pc_semantics.specs.declared.outcome.Lack.TheVariants as lack
 use Rattle.pc_semantics.specs.Around.{Move, Stuck, Overflows, Goes, pushed}
 
--- The value is pushed; where there is none, a value of another kind is lacking.
+-- The value is pushed; without one, a value of the right kind is lacking.
 abbrev pub gives : Frame → Option Value → Move
 gives f None = Stuck lack.Value
 gives f (Some v) = Goes (pushed f v)
 
 -- ---- two numbers
 
--- What is left of a number in 64 bits.
+-- A number reduced to 64 bits.
 abbrev pub wrapped : ℕ → Value
 wrapped n = Num (n % 2 ^ 64)
 
@@ -53,7 +53,7 @@ of_truths o a b = None
 
 -- ---- two texts
 
--- Both texts in one, which must not be too long.
+-- Both texts joined, unless the result is too long.
 abbrev pub joined : Frame → List ℕ → Move
 joined f t = if nat_lt text_limit (length t) then Overflows else Goes (pushed f (Text t))
 
@@ -112,7 +112,7 @@ abbrev pub is_object : Address → Value → Bool
 is_object a (At b) = same_address a b
 is_object a w = false
 
--- Equal numbers, equal truth values, texts of equal bytes, the same primitive, or the same object.
+-- Equal numbers, equal truth values, texts with equal bytes, the same primitive, or the same object.
 abbrev pub same_value : Value → Value → Bool
 same_value (Num a) w = is_number a w
 same_value (Truth a) w = is_truth a w
@@ -120,6 +120,6 @@ same_value (Text a) w = is_text a w
 same_value (Prim a) w = is_primitive a w
 same_value (At a) w = is_object a w
 
--- `is`, or `isnt` where the truth value is false.
+-- `is`, or `isnt` if the truth value is false.
 abbrev pub compared : Frame → Bool → Value → Value → Move
 compared f wanted v w = Goes (pushed f (Truth (same_truth wanted (same_value v w))))

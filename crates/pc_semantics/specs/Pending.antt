@@ -1,4 +1,4 @@
--- Which tasks the entries of a frame stand for.
+-- The tasks that the entries of a frame represent.
 use Rattle.std.specs.Prelude.{ℕ, List, [], ◌∷◌, drop}
 use Rattle.std.specs.List.{flat_map}
 use Rattle.pc_semantics.specs.declared.frames.Task.{Task}
@@ -21,10 +21,10 @@ behind_tasks (behind.Dropped children place) = drop 1 (as_items (drop place chil
 abbrev pub entry_tasks : Entry → List Task
 entry_tasks e = e.task ∷ behind_tasks e.behind
 
--- The entry of a task behind which the entry below comes.
+-- The entry of a task that is followed by the entry below.
 abbrev pub single : Task → Entry
 single t = record { task = t; behind = behind.Nothing }
 
--- The entries, the first on top.
+-- The tasks of all entries, the first entry on top.
 abbrev pub all_tasks : List Entry → List Task
 all_tasks entries = flat_map entry_tasks entries

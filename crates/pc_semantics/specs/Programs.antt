@@ -1,5 +1,5 @@
--- Small programs, as their cores. What the machine does not look at is left out: slots, capabilities, results and places in
--- a text.
+-- Small programs, as cores. What the machine does not look at is left out: slots, capabilities, results and positions
+-- in the text.
 use Rattle.std.specs.Prelude.{ℕ, ◌-◌, true, false, List, [], ◌∷◌, length, Some, codes, ◌+◌}
 use Rattle.pc_caps.specs.declared.capability.Cap.TheVariants as cap
 use Rattle.pc_caps.specs.declared.capability.Form.TheVariants as form
@@ -21,7 +21,7 @@ use Rattle.pc_core.specs.Entities.{nowhere, built_in, built_in_value, out_field,
 
 -- ---- how they are written
 
--- Names, by their numbers; each program may use all of them.
+-- Names, by number; each program may use all of them.
 abbrev pub out : ℕ
 out = 0
 
@@ -38,11 +38,11 @@ string = 3
 abbrev pub n : ℕ
 n = 4
 
--- a name that nothing has
+-- a name that nothing is called by
 abbrev pub zz : ℕ
 zz = 5
 
--- A program of these entities, behind the built-in ones, methods and nodes.
+-- A program of these entities, which follow the built-in ones, with these methods and nodes.
 abbrev pub program : List EntityDef → List Method → List Node → CoreData
 program es ms ns = record {
   entities =
@@ -54,7 +54,7 @@ program es ms ns = record {
   names = codes "out" ∷ codes "print" ∷ codes "create" ∷ codes "string" ∷ codes "n" ∷ codes "zz" ∷ [];
 }
 
--- An entity with or without the field `n`, and the number of its one method.
+-- The fields of an entity that has only `n`.
 abbrev pub field_n : List FieldInfo
 field_n = record { name = n; fixed = false; entity = u64_entity; cap = cap.Val } ∷ []
 
@@ -64,7 +64,7 @@ entity k name fields method = record { kind = k; cap = cap.Tag; name = name; spa
 abbrev pub param : ParamInfo
 param = record { entity = env_entity; cap = cap.Val; span = nowhere }
 
--- The constructor of an entity: its kind, how many parameters and slots it has, and its body.
+-- The constructor of an entity: its kind, its parameters, how many slots it has, and its body.
 abbrev pub constructor_of : ℕ → MethodKind → List ParamInfo → (slots body : ℕ) → Method
 constructor_of e k params slots body = record {
   entity = e;
@@ -83,7 +83,7 @@ constructor_of e k params slots body = record {
 abbrev pub node_of : NodeKind → List ℕ → Node
 node_of k children = record { kind = k; children = children; depth = 0; method = 1; span = nowhere }
 
--- A program of Main alone: its constructor, with that many slots, has these nodes, of which the last is its body.
+-- A program with only Main: its constructor has this number of slots and these nodes, of which the last is its body.
 abbrev pub main_with : List FieldInfo → ℕ → List Node → CoreData
 main_with fields slots ns =
     program (entity kind.Actor (codes "Main") fields 1 ∷ []) (constructor_of first_own method.Spawn (param ∷ []) slots (length ns - 1) ∷ []) ns
@@ -121,7 +121,7 @@ two_messages = main_with [] 2 (
     ∷ node_of node.Body (8 ∷ []) ∷ []
     )
 
--- One node without children is the whole constructor.
+-- A constructor that consists of one node without children.
 abbrev pub one_node : List FieldInfo → NodeKind → CoreData
 one_node fields k = main_with fields 3 (node_of k [] ∷ node_of node.Seq (0 ∷ []) ∷ node_of node.Body (1 ∷ []) ∷ [])
 

@@ -63,7 +63,7 @@ access_of core c f t = do
   i ← field_named core e t.0
   Some (record { address = a; field = i; write = t.1 })
 
--- What the next task of actor i reads or writes, where that is a field of an object.
+-- The field of an object that the next task of actor i reads or writes, if it does.
 abbrev pub access : CoreData → Configuration → ℕ → Option Access
 access core c i = do
   a ← slice_get c.actors i
@@ -74,7 +74,7 @@ access core c i = do
 
 -- ---- races
 
--- Two different actors are about to touch one field of one object, and one of them writes.
+-- Two different actors are about to touch the same field of the same object, and one of them writes it.
 pub record Race (core : CoreData) (c : Configuration) : Type 0 where
   pub i : ℕ
   pub j : ℕ
@@ -94,8 +94,8 @@ pub record LetAlone (core : CoreData) (c : Configuration) (p : ParamInfo) (v : V
   pub iso : p.cap ≡ cap.Iso → (a : Address) → address_of v ≡ Some a → (i : ℕ) (x : Access) → access core c i ≡ Some x → x.address ≢ a
   pub val : p.cap ≡ cap.Val → (a : Address) → address_of v ≡ Some a → (i : ℕ) (x : Access) → access core c i ≡ Some x → x.write ≡ true → x.address ≢ a
 
--- A message that waits for actor j: the actor has the method, with a sendable parameter for each argument, and what is sent
--- is let alone.
+-- A message that waits for actor j: the actor has the method, with a sendable parameter for each argument, and what is
+-- sent is let alone.
 pub record QuietMessage (core : CoreData) (c : Configuration) (j : ℕ) (m : Message) : Type 0 where
   pub method : Method
   pub is_method : slice_get core.methods m.method ≡ Some method
@@ -113,7 +113,7 @@ Quiet core c = Each (λ j a. Each (λ k m. QuietMessage core c j m) a.mailbox) c
 abbrev pub LacksNothing : CoreData → Configuration → Type 0
 LacksNothing core c = (i : ℕ) (l : Lack) → (step core c i).0 ≢ Lacks l
 
--- At the configuration behind every list of actors, of every length.
+-- What safety requires of the configuration after every list of actors, of any length.
 pub record SafeAt (core : CoreData) (c : Configuration) : Type 0 where
   pub no_race : Race core c → ⊥
   pub quiet : Quiet core c

@@ -1,4 +1,4 @@
--- One step of an actor: its first task, or its first message where it is idle.
+-- One step of an actor: its first task, or its first message if it is idle.
 use Rattle.std.specs.Prelude.{ℕ, zero, List, [], ◌∷◌, ◌++◌, length, Option, Some, None, slice_get}
 use Rattle.std.specs.FinMap.{insert}
 use Rattle.pc_heap.specs.Objects.{with_value}
@@ -18,9 +18,9 @@ use Rattle.pc_semantics.specs.Configurations.{Configuration, with_objects, with_
 use Rattle.pc_semantics.specs.Around.{Around, Move, Stuck, Overflows, Goes, Writes, Makes, Spawns, Enters, Sends, Leaves, pushed, first_frame}
 use Rattle.pc_semantics.specs.Tasks.{task_move}
 
--- ---- a move is made
+-- ---- a move is carried out
 
--- The new actor comes behind the others, with its object.
+-- The new actor is appended, with its object.
 abbrev pub with_spawned : Configuration → Object → Message → Configuration
 with_spawned c o m = record {
   objects = insert c.objects (own_address (length c.actors)) o;
@@ -28,8 +28,8 @@ with_spawned c o m = record {
   printed = c.printed;
 }
 
--- The message comes behind those that wait, in configuration d. Where there is no such actor, the step lacks it, and all stays
--- as it was before the step, in c.
+-- The message is appended to those that wait, in configuration d. If there is no such actor, the step lacks it, and
+-- everything stays as it was before the step, in c.
 abbrev pub delivered : Configuration → Configuration → ℕ → Message → Option Actor → Outcome × Configuration
 delivered c d j m None = (Lacks lack.Object, c)
 delivered c d j m (Some a) = (Moved, with_actor d j (record { mailbox = a.mailbox ++ m ∷ []; frames = a.frames }))
@@ -37,12 +37,12 @@ delivered c d j m (Some a) = (Moved, with_actor d j (record { mailbox = a.mailbo
 abbrev pub deliver : Configuration → Configuration → ℕ → Message → Outcome × Configuration
 deliver c d j m = delivered c d j m (slice_get d.actors j)
 
--- The value is left to the frame below.
+-- The value is left on the stack of the frame below.
 abbrev pub left : Option Value → List Frame → List Frame
 left (Some v) (f ∷ fs) = pushed f v ∷ fs
 left v fs = fs
 
--- Actor i makes a move; the frames are those below the one that moves.
+-- Actor i carries out a move; the frames are those below the one that makes it.
 abbrev pub made : Configuration → ℕ → Actor → List Frame → Move → Outcome × Configuration
 made c i a fs (Stuck l) = (Lacks l, c)
 made c i a fs Overflows = (TooLong, c)
@@ -65,7 +65,7 @@ run_task core c i a f fs (t ∷ ts) = made c i a fs (task_move core (around c i)
 
 -- ---- the first message
 
--- What an idle actor becomes that takes its first message.
+-- Actor 0 prints the argument of its message, which must be one text.
 abbrev pub printed_text : Configuration → Actor → List Value → Outcome × Configuration
 printed_text c a (Text t ∷ []) = (Moved, record { objects = c.objects; actors = (with_actor c 0 a).actors; printed = c.printed ++ t ∷ [] })
 printed_text c a arguments = (Lacks lack.Value, c)
@@ -78,7 +78,7 @@ abbrev pub begin_method : Configuration → ℕ → Actor → Message → Option
 begin_method c i a m None = (Lacks lack.Method, c)
 begin_method c i a m (Some x) = begun c i a m x x.body
 
--- Actor 0 prints, and another begins a method.
+-- Actor 0 prints; any other actor begins a method.
 abbrev pub take : CoreData → Configuration → ℕ → Actor → Message → Outcome × Configuration
 take core c zero a m = printed_text c a m.arguments
 take core c i a m = begin_method c i a m (slice_get core.methods m.method)
@@ -97,6 +97,6 @@ abbrev pub step_of : CoreData → Configuration → ℕ → Option Actor → Out
 step_of core c i None = (Skipped, c)
 step_of core c i (Some a) = run_frames core c i a a.frames
 
--- A step of actor i: how it ends, and the configuration behind it, which is the same unless it moved.
+-- A step of actor i: how it ends, and the configuration after it, which is the same unless it moved.
 abbrev pub step : CoreData → Configuration → ℕ → Outcome × Configuration
 step core c i = step_of core c i (slice_get c.actors i)

@@ -12,12 +12,12 @@ use Rattle.pc_semantics.specs.Fields.{get_task, put_task, store_task}
 use Rattle.pc_semantics.specs.Calls.{make_task, spawn_task, invoke_task, return_task}
 use Rattle.pc_semantics.specs.Choices.{apply_task, test_task, branch_task, loop_task}
 
--- A task goes on with its node.
+-- A task goes on with its node, if there is one.
 abbrev pub at_node : Option Node → (Node → Move) → Move
 at_node None next = Stuck lack.Value
 at_node (Some x) next = next x
 
--- The task of a frame, which is no longer among the frame's tasks.
+-- The move of a frame's task, which has been removed from the frame's tasks.
 abbrev pub task_move : CoreData → Around → Frame → Task → Move
 task_move core around f (task.Eval n) = evaluate_node f n (slice_get core.nodes n)
 task_move core around f (task.Get n) = at_node (slice_get core.nodes n) (λ x. get_task core around f x.kind)

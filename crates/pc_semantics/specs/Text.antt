@@ -1,4 +1,4 @@
--- The text of a run.
+-- The output of a run.
 use Rattle.std.specs.Prelude.{ℕ, ◌+◌, Bool, true, false, List, [], ◌∷◌, ◌++◌, length, map, replicate, flat_map, Option, Some, None, codes, decimal, sum}
 use Rattle.std.specs.List.{count_by}
 use Rattle.std.specs.FinMap.{len}
@@ -12,7 +12,7 @@ use Rattle.pc_semantics.specs.Runs.{after, outcomes}
 
 -- ---- schedules
 
--- Turns, each an actor and how many steps it takes, as the list of the actors of all steps.
+-- Turns, each an actor and a number of steps, as the list of the actors of all steps.
 abbrev pub steps_of : List (ℕ × ℕ) → List ℕ
 steps_of turns = flat_map (λ (t : ℕ × ℕ). replicate t.1 t.0) turns
 
@@ -30,16 +30,17 @@ is_skipped Moved = false
 is_skipped (Lacks l) = false
 is_skipped TooLong = false
 
--- The messages that wait.
+-- How many messages wait.
 abbrev pub waiting : Configuration → ℕ
 waiting c = sum (map (λ (a : Actor). length a.mailbox) c.actors)
 
--- ---- the text
+-- ---- the output
 
 abbrev pub lines : List (List ℕ) → List ℕ
 lines texts = flat_map (λ t. t ++ line_end) texts
 
--- One line: how many steps were done, how many were skipped, and how many actors, objects and waiting messages there are.
+-- One line: how many steps were done, how many were skipped, and how many actors, objects and waiting messages there
+-- are.
 abbrev pub summary : (moved skipped actors objects messages : ℕ) → List ℕ
 summary moved skipped actors objects messages =
     codes "steps " ++ (decimal moved ++ (codes " skipped " ++ (decimal skipped ++ (codes " actors " ++ (decimal actors
@@ -55,11 +56,11 @@ ended_at n (o ∷ os) = Some (n, o)
 abbrev pub end_of : List Outcome → Option (ℕ × Outcome)
 end_of os = ended_at 1 os
 
--- What was printed, and the summary where no step ended the run.
+-- What was printed, and the summary if no step ended the run.
 abbrev pub text_behind : Configuration → List Outcome → Option (ℕ × Outcome) → List ℕ
 text_behind c os None = lines c.printed ++ summary (count_by is_moved os) (count_by is_skipped os) (length c.actors) (len c.objects) (waiting c)
 text_behind c os (Some end) = lines c.printed
 
--- The text of the run of a list of actors.
+-- The output of the run of a list of actors.
 abbrev pub run_text : CoreData → List ℕ → List ℕ
 run_text core list = text_behind (after core list) (outcomes core list) (end_of (outcomes core list))

@@ -5,7 +5,7 @@ use pc_heap::Address;
 /// A field of an object that an actor's next task reads or writes.
 #[derive(Clone, Copy, Debug, PartialEq, Eq)]
 pub struct Access {
-    /// Where the object stands.
+    /// The object's address.
     pub address: Address,
     /// The index of the field.
     pub field: u32,

@@ -9,6 +9,6 @@ use crate::stack::Stack;
 pub struct Actor {
     /// The messages that it was sent and has not taken, the oldest first.
     pub mailbox: Mailbox,
-    /// The methods that it is in, the innermost on top. It is idle where there are none.
+    /// The methods that it is in, the innermost on top. The actor is idle if there are none.
     pub frames: Stack<Frame>,
 }

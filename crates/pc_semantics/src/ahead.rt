@@ -13,7 +13,7 @@ pub enum Ahead {
     Take,
     /// A new actor is made.
     Spawn,
-    /// A message goes to the actor of this number.
+    /// A message goes to the actor with this number.
     Send(u32),
     /// Any other task of the running frame.
     Task,

@@ -6,7 +6,7 @@ use smallvec::SmallVec;
 use std::alloc::{AllocFailed, Global};
 use std::marker::Model;
 
-/// The arguments of a message, in order. Four of them stand in the message itself.
+/// The arguments of a message, in order. The first four are in the message itself.
 #[derive(Debug, Drop)]
 pub struct Arguments {
     items: SmallVec<Value, 4>,
@@ -22,7 +22,7 @@ impl Model for Arguments {
 }
 
 impl Arguments {
-    /// No argument. It takes no memory.
+    /// No arguments. It does not allocate.
     pub fn new(alloc: Global) -> Arguments
         ensures { result ≡ [] }
     {
@@ -31,7 +31,7 @@ impl Arguments {
         }
     }
 
-    /// Puts an argument behind the others. An `Err` hands it back and changes nothing.
+    /// Appends an argument. An `Err` hands it back and changes nothing.
     pub fn push(&mut self, argument: Value) -> Result<(), AllocFailed<Value>>
         ensures ok { OnOk result (self.new ≡ self.old ++ argument ∷ []) }
         ensures err { OnErr result (self.new ≡ self.old) }

@@ -6,7 +6,7 @@ ghost use Rattle.pc_semantics.specs.Configurations as spec;
 use pc_caps::List;
 use pc_core::{Core, EntityDef};
 
-// The place of a text among these.
+// The place of a text in this list.
 fn place_of(texts: &[List<u8>], text: &[u8]) -> Option<usize>
     ensures { result ≡ position (bytes_eq text.now) texts.now }
 {
@@ -22,7 +22,7 @@ fn name_of(core: &Core, text: &[u8]) -> Option<u32>
     Some(place as u32)
 }
 
-// The place of the entity of a name among these.
+// The place of the entity with this name in the list.
 fn place_named(entities: &[EntityDef], name: &[u8]) -> Option<usize>
     ensures { result ≡ position (λ x. bytes_eq name.now x.name) entities.now }
 {
@@ -31,7 +31,7 @@ fn place_named(entities: &[EntityDef], name: &[u8]) -> Option<usize>
         .position(|entity| name == entity.name.as_slice())
 }
 
-// The number of the entity of this name.
+// The number of the entity with this name.
 #[tactic(auto, using(crate::proofs::Named::position_named))]
 fn entity_named(core: &Core, name: &[u8]) -> Option<u32>
     ensures { result ≡ spec.entity_named core.now name.now }
@@ -41,7 +41,7 @@ fn entity_named(core: &Core, name: &[u8]) -> Option<u32>
     Some(place as u32)
 }
 
-/// The entity Main and its constructor `create`, by their numbers, where the core has both: with these the program begins.
+/// The numbers of the entity Main and of its constructor `create`, if the core has both: with these the program begins.
 pub fn main_create(core: &Core) -> Option<(u32, u32)>
     ensures { result ≡ spec.main_create core.now }
 {

@@ -5,10 +5,10 @@ use crate::stack::Stack;
 use crate::tasks::Tasks;
 use pc_heap::Value;
 
-/// What is to be done next. Each number is that of a node of the core.
+/// What is to be done next. Each number is the number of a node of the core.
 #[derive(Clone, Copy, Debug, PartialEq, Eq)]
 pub enum Task {
-    /// Evaluate the node: do what stands in it, and leave its value on the stack.
+    /// Evaluate the node, and leave its value on the stack.
     Eval(u32),
     /// Read the field of this node from the origin on the stack.
     Get(u32),
@@ -41,9 +41,9 @@ pub enum Task {
 pub struct Frame {
     /// The number of the method.
     pub method: u32,
-    /// What its slots hold, `this` first. A slot that holds nothing is empty.
+    /// The contents of its slots, `this` first. A slot that holds nothing is empty.
     pub slots: Slots,
-    /// The values that are not used yet.
+    /// The values that have not been used yet.
     pub stack: Stack<Value>,
     /// What is to be done, the first task on top.
     pub tasks: Tasks,

@@ -1,5 +1,6 @@
-//! What is proved of every step, and what the machine does with small programs. Each call does nothing, and its contract is
-//! the law of `specs/Laws.antt`, or what `specs/Examples.antt` says of a program in `specs/Programs.antt`.
+//! What is proved of every step, and what the machine does with small programs. Each call does nothing, and its
+//! contract is the law of `specs/Laws.antt`, or what `specs/Examples.antt` states of a program in
+//! `specs/Programs.antt`.
 ghost use Rattle.pc_semantics.specs.Examples as example;
 ghost use Rattle.pc_semantics.specs.Laws as law;
 
@@ -9,13 +10,13 @@ pub fn only_moves_change()
     ensures { law.OnlyMovesChange }
 {}
 
-/// `env.out.print("hi")`: eleven steps, the text and the counts.
+/// `env.out.print("hi")`: eleven steps, the text that is printed, and the counts.
 #[tactic(auto, using(crate::proofs::Computed::hello_runs))]
 pub fn hello_runs()
     ensures { example.HelloRuns }
 {}
 
-/// Without turns, and in the turns of an actor that is not there, nothing happens.
+/// Without turns, and in the turns of an actor that does not exist, nothing happens.
 #[tactic(auto, using(crate::proofs::Computed::no_actor_no_step))]
 pub fn no_actor_no_step()
     ensures { example.NoActorNoStep }
@@ -39,7 +40,7 @@ pub fn a_constructor_sets_its_fields()
     ensures { example.ConstructorSets }
 {}
 
-/// `and` and `or` look at their right side only where the left one does not decide.
+/// `and` and `or` look at their right side only if the left side does not decide.
 #[tactic(auto, using(crate::proofs::Computed::lazy_right))]
 pub fn the_right_side_is_looked_at_when_needed()
     ensures { example.LazyRight }
@@ -51,7 +52,7 @@ pub fn one_branch_is_taken()
     ensures { example.BranchTaken }
 {}
 
-/// A `while` goes round as long as its condition is true.
+/// A `while` repeats as long as its condition is true.
 #[tactic(auto, using(crate::proofs::Computed::while_twice))]
 pub fn a_while_takes_its_turns()
     ensures { example.WhileTwice }
@@ -63,13 +64,13 @@ pub fn numbers_wrap()
     ensures { example.Wraps }
 {}
 
-/// Each of the five lacks comes, where the program is no valid one.
+/// Each of the five lacks occurs if the program is not a valid one.
 #[tactic(auto, using(crate::proofs::Computed::each_lack_comes))]
 pub fn each_lack_comes()
     ensures { example.EachLackComes }
 {}
 
-/// A text of 4,096 bytes may stand, and one of a byte more ends the run.
+/// A text of 4,096 bytes is possible, and one of a byte more ends the run.
 #[tactic(auto, using(crate::proofs::Computed::text_too_long))]
 pub fn a_text_may_be_too_long()
     ensures { example.TextTooLong }

@@ -1,13 +1,13 @@
-//! What a machine is and does: its configurations, one step of an actor, runs over every schedule, and when a program is
-//! safe. These are definitions, in `specs/`; `docs/machine.md` goes through them. The types of what stands in a
-//! configuration are declared here. `specs/Ahead.antt` says what an actor's next step is, before it is made, by the cases of
-//! the step.
+//! What a machine is and does: its configurations, one step of an actor, runs over every schedule, and when a program
+//! is safe. These are definitions, in `specs/`; `docs/machine.md` explains them. The types of the parts of a
+//! configuration are declared here. `specs/Ahead.antt` states what an actor's next step is, before it is made, by the
+//! cases of the step.
 //!
 //! Proved: What a program does, as definitions: configurations, one step of an actor, runs over every schedule, races,
 //! and when a program is safe. Small programs are run in them (`hello_runs` and its like): texts and counts, messages
-//! in order, each lack, a text that is too long, races that are seen. A step that does not move leaves the
+//! in order, each lack, a text that is too long, and races that are seen. A step that does not move leaves the
 //! configuration as it was (`only_moves_change`). The types of stacks, tasks, slots and mailboxes, with their calls:
-//! `Tasks` and `Slots` are the lists that the definitions have, also where they take less memory.
+//! `Tasks` and `Slots` are the lists of the definitions, even if they need less memory.
 #![tactic(auto)]
 
 mod access;

@@ -30,7 +30,7 @@ impl Model for Mailbox {
 }
 
 impl Mailbox {
-    /// A mailbox without messages. It takes no memory.
+    /// A mailbox without messages. It does not allocate.
     pub fn new(alloc: Global) -> Mailbox
         ensures { result ≡ [] }
     {
@@ -46,14 +46,14 @@ impl Mailbox {
         self.waiting.len()
     }
 
-    /// The oldest message. `None` exactly where none waits.
+    /// The oldest message. `None` iff none waits.
     pub fn oldest(&self) -> Option<&Message>
         ensures { option_copied result ≡ slice_get self.now 0 }
     {
         self.waiting.front()
     }
 
-    /// Puts a message behind the others. An `Err` hands it back and changes nothing.
+    /// Appends a message. An `Err` hands it back and changes nothing.
     pub fn deliver(&mut self, message: Message) -> Result<(), AllocFailed<Message>>
         ensures ok { OnOk result (self.new ≡ self.old ++ message ∷ []) }
         ensures err { OnErr result (self.new ≡ self.old) }
@@ -62,7 +62,7 @@ impl Mailbox {
         self.waiting.push_back(message)
     }
 
-    /// Takes the oldest message. `None` exactly where none waits.
+    /// Takes the oldest message. `None` iff none waits.
     pub fn take(&mut self) -> Option<Message>
         ensures message { result ≡ slice_get self.old 0 }
         ensures rest { self.new ≡ drop 1 self.old }

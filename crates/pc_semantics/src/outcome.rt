@@ -1,9 +1,9 @@
 //! How a step ends.
 
-/// What a step lacks. Where it lacks several things, the first in this order is named.
+/// What a step lacks. If it lacks several things, the first in this order is named.
 #[derive(Clone, Copy, Debug, PartialEq, Eq)]
 pub enum Lack {
-    /// A value on the stack, or one of the kind that is asked for.
+    /// A value on the stack, or one of the kind that is needed.
     Value,
     /// The value of a slot.
     Slot,
@@ -11,7 +11,7 @@ pub enum Lack {
     Object,
     /// The field, or its value.
     Field,
-    /// The method, or as many parameters of it as there are arguments.
+    /// The method, or as many parameters as there are arguments.
     Method,
 }
 

@@ -7,10 +7,10 @@ use std::alloc::{AllocError, AllocFailed};
 use std::marker::Model;
 use std::mem;
 
-/// What the slots of a frame hold, the slot of `this` first. They are seen as a list with a place for each slot; one that
-/// holds nothing is empty.
+/// The contents of a frame's slots, the slot of `this` first. Contracts see them as a list with a place for each slot;
+/// one that holds nothing is empty.
 ///
-/// The empty slots behind the last that held something take no memory.
+/// The empty slots after the last one that ever held something need no memory.
 #[derive(Debug, Drop)]
 pub struct Slots {
     held: Vec<Option<Value>>,
@@ -28,14 +28,14 @@ impl Model for Slots {
 }
 
 impl Slots {
-    /// Slots that hold these values, and so many empty ones behind them. It takes no memory.
+    /// Slots that hold these values, followed by `empty` empty ones. It does not allocate.
     pub fn new(held: Vec<Option<Value>>, empty: usize) -> Slots
         ensures { result ≡ held.items ++ replicate empty None }
     {
         Slots { held, empty }
     }
 
-    /// The value in a slot. `None` exactly where it is empty, or there is none of this number.
+    /// The value in a slot. `None` iff the slot is empty or there is no slot with this number.
     pub fn get(&self, slot: usize) -> Option<&Value>
         ensures { MatchOption result ((slice_get self.now slot ≡ None) ⊎ (slice_get self.now slot ≡ Some None)) (λ value. slice_get self.now slot ≡ Some (Some value.now)) }
     {
@@ -46,7 +46,8 @@ impl Slots {
         }
     }
 
-    /// Takes the value out of a slot. `None` exactly where it is empty, or there is none of this number. It takes no memory.
+    /// Takes the value out of a slot. `None` iff the slot is empty or there is no slot with this number. It does not
+    /// allocate.
     pub fn take(&mut self, slot: usize) -> Option<Value>
         ensures value { result ≡ value_of (slice_get self.old slot) }
         ensures rest { self.new ≡ slice_set self.old slot None }
@@ -58,8 +59,8 @@ impl Slots {
         }
     }
 
-    /// Puts a value in a slot, and answers the one before. Where there is no slot of this number, nothing changes. An `Err` hands
-    /// the value back and changes nothing.
+    /// Puts a value into a slot, and returns the old one. If there is no slot with this number, nothing changes. An
+    /// `Err` hands the value back and changes nothing.
     pub fn put(&mut self, slot: usize, value: Value) -> Result<Option<Value>, AllocFailed<Value>>
         ensures before { IfOk result (λ before. before ≡ value_of (slice_get self.old slot)) }
         ensures ok { OnOk result (self.new ≡ slice_set self.old slot (Some value)) }
@@ -73,7 +74,7 @@ impl Slots {
     }
 }
 
-// Makes room for a value in this slot, if there is such a slot. The slots are as they were, also where memory is refused.
+// Makes room for a value in this slot, if there is such a slot. The slots are unchanged, even if memory runs out.
 fn reach(held: &mut Vec<Option<Value>>, empty: &mut usize, slot: usize) -> Result<(), AllocError>
     ensures same { held.new.items ++ replicate empty.new None ≡ held.old.items ++ replicate empty.old None }
     ensures room { OnOk result ((length held.new.items ≤ slot) → (empty.new ≡ 0)) }
@@ -85,7 +86,7 @@ fn reach(held: &mut Vec<Option<Value>>, empty: &mut usize, slot: usize) -> Resul
     Ok(())
 }
 
-// A value in a slot, if it is one of these, and the value before.
+// Puts a value into a slot, if it is one of these, and returns the old one.
 fn put_held(held: &mut Vec<Option<Value>>, slot: usize, value: Value) -> Option<Value>
     ensures new { held.new.items ≡ slice_set held.old.items slot (Some value) }
     ensures old { result ≡ value_of (slice_get held.old.items slot) }
@@ -97,7 +98,7 @@ fn put_held(held: &mut Vec<Option<Value>>, slot: usize, value: Value) -> Option<
     }
 }
 
-// Something else in place of what a slot holds.
+// Replaces the contents of a slot, and returns the old ones.
 fn exchange(held: &mut Vec<Option<Value>>, slot: usize, value: Option<Value>) -> Option<Value>
     requires { slot < length held.old.items }
     ensures new { held.new.items ≡ slice_set held.old.items slot value }

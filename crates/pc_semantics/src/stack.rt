@@ -5,7 +5,7 @@ use std::alloc::{AllocFailed, Global};
 use std::marker::Model;
 use std::mem;
 
-/// A stack. It is seen as a list, the top first.
+/// A stack. Contracts see it as a list, the top first.
 #[derive(Debug, Drop)]
 pub struct Stack<T> {
     items: Vec<T>,
@@ -23,7 +23,7 @@ impl<T> Stack<T> {
     ghost use Rattle.std.specs.Borrow.{sem};
     ghost use Rattle.pc_semantics.specs.Lending.{lends_top};
 
-    /// An empty stack. It takes no memory.
+    /// An empty stack. It does not allocate.
     pub fn new(alloc: Global) -> Stack<T>
         ensures { result ≡ [] }
     {
@@ -48,7 +48,7 @@ impl<T> Stack<T> {
         self.items.push(value)
     }
 
-    /// Takes the top off. `None` exactly where the stack is empty.
+    /// Takes the top off. `None` iff the stack is empty.
     pub fn pop(&mut self) -> Option<T>
         ensures value { result ≡ slice_get self.old 0 }
         ensures rest { self.new ≡ drop 1 self.old }
@@ -56,14 +56,14 @@ impl<T> Stack<T> {
         self.items.pop()
     }
 
-    /// The top. `None` exactly where the stack is empty.
+    /// The top. `None` iff the stack is empty.
     pub fn top(&self) -> Option<&T>
         ensures { option_copied result ≡ slice_get self.now 0 }
     {
         self.items.last()
     }
 
-    /// The top, which may be changed in its place. It takes no memory.
+    /// The top, which may be changed in place. It does not allocate.
     pub fn top_mut(&mut self) -> &mut T
         requires { 0 < length self.old }
         ensures* writes_back { sem 𝓛 (lends_top T.row self.entry result) }
@@ -73,7 +73,7 @@ impl<T> Stack<T> {
         &mut self.items[place]
     }
 
-    /// The value at a place, counted from the top. `None` exactly where there is none.
+    /// The value at a place, counted from the top. `None` iff there is none.
     pub fn peek(&self, place: usize) -> Option<&T>
         ensures { option_copied result ≡ slice_get self.now place }
     {
@@ -85,7 +85,7 @@ impl<T> Stack<T> {
         }
     }
 
-    /// Puts another value in place of the top, and answers the one before. It takes no memory.
+    /// Replaces the top, and returns the old one. It does not allocate.
     pub fn replace_top(&mut self, value: T) -> T
         requires { 0 < length self.old }
         ensures new { self.new ≡ value ∷ drop 1 self.old }
@@ -94,7 +94,7 @@ impl<T> Stack<T> {
         replace_last(&mut self.items, value)
     }
 
-    /// Puts another value in a place, counted from the top, and answers the one before. It takes no memory.
+    /// Replaces the value at a place, counted from the top, and returns the old one. It does not allocate.
     pub fn replace(&mut self, place: usize, value: T) -> T
         requires { place < length self.old }
         ensures new { self.new ≡ slice_set self.old place value }
@@ -103,7 +103,7 @@ impl<T> Stack<T> {
         replace_from_end(&mut self.items, place, value)
     }
 
-    /// The topmost values, the deepest of them first. `None` exactly where there are not so many.
+    /// The topmost `count` values, the deepest of them first. `None` iff there are fewer.
     pub fn topmost(&self, count: usize) -> Option<&[T]>
         ensures enough { IsSome result ↔ (count ≤ length self.now) }
         ensures values { IfSome result (λ values. values.now ≡ reverse (take count self.now)) }
@@ -117,7 +117,7 @@ impl<T> Stack<T> {
 }
 
 impl<T: Drop> Stack<T> {
-    /// Drops the topmost values, and all where there are not so many. It takes no memory.
+    /// Drops the topmost `count` values, or all if there are fewer. It does not allocate.
     pub fn discard(&mut self, count: usize)
         ensures { self.new ≡ drop count self.old }
     {
@@ -126,7 +126,7 @@ impl<T: Drop> Stack<T> {
     }
 }
 
-// The last values of a list.
+// The last `count` values of a list.
 fn last_values<T>(items: &[T], count: usize) -> &[T]
     requires { count ≤ length items.now }
     ensures { result.now ≡ drop (length items.now - count) items.now }
@@ -134,7 +134,7 @@ fn last_values<T>(items: &[T], count: usize) -> &[T]
     &items[items.len() - count..]
 }
 
-// Another value in place of the last one.
+// Replaces the last value, and returns the old one.
 fn replace_last<T>(items: &mut Vec<T>, value: T) -> T
     requires { 0 < length items.old.items }
     ensures new { items.new.items ≡ slice_set items.old.items (length items.old.items - 1) value }
@@ -144,7 +144,7 @@ fn replace_last<T>(items: &mut Vec<T>, value: T) -> T
     mem::replace(&mut items[place], value)
 }
 
-// Another value in a place, counted from the last one.
+// Replaces the value at a place, counted from the end, and returns the old one.
 fn replace_from_end<T>(items: &mut Vec<T>, place: usize, value: T) -> T
     requires { place < length items.old.items }
     ensures new { items.new.items ≡ slice_set items.old.items (length items.old.items - 1 - place) value }

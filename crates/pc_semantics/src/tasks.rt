@@ -10,9 +10,9 @@ use pc_caps::SharedList;
 use std::alloc::{AllocError, Global};
 use std::marker::Model;
 
-/// What a frame has to do. It is seen as a list, the first task on top.
+/// What a frame has to do. Contracts see it as a list, the first task on top.
 ///
-/// The children of a node wait in one entry, however many they are: the list that the core has of them, and a place in it.
+/// The children of a node share one entry, however many there are: the core's list of them, and a place in it.
 #[derive(Debug, Drop)]
 pub struct Tasks {
     entries: Stack<Entry>,
@@ -25,7 +25,7 @@ struct Entry {
     behind: Behind,
 }
 
-// What follows a task, of the children of a node from a place on.
+// What follows a task: the children of a node from a place on.
 #[derive(Debug, Drop)]
 enum Behind {
     Nothing,
@@ -33,7 +33,7 @@ enum Behind {
     Evaluations(SharedList<u32>, usize),
     // Before each child is evaluated, a value is dropped.
     Items(SharedList<u32>, usize),
-    // The same, where the first of these values is dropped.
+    // The same after the first of these values has been dropped.
     Dropped(SharedList<u32>, usize),
 }
 
@@ -48,7 +48,7 @@ impl Model for Tasks {
 }
 
 impl Tasks {
-    /// No task. It takes no memory.
+    /// No tasks. It does not allocate.
     pub fn new(alloc: Global) -> Tasks
         ensures { result ≡ [] }
     {
@@ -57,7 +57,7 @@ impl Tasks {
         }
     }
 
-    /// The first task. `None` exactly where there is none.
+    /// The first task. `None` iff there is none.
     #[tactic(auto, using(crate::proofs::Pending::top_task, crate::proofs::Pending::no_task))]
     pub fn top(&self) -> Option<Task>
         ensures { result ≡ slice_get self.now 0 }
@@ -77,7 +77,7 @@ impl Tasks {
         Ok(())
     }
 
-    /// Takes the first task off. `None` exactly where there is none.
+    /// Takes the first task off. `None` iff there is none.
     pub fn pop(&mut self) -> Option<Task>
         ensures value { result ≡ slice_get self.old 0 }
         ensures rest { self.new ≡ drop 1 self.old }
@@ -87,7 +87,7 @@ impl Tasks {
         Some(task)
     }
 
-    /// Puts another task in place of the first, and answers the one before. It takes no memory.
+    /// Replaces the first task, and returns the old one. It does not allocate.
     pub fn replace_top(&mut self, task: Task) -> Task
         requires { 0 < length self.old }
         ensures new { self.new ≡ task ∷ drop 1 self.old }
@@ -101,7 +101,7 @@ impl Tasks {
         before
     }
 
-    /// Puts tasks before the others, of which the first becomes the first of all. An `Err` changes nothing.
+    /// Puts tasks before the others, in this order. An `Err` changes nothing.
     pub fn push_all(&mut self, tasks: &[Task]) -> Result<(), AllocError>
         ensures ok { OnOk result (self.new ≡ tasks.now ++ self.old) }
         ensures err { OnErr result (self.new ≡ self.old) }
@@ -133,8 +133,8 @@ impl Tasks {
         Ok(())
     }
 
-    /// Puts the items of a sequence in place of the first task: each is evaluated, and its value is dropped before the next. An
-    /// `Err` changes nothing.
+    /// Replaces the first task by the items of a sequence: each is evaluated, and its value is dropped before the next
+    /// one. An `Err` changes nothing.
     pub fn go_on_with_items(&mut self, children: &SharedList<u32>) -> Result<(), AllocError>
         requires { 0 < length self.old }
         ensures ok { OnOk result (self.new ≡ items children.now ++ drop 1 self.old) }
@@ -153,7 +153,7 @@ impl Tasks {
     }
 }
 
-// A task, behind which the entry below comes.
+// A task that is followed by the entry below.
 fn alone(task: Task) -> Entry
     ensures { result ≡ single task }
 {
@@ -163,7 +163,7 @@ fn alone(task: Task) -> Entry
     }
 }
 
-// The evaluation of the child at a place, and then of those behind it.
+// The evaluation of the child at a place, and then of those after it.
 fn evaluation_at(children: SharedList<u32>, place: usize) -> Option<Entry>
     ensures { MatchOption result (evaluations (drop place children) ≡ []) (λ e. entry_tasks e ≡ evaluations (drop place children)) }
 {
@@ -174,7 +174,7 @@ fn evaluation_at(children: SharedList<u32>, place: usize) -> Option<Entry>
     })
 }
 
-// A value is dropped, and then the item at a place comes.
+// A value is dropped, and then the item at a place is evaluated.
 fn item_at(children: SharedList<u32>, place: usize) -> Option<Entry>
     ensures { MatchOption result (as_items (drop place children) ≡ []) (λ e. entry_tasks e ≡ as_items (drop place children)) }
 {
@@ -185,7 +185,7 @@ fn item_at(children: SharedList<u32>, place: usize) -> Option<Entry>
     })
 }
 
-// The item at a place, where the value before it is dropped.
+// The item at a place, after the value before it has been dropped.
 fn dropped_at(children: SharedList<u32>, place: usize) -> Option<Entry>
     ensures { MatchOption result (drop 1 (as_items (drop place children)) ≡ []) (λ e. entry_tasks e ≡ drop 1 (as_items (drop place children))) }
 {
@@ -196,7 +196,7 @@ fn dropped_at(children: SharedList<u32>, place: usize) -> Option<Entry>
     })
 }
 
-// What follows a task, as an entry. `None` exactly where nothing does.
+// What follows a task, as an entry. `None` iff nothing follows.
 fn following(behind: Behind) -> Option<Entry>
     ensures { MatchOption result (behind_tasks behind ≡ []) (λ e. entry_tasks e ≡ behind_tasks behind) }
 {
@@ -208,7 +208,7 @@ fn following(behind: Behind) -> Option<Entry>
     }
 }
 
-// The first task goes.
+// Removes the first task.
 fn advance(entries: &mut Stack<Entry>)
     ensures { all_tasks entries.new ≡ drop 1 (all_tasks entries.old) }
 {
@@ -226,7 +226,7 @@ fn advance(entries: &mut Stack<Entry>)
     }
 }
 
-// The second entry goes.
+// Removes the second entry.
 fn drop_second(entries: &mut Stack<Entry>)
     requires { 1 < length entries.old }
     ensures { entries.new ≡ take 1 entries.old ++ drop 2 entries.old }
@@ -236,7 +236,7 @@ fn drop_second(entries: &mut Stack<Entry>)
     }
 }
 
-// An entry comes in place of the first task. An `Err` changes nothing.
+// Replaces the first task by an entry. An `Err` changes nothing.
 fn replace_first(entries: &mut Stack<Entry>, entry: Entry) -> Result<(), AllocError>
     requires { 0 < length entries.old }
     ensures ok { OnOk result (all_tasks entries.new ≡ entry_tasks entry ++ drop 1 (all_tasks entries.old)) }

@@ -1,4 +1,4 @@
--- What the queue has found is Reach, where nothing is left of it; and a turn of the queue goes on.
+-- What the queue has found is Reach when nothing is left in it; and a turn of the queue goes on.
 use Rattle.std.specs.Prelude.{◌≡◌, ℕ, ◌+◌, ◌<◌, ◌≤◌, List, [], length, Option, Some, None, slice_get}
 use Rattle.std.proofs.Common.{inl, inr, ap, sym, subst, ◌∙◌, arith}
 use Rattle.std.proofs.lemmas.Option.{same_Some, none-some}
@@ -17,7 +17,7 @@ use Rattle.pc_sends.proofs.Grows.{grown_kept}
 use Rattle.pc_sends.proofs.There.{reach_below}
 use Rattle.pc_sends.proofs.Sorted.{differ_few}
 
--- What stands at a place of the old list.
+-- What is at a place of the old list.
 old_get : (P : ℕ → Type 0) (a b : List ℕ) (i t : ℕ) → Grown P a b → i < length a → slice_get b i ≡ Some t → slice_get a i ≡ Some t
 old_get P a b i t g l e =
     let there = get_within a i l in
@@ -76,7 +76,7 @@ module _ (core : CoreData) (ents : List (Option ℕ)) where
   pub is_reach : (k : ℕ) (found : List ℕ) → Found core ents k found → length found ≤ k → IsReach core ents found
   is_reach k found f l = record { differ = f.differ; exact = λ t. (λ h. f.reached h.0 t h.1, reach_found k found f l t) }
 
-  -- What stands at no place.
+  -- What is at no place.
   pub nothing_left : (k : ℕ) (found : List ℕ) → Found core ents k found → slice_get found k ≡ None → IsReach core ents found
   nothing_left k found f e = is_reach k found f (past found k e)
 

@@ -1,4 +1,4 @@
--- From Held to what is known at the configuration behind every list of actors.
+-- From Held to what holds in the configuration after every list of actors.
 use Rattle.std.specs.Prelude.{◌≡◌, ℕ, zero, suc, List, [], ◌∷◌, ◌++◌, Option, Some, None, slice_get, slice_set, refl}
 use Rattle.std.proofs.Common.{inl, inr, ap, sym, subst}
 use Rattle.std.proofs.lemmas.Option.{same_Some, none-some}
@@ -49,7 +49,7 @@ ActorIn core ents a = FramesIn core ents a.frames × MailIn core ents a.mailbox
 abbrev pub ActorsIn : CoreData → List (Option ℕ) → List Actor → Type 0
 ActorsIn core ents actors = (i : ℕ) (a : Actor) → slice_get actors i ≡ Some a → ActorIn core ents a
 
--- Behind a step.
+-- After a step.
 abbrev pub StepIn : CoreData → List (Option ℕ) → Outcome × Configuration → Type 0
 StepIn core ents r = ActorsIn core ents r.1.actors
 
@@ -172,7 +172,7 @@ module _ (core : CoreData) (ents : List (Option ℕ)) (formed : Formed core) whe
 
   -- ---- runs
 
-  -- What is met behind a step that moved is met from before it.
+  -- What is reached after a step that moved is reached from before it.
   held_next : (c : Configuration) (i : ℕ) (to : Configuration) → step core c i ≡ (Moved, to) → HeldFrom core ents c → HeldFrom core ents to
   held_next c i to e held list = subst (λ (s : Outcome × Configuration). HeldAt core ents (followed (λ (n : Configuration). run_from core n list) c c s)) e (held (i ∷ list))
 

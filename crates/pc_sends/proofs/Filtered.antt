@@ -14,7 +14,7 @@ pub record Filtered (P : ℕ → Type 0) (n : ℕ) (xs : List ℕ) : Type 0 wher
 pub filtered_none : (P : ℕ → Type 0) → Filtered P 0 []
 filtered_none P = record { ascends = ascends_none; exact = λ d. (λ h. absurd (none-some d h.1), λ k. let l = k.0 in absurd (omega (arith, l))) }
 
--- The next number has the property, or it has not.
+-- The next number has the property, or does not have it.
 push_ascends : (P : ℕ → Type 0) (n : ℕ) (xs : List ℕ) → Filtered P n xs → Ascends (xs ++ n ∷ [])
 push_ascends P n xs f i j a b l e g = both (get_push xs n i a e) (get_push xs n j b g)
   where

@@ -18,7 +18,7 @@ use Rattle.pc_core.proofs.Homes.{Home, between, home}
 abbrev pub NodeIn : CoreData → ℕ → ℕ → Type 0
 NodeIn core m n = (y : Node) → slice_get core.nodes n ≡ Some y → y.method ≡ m
 
--- Those that wait come from a on, and so does one more.
+-- Those that wait are from a on, and so is one more.
 from_next : (a n : ℕ) (rest : List ℕ) → a ≤ n → Each (λ i c. a ≤ c) rest → Each (λ i c. a ≤ c) (rest ++ n ∷ [])
 from_next a n rest l b i c e =
     elim (get_push rest n i c e) [
@@ -59,7 +59,7 @@ body_in core m b f formed is has y at =
     let fits = (formed.methods m f is).body b has in
     between core m b b f y has fits fits.from (omega arith) at
 
--- A node of a method stands in the method's range.
+-- A node of a method is in the method's range.
 node_at : (core : CoreData) (m n : ℕ) (f : Method) (y : Node) (h : Home core n) → slice_get core.methods m ≡ Some f → slice_get core.nodes n ≡ Some y → y.method ≡ m → (f.first_node ≤ n) × (n < node_end f.first_node f.body)
 node_at core m n f y h is at own =
     let number : m ≡ h.number = sym own ∙ between core h.number h.body n h.method y h.is_body h.fits h.from h.to at in

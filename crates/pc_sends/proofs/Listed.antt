@@ -1,4 +1,4 @@
--- The lists of the entities of which values may be, entity by entity.
+-- The lists of the entities that values may have, entity by entity.
 use Rattle.std.specs.Prelude.{◌≡◌, ◌↔◌, ℕ, zero, suc, ◌+◌, ◌<◌, Bool, true, false, List, [], ◌∷◌, ◌++◌, length, Some, slice_get, refl}
 use Rattle.std.proofs.Common.{inl, inr, ap, sym, subst, ◌∙◌, arith, length-append}
 use Rattle.std.proofs.lemmas.Option.{same_Some, none-some}
@@ -44,7 +44,7 @@ lists_all core n lists l all = record { whole = l.long ∙ all; each = l.each }
 
 -- ---- an entity alone
 
--- What is no trait and no interface may be itself, and nothing else.
+-- An entity that is neither a trait nor an interface may be itself, and nothing else.
 alone_is : (core : CoreData) (e d : ℕ) (x : EntityDef) → slice_get core.entities e ≡ Some x → (IsAbstract core e → ⊥) → (b : Bool) → is_abstract x.kind ≡ b → (d ≡ e) ↔ (MayBe core d e)
 alone_is core e d x at concrete true is = absurd (concrete (x, at, is))
 alone_is core e d x at concrete false is = (

@@ -1,4 +1,4 @@
--- What the methods of an entity send is what they use, where it is a message.
+-- What the methods of an entity send is what they use, if it is a message.
 use Rattle.std.specs.Prelude.{◌≡◌, ℕ, ◌+◌, ◌-◌, ◌<◌, ◌≤◌, true, List, [], Option, Some, None, slice_get, refl}
 use Rattle.std.proofs.Common.{inl, inr, ap, sym, subst, ◌∙◌, arith}
 use Rattle.std.proofs.lemmas.Option.{same_Some, none-some}
@@ -30,14 +30,14 @@ reached_uses core ents m a b r g = grown_same (Uses core ents m) (ReachedUses co
 
 -- ---- messages
 
--- The method, where it is sent.
+-- The method, if it is sent.
 abbrev pub MessageOf : CoreData → ℕ → ℕ → Type 0
 MessageOf core n t = (n ≡ t) × IsMessage core t
 
 pub message_found : (core : CoreData) (n : ℕ) (a b : List ℕ) → IsMessage core n → Grown (λ t. n ≡ t) a b → Grown (MessageOf core n) a b
 message_found core n a b i g = grown_same (λ t. n ≡ t) (MessageOf core n) a b (λ t e. (e, subst (IsMessage core) e i)) (λ t p. p.0) g
 
--- What was found, where nothing was before.
+-- What was found, if nothing had been found before.
 from_none : (P : ℕ → Type 0) (xs : List ℕ) (t : ℕ) → Grown P [] xs → Has xs t → P t
 from_none P xs t g h = elim (g.only t h) [ inl old ↦ absurd (none-some t old.1) | inr p ↦ p ]
 
@@ -68,7 +68,7 @@ module _ (core : CoreData) (ents : List (Option ℕ)) (formed : Formed core) whe
     exact = λ t. (λ h. turns_uses e x t is (from_none _ used t g h), λ u. g.all t (uses_turns e x t is u));
   }
 
-  -- Where there is no such entity, no method names it.
+  -- If there is no such entity, no method names it.
   pub none_used : (e : ℕ) → slice_get core.entities e ≡ None → IsUsed core ents e []
   none_used e is = record {
     differ = differ_none;

@@ -154,7 +154,7 @@ table_made core ents rows never reached found order exact up unsent is s = recor
   reached = λ t. (λ h. (is.exact t).0 ((s.same t).0 h), λ r. (s.same t).1 ((is.exact t).1 r));
 }
 
--- ---- what the table says of a configuration
+-- ---- what the table states about a configuration
 
 may_not_wait : (core : CoreData) (ents : List (Option ℕ)) (t : ℕ) → MayWait core ents t → IsNever core ents t → ⊥
 may_not_wait core ents t (inl first) n = n.later first.0 first.1

@@ -1,4 +1,4 @@
--- Tests of what stands at a place of a list, and of what a list with one element more has.
+-- Tests of what is at a place of a list, and of what a list with one more element has.
 use Rattle.std.specs.Prelude.{◌≡◌, ◌⊎◌, ◌↔◌, ℕ, Bool, true, false, List, [], ◌∷◌, ◌++◌, Some, None, IsTrue, if◌then◌else◌, slice_get}
 use Rattle.std.proofs.Common.{inl, inr, ap, sym, ◌∙◌}
 use Rattle.std.proofs.lemmas.Option.{same_Some, none-some}
@@ -7,7 +7,7 @@ use Rattle.pc_lists.proofs.Bools.{false_true}
 use Rattle.pc_lists.proofs.Gets.{get_push}
 use Rattle.pc_sends.specs.Growth.{Grown}
 
--- Something stands at a place, and passes a test.
+-- There is something at a place, and it passes a test.
 abbrev pub Passes : {A : Type 0} → (A → Bool) → List A → ℕ → Type 0
 Passes {A} p xs i = (x : A) × (slice_get xs i ≡ Some x) × (p x ≡ true)
 

@@ -101,7 +101,7 @@ method_uses core ents m x ns a b formed is own g =
     grown_same (OfSome (NodeAims core ents) (own_nodes core x)) (Uses core ents m) a b (method_to core ents m x formed is) (method_from core ents m x formed is)
     (subst (λ (ys : List Node). Grown (OfSome (NodeAims core ents) ys) a b) own g)
 
--- Where there is no such method, no node names it.
+-- If there is no such method, no node names it.
 pub no_uses : (core : CoreData) (ents : List (Option ℕ)) (m : ℕ) (a : List ℕ) → Formed core → slice_get core.methods m ≡ None → Grown (Uses core ents m) a a
 no_uses core ents m a formed is =
     grown_there (Uses core ents m) a (λ t u.
@@ -118,7 +118,7 @@ made_is core ents k cs n (inr is) t = subst (λ (j : NodeKind). (Aims core ents 
 pub aims_made : (core : CoreData) (ents : List (Option ℕ)) (k : NodeKind) (cs : List ℕ) (n : ℕ) (a b : List ℕ) → (k ≡ nodes.New n) ⊎ (k ≡ nodes.Spawn n) → Grown (λ t. n ≡ t) a b → Grown (Aims core ents k cs) a b
 aims_made core ents k cs n a b is g = grown_same (λ t. n ≡ t) (Aims core ents k cs) a b (λ t e. (made_is core ents k cs n is t).1 e) (λ t e. (made_is core ents k cs n is t).0 e) g
 
--- What a call calls, where its receiver's entity is noted.
+-- What a call calls, if its receiver's entity is noted.
 pub aims_call : (core : CoreData) (ents : List (Option ℕ)) (k : NodeKind) (name : ℕ) (cs : List ℕ) (e : ℕ) (a b : List ℕ) → k ≡ nodes.Call name → noted_receiver ents cs ≡ Some e → Grown (MayCall core name e) a b → Grown (Aims core ents k cs) a b
 aims_call core ents k name cs e a b call is g =
     subst (λ (j : NodeKind). Grown (Aims core ents j cs) a b) (sym call)

@@ -11,14 +11,14 @@ use Rattle.pc_semantics.specs.Configurations.{Configuration}
 use Rattle.pc_sends.specs.Reach.{Reach, Sends, MayWait}
 use Rattle.pc_sends.specs.Laws.{IsSending}
 
--- What is known at a configuration.
+-- What holds at a configuration.
 pub record Covered (core : CoreData) (ents : List (Option ℕ)) (c : Configuration) : Type 0 where
   -- each frame is one of a method in Reach
   pub frames : Each (λ i a. Each (λ k f. Reach core ents f.method) a.frames) c.actors
   -- each waiting message is Main's first one or has a pair in Sends, so its method is in Reach
   pub waits : Each (λ i a. Each (λ k m. MayWait core ents m.method) a.mailbox) c.actors
   pub messages : Each (λ i a. Each (λ k m. Reach core ents m.method) a.mailbox) c.actors
-  -- what is about to be sent has the pair of the frame's entity and the message's method
+  -- whatever is about to be sent has a pair: the frame's entity and the message's method
   pub sends : (i : ℕ) (x : Method) (m : Message) → IsSending core c i x m → Sends core ents x.entity m.method
 
 -- What is held gives this over every list of actors.

@@ -16,7 +16,7 @@ use Rattle.pc_core.specs.Entities.{nowhere}
 use Rattle.pc_semantics.specs.Programs.{program, create}
 use Rattle.pc_sends.specs.Reach.{Sends}
 
--- Names; their texts are not looked at.
+-- Names, whose texts do not matter.
 abbrev pub go : ℕ
 go = 4
 
@@ -44,8 +44,8 @@ method_of e name k body = record {
 abbrev pub node_of : ℕ → NodeKind → List ℕ → Node
 node_of m k children = record { kind = k; children = children; depth = 0; method = m; span = nowhere }
 
--- Actor A, entity 6, has the behaviours `go` and `stop` and its constructor, methods 1 to 3. Main's constructor, method 4, is
--- `A().go()`.
+-- Actor A, entity 6, has the behaviours `go` and `stop` and its constructor, which are methods 1 to 3. Main's
+-- constructor, method 4, is `A().go()`.
 abbrev pub never_stops : CoreData
 never_stops = program (actor (codes "A") 1 3 ∷ actor (codes "Main") 4 1 ∷ []) (method_of 6 go method.Be 1 ∷ method_of 6 stop method.Be 3 ∷ method_of 6 create method.Spawn 5 ∷ method_of 7 create method.Spawn 9 ∷ [])
     (
@@ -61,7 +61,7 @@ never_stops = program (actor (codes "A") 1 3 ∷ actor (codes "Main") 4 1 ∷ []
     ∷ node_of 4 node.Body (8 ∷ []) ∷ []
     )
 
--- The spawned value is an A; what else is noted is not looked at.
+-- The spawned value is an A; what else is noted does not matter.
 abbrev pub its_entities : List (Option ℕ)
 its_entities = None ∷ None ∷ None ∷ None ∷ None ∷ None ∷ Some 6 ∷ None ∷ None ∷ None ∷ []
 

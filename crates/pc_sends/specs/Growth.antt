@@ -1,8 +1,8 @@
--- How a list of numbers that differ has grown.
+-- How a list of distinct numbers has grown.
 use Rattle.std.specs.Prelude.{◌≡◌, ◌⊎◌, ◌↔◌, ℕ, ◌<◌, ◌≤◌, List, ◌++◌, Some, slice_get}
 use Rattle.pc_lists.specs.Places.{Has, Differ, Ascends}
 
--- The numbers with P came behind those that were there, unless they were there already; and no others did.
+-- The numbers with P were appended, unless they were in the list already, and no others were.
 pub record Grown (P : ℕ → Type 0) (old new : List ℕ) : Type 0 where
   pub more : List ℕ
   pub behind : new ≡ old ++ more
@@ -10,15 +10,15 @@ pub record Grown (P : ℕ → Type 0) (old new : List ℕ) : Type 0 where
   pub all : (t : ℕ) → P t → Has new t
   pub differ : Differ old → Differ new
 
--- The number has a property with some number from `low` on and below n.
+-- The number is related to some number from `low` on and below n.
 abbrev pub Turns : (ℕ → ℕ → Type 0) → (low end number : ℕ) → Type 0
 Turns Q low n t = (k : ℕ) × (low ≤ k) × (k < n) × Q k t
 
--- The number has a property with some element of a list.
+-- The number is related to some element of a list.
 abbrev pub OfSome : {A : Type 0} → (A → ℕ → Type 0) → List A → ℕ → Type 0
 OfSome {A} R xs t = (k : ℕ) × (x : A) × (slice_get xs k ≡ Some x) × R x t
 
--- The second list has the numbers of the first, in ascending order.
+-- The second list has the numbers of the first in ascending order.
 pub record Sorts (xs ys : List ℕ) : Type 0 where
   pub ascends : Ascends ys
   pub same : (t : ℕ) → (Has ys t) ↔ (Has xs t)

@@ -1,5 +1,5 @@
--- When entities that are noted at nodes tell the truth: over every list of actors, what is called is of the entity that is
--- noted at the receiver's node.
+-- When the entities that are noted at nodes are right: over every list of actors, the receiver of a call is of the
+-- entity that is noted at the receiver's node.
 -- ---- the call that comes next
 use Rattle.std.specs.Prelude.{◌≡◌, ℕ, List, Option, Some, None, slice_get}
 use Rattle.pc_heap.specs.Objects.{ObjectMap}
@@ -26,7 +26,7 @@ abbrev pub receiver_of : NodeKind → List ℕ → Option ℕ
 receiver_of (node.Call name) children = last_of children
 receiver_of k children = None
 
--- The receiver's node and value, where the first of these tasks is a call. The value is on top of the stack.
+-- The receiver's node and value, if the first of these tasks is a call. The value is on top of the stack.
 abbrev pub call_in : CoreData → List Task → List Value → Option (ℕ × Value)
 call_in core tasks stack = do
   t ← slice_get tasks 0
@@ -41,7 +41,7 @@ call_of core f = call_in core f.tasks f.stack
 
 -- ---- Held
 
--- The value may be behind node r: its own entity is the noted one, or conforms to it.
+-- What is noted at node r holds of the value: its own entity is the noted one, or conforms to it.
 pub record IsNoted (core : CoreData) (ents : List (Option ℕ)) (objects : ObjectMap) (r : ℕ) (v : Value) : Type 0 where
   pub noted : ℕ
   pub is_noted : noted_at ents r ≡ Some noted
@@ -49,15 +49,15 @@ pub record IsNoted (core : CoreData) (ents : List (Option ℕ)) (objects : Objec
   pub is_own : entity_of objects v ≡ Some own
   pub may_be : MayBe core own noted
 
--- So it is for each actor whose next task is a call.
+-- This holds for each actor whose next task is a call.
 abbrev pub HeldAt : CoreData → List (Option ℕ) → Configuration → Type 0
 HeldAt core ents c =
     (i : ℕ) (f : Frame) (r : ℕ) (v : Value) → running c i ≡ Some f → call_of core f ≡ Some (r, v) → IsNoted core ents c.objects r v
 
--- At each configuration that is met from c on.
+-- It holds at every configuration that is reached from c.
 abbrev pub HeldFrom : CoreData → List (Option ℕ) → Configuration → Type 0
 HeldFrom core ents c = (list : List ℕ) → HeldAt core ents (run_from core c list)
 
--- Over every list of actors.
+-- It holds over every list of actors.
 abbrev pub Held : CoreData → List (Option ℕ) → Type 0
 Held core ents = (list : List ℕ) → HeldAt core ents (after core list)

@@ -11,13 +11,13 @@ use Rattle.pc_semantics.specs.Tasks.{task_move}
 use Rattle.pc_semantics.specs.Step.{around}
 use Rattle.pc_sends.specs.Running.{running}
 
--- The message of a move: that of a new actor's constructor, or that of a behaviour.
+-- The message of a move: the one for a new actor's constructor, or the one for a behaviour.
 abbrev pub message_of : Move → Option Message
 message_of (Spawns o m f) = Some m
 message_of (Sending j m f) = Some m
 message_of move = None
 
--- The move of a frame that goes on with these tasks.
+-- The move of a frame with these tasks.
 abbrev pub next_move : CoreData → Around → Frame → List Task → Option Move
 next_move core around f [] = None
 next_move core around f (t ∷ ts) = Some (task_move core around (record { method = f.method; slots = f.slots; stack = f.stack; tasks = ts }) t)

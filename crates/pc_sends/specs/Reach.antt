@@ -1,4 +1,4 @@
--- Which methods may ever begin or be sent, and which entity's methods may send which message.
+-- Which methods may ever begin or be sent, and which entity's methods may send which messages.
 use Rattle.std.specs.Prelude.{◌≡◌, ◌⊎◌, ℕ, List, Option, Some, slice_get, Bool, true, false}
 use Rattle.pc_core.specs.declared.declarations.Method.{Method}
 use Rattle.pc_core.specs.declared.declarations.MethodKind.TheVariants as method
@@ -19,7 +19,7 @@ pub data Reach (core : CoreData) (ents : List (Option ℕ)) : ℕ → Type 0 whe
 
 -- ---- Sends
 
--- What a node of this kind may do with method t is a message: the node is a Spawn, or a Call and t a behaviour.
+-- If a node of this kind uses method t, it sends a message: it is a Spawn, or a Call with a behaviour t.
 abbrev pub IsSent : CoreData → NodeKind → ℕ → Type 0
 IsSent core (nodes.Spawn k) t = Unit {0}
 IsSent core (nodes.Call name) t = NamesMethod core method.Be t
@@ -38,11 +38,11 @@ pub record Sends (core : CoreData) (ents : List (Option ℕ)) (e t : ℕ) : Type
   pub entity : method.entity ≡ e
   pub posts : Posts core ents from t
 
--- What may wait in a mailbox: the message with which a program begins, or one that something sends.
+-- What may wait in a mailbox: the message with which the program begins, or one that some method sends.
 abbrev pub MayWait : CoreData → List (Option ℕ) → ℕ → Type 0
 MayWait core ents t = ((e : ℕ) × (main_create core ≡ Some (e, t))) ⊎ ((e : ℕ) × Sends core ents e t)
 
--- Methods of these kinds are sent: behaviours and the constructors of actors.
+-- Methods of these kinds are sent: behaviours, and the constructors of actors.
 abbrev pub is_message : MethodKind → Bool
 is_message method.Fun = false
 is_message method.Be = true

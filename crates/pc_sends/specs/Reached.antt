@@ -1,4 +1,4 @@
--- What was found of the methods in Reach, and what is a message.
+-- What has been found of the methods in Reach, and which methods are messages.
 -- ---- Reach
 use Rattle.std.specs.Prelude.{◌≡◌, ◌↔◌, ℕ, ◌<◌, true, List, Option, Some, slice_get}
 use Rattle.pc_core.specs.declared.declarations.Method.{Method}
@@ -9,14 +9,14 @@ use Rattle.pc_semantics.specs.Configurations.{main_create}
 use Rattle.pc_sends.specs.Uses.{Uses}
 use Rattle.pc_sends.specs.Reach.{Reach, Sends, is_message}
 
--- All that was found is in Reach, and of it what the first k methods use was found as well.
+-- Everything found is in Reach, and everything that the first k of the found methods use has been found.
 pub record Found (core : CoreData) (ents : List (Option ℕ)) (k : ℕ) (found : List ℕ) : Type 0 where
   pub reached : Each (λ i t. Reach core ents t) found
   pub differ : Differ found
   pub begins : (e t : ℕ) → main_create core ≡ Some (e, t) → Has found t
   pub closed : (i m t : ℕ) → i < k → slice_get found i ≡ Some m → Uses core ents m t → Has found t
 
--- The list has the methods in Reach, each once.
+-- The list has exactly the methods in Reach, each once.
 pub record IsReach (core : CoreData) (ents : List (Option ℕ)) (found : List ℕ) : Type 0 where
   pub differ : Differ found
   pub exact : (t : ℕ) → (Has found t) ↔ (Reach core ents t)
@@ -38,12 +38,12 @@ pub record EntityUses (core : CoreData) (ents : List (Option ℕ)) (e t : ℕ) :
   pub entity : method.entity ≡ e
   pub uses : ReachedUses core ents from t
 
--- The list has what the methods of entity e that are in Reach use, each once.
+-- The list has exactly what the methods of entity e in Reach use, each once.
 pub record IsUsed (core : CoreData) (ents : List (Option ℕ)) (e : ℕ) (used : List ℕ) : Type 0 where
   pub differ : Differ used
   pub exact : (t : ℕ) → (Has used t) ↔ (EntityUses core ents e t)
 
--- The list has what the methods of entity e send, in ascending order.
+-- The list has exactly what the methods of entity e send, in ascending order.
 pub record AreSent (core : CoreData) (ents : List (Option ℕ)) (e : ℕ) (targets : List ℕ) : Type 0 where
   pub ascends : Ascends targets
   pub exact : (t : ℕ) → (Has targets t) ↔ (Sends core ents e t)

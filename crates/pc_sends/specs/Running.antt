@@ -4,7 +4,7 @@ use Rattle.pc_lists.specs.Options.{◌>>=◌}
 use Rattle.pc_semantics.specs.declared.frames.Frame.{Frame}
 use Rattle.pc_semantics.specs.Configurations.{Configuration}
 
--- The frame of actor i that runs.
+-- The running frame of actor i.
 abbrev pub running : Configuration → ℕ → Option Frame
 running c i = do
   a ← slice_get c.actors i

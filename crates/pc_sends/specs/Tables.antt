@@ -18,7 +18,7 @@ use Rattle.pc_sends.specs.Laws.{IsSending}
 abbrev pub row : (entity target : ℕ) → Row
 row e t = record { from = e; target = t }
 
--- By the entity that sends, and then by the method that is sent.
+-- By the sending entity, and then by the method that is sent.
 abbrev pub Before : Row → Row → Type 0
 Before a b = (a.from < b.from) ⊎ ((a.from ≡ b.from) × (a.target < b.target))
 
@@ -27,26 +27,26 @@ InOrder rows = (i j : ℕ) (a b : Row) → i < j → slice_get rows i ≡ Some a
 
 -- ---- what is never sent
 
--- An actor of the file: its entities come behind those that are built in.
+-- An actor of the file, whose entities follow the built-in ones.
 pub record IsOwnActor (core : CoreData) (e : ℕ) : Type 0 where
   pub entity : EntityDef
   pub is_entity : slice_get core.entities e ≡ Some entity
   pub own : first_own ≤ e
   pub actor : entity.kind ≡ kind.Actor
 
--- A behaviour or a constructor of an actor of the file.
+-- A behaviour or a constructor of one of the file's actors.
 pub record IsOfActor (core : CoreData) (t : ℕ) : Type 0 where
   pub method : Method
   pub is_method : slice_get core.methods t ≡ Some method
   pub message : is_message method.kind ≡ true
   pub actor : IsOwnActor core method.entity
 
--- The program begins with another method, if with any.
+-- The program does not begin with this method.
 abbrev pub IsLater : Option (ℕ × ℕ) → ℕ → Type 0
 IsLater first t = (e : ℕ) → first ≡ Some (e, t) → ⊥
 
--- A behaviour or a constructor of an actor of the file, other than the one with which the program begins, that is the
--- target of none of these rows.
+-- A behaviour or a constructor of one of the file's actors, other than the one with which the program begins, that is
+-- the target of none of these rows.
 pub record IsUnsent (core : CoreData) (rows : List Row) (t : ℕ) : Type 0 where
   pub of_actor : IsOfActor core t
   pub later : IsLater (main_create core) t
@@ -71,12 +71,12 @@ pub record IsTable (core : CoreData) (ents : List (Option ℕ)) (table : Table) 
   pub reached_ascends : Ascends table.reached
   pub reached : (t : ℕ) → (Has table.reached t) ↔ (Reach core ents t)
 
--- ---- what it says of a configuration
+-- ---- what it states about a configuration
 
 pub record Tells (core : CoreData) (table : Table) (c : Configuration) : Type 0 where
   -- each frame is one of a method that is reached
   pub frames : Each (λ i a. Each (λ k f. Has table.reached f.method) a.frames) c.actors
-  -- what is about to be sent has its row
+  -- whatever is about to be sent has its row
   pub sends : (i : ℕ) (x : Method) (m : Message) → IsSending core c i x m → Has table.rows (row x.entity m.method)
-  -- no message in a mailbox is never sent
+  -- no message in a mailbox is one that is never sent
   pub waits : Each (λ i a. Each (λ k m. Has table.never m.method → ⊥) a.mailbox) c.actors

@@ -21,8 +21,8 @@ is_called method.Be = true
 is_called method.New = false
 is_called method.Spawn = false
 
--- A call of this name, on a receiver that is known to be of entity e, may be one of method t: the method of an entity of
--- which the receiver may be.
+-- A call of this name, on a receiver that is known to be of entity e, may call method t: the method of an entity that
+-- the receiver may have.
 pub record MayCall (core : CoreData) (name e t : ℕ) : Type 0 where
   pub entity : ℕ
   pub may_be : MayBe core entity e
@@ -31,14 +31,14 @@ pub record MayCall (core : CoreData) (name e t : ℕ) : Type 0 where
   pub is_method : slice_get core.methods t ≡ Some method
   pub called : is_called method.kind ≡ true
 
--- The function or behaviour of this name of entity d.
+-- The function or behaviour with this name of entity d.
 abbrev pub called_in : CoreData → (name entity : ℕ) → Option ℕ
 called_in core name d = do
   t ← method_named core d name
   y ← slice_get core.methods t
   if is_called y.kind then Some t else None
 
--- Of these calls, each a name and the entity of the receiver, all methods that they may call were found.
+-- All methods that these calls may call have been found; a call is a name and the entity of its receiver.
 abbrev pub Known : CoreData → List (ℕ × ℕ) → List ℕ → Type 0
 Known core calls found = (name e t : ℕ) → Has calls (name, e) → MayCall core name e t → Has found t
 
@@ -67,7 +67,7 @@ Aims core ents (nodes.Spawn k) children t = k ≡ t
 Aims core ents (nodes.Call name) children t = (e : ℕ) × (noted_receiver ents children ≡ Some e) × MayCall core name e t
 Aims core ents k children t = ⊥
 
--- A node of method m does.
+-- A node of method m may make, spawn or call method t.
 pub record Uses (core : CoreData) (ents : List (Option ℕ)) (m t : ℕ) : Type 0 where
   pub number : ℕ
   pub node : Node

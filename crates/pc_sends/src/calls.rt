@@ -1,4 +1,4 @@
-//! Calls that were looked at.
+//! Calls that have been looked at.
 ghost use Rattle.std.specs.Prelude.{◌≡◌, ◌↔◌, ◌⊎◌, ℕ, [], IsTrue, OnOk};
 ghost use Rattle.pc_lists.specs.Places.{Has};
 
@@ -6,7 +6,7 @@ use indexmap::IndexSet;
 use std::alloc::{AllocError, Global};
 use std::marker::Model;
 
-/// Calls, each the number of a name and the entity of which its receiver is known to be.
+/// Calls, each as the number of its name and the entity that its receiver is known to have.
 #[derive(Drop)]
 pub(crate) struct Calls {
     pairs: IndexSet<(u32, u32)>,

@@ -1,4 +1,4 @@
-//! Of which entities a value may be.
+//! The entities that a value may have.
 ghost use Rattle.std.specs.Prelude.{◌≡◌, ◌↔◌, ◌<◌, ℕ, length, IsTrue, IfOk};
 ghost use Rattle.pc_core.specs.Entities.{IsAbstract};
 ghost use Rattle.pc_lists.specs.Places.{Has};
@@ -26,7 +26,7 @@ fn is_one(core: &Core, entity: u32, known: u32) -> bool
     entity == known || is_abstract(core, known) && conforms(core, entity, known)
 }
 
-// Whether what is known to be of entity `known` may be of this entity.
+// Whether a value that is known to be of entity `known` may be of this entity.
 fn may_be(core: &Core, entity: u32, known: u32) -> bool
     ensures { IsTrue result ↔ spec.MayBe core.now entity known }
 {
@@ -36,7 +36,7 @@ fn may_be(core: &Core, entity: u32, known: u32) -> bool
     }
 }
 
-// The entities of which a value may be that is known to be of the trait or interface `known`.
+// The entities that a value may have if it is known to be of the trait or interface `known`.
 fn all_below(alloc: Global, core: &Core, known: u32) -> Result<List<u32>, AllocError>
     ensures { IfOk result (λ entities. (d : ℕ) → Has entities d ↔ spec.MayBe core.now d known) }
 {
@@ -50,7 +50,7 @@ fn all_below(alloc: Global, core: &Core, known: u32) -> Result<List<u32>, AllocE
     Ok(entities)
 }
 
-// The entity alone, which is no trait and no interface.
+// Just this entity, which is neither a trait nor an interface.
 fn alone(alloc: Global, core: &Core, known: u32) -> Result<List<u32>, AllocError>
     requires there { known < length core.now.entities }
     requires concrete { IsAbstract core.now known → ⊥ }
@@ -61,7 +61,8 @@ fn alone(alloc: Global, core: &Core, known: u32) -> Result<List<u32>, AllocError
     Ok(entities)
 }
 
-// The entities of which a value may be that is known to be of entity `known`. Only a trait or an interface may be another.
+// The entities that a value may have if it is known to be of entity `known`. They differ from it only if it is a trait
+// or an interface.
 fn all_of(alloc: Global, core: &Core, known: u32) -> Result<List<u32>, AllocError>
     requires { known < length core.now.entities }
     ensures { IfOk result (λ entities. (d : ℕ) → Has entities d ↔ spec.MayBe core.now d known) }
@@ -73,7 +74,7 @@ fn all_of(alloc: Global, core: &Core, known: u32) -> Result<List<u32>, AllocErro
     }
 }
 
-/// For each entity of the core, those of which a value may be that is known to be of it.
+/// For each entity of the core, the entities that a value may have if it is known to be of it.
 pub(crate) fn list_all(alloc: Global, core: &Core) -> Result<List<List<u32>>, AllocError>
     ensures { IfOk result (λ lists. spec.ListsMayBe core.now lists) }
 {

@@ -7,7 +7,7 @@ use indexmap::IndexSet;
 use std::alloc::{AllocError, Global};
 use std::marker::Model;
 
-/// Numbers that differ, in the order in which they were found.
+/// Distinct numbers, in the order in which they were found.
 #[derive(Drop)]
 pub(crate) struct Found {
     numbers: IndexSet<u32>,
@@ -30,7 +30,7 @@ impl Found {
         }
     }
 
-    /// The number goes behind the others, unless it is there.
+    /// Appends the number, unless it is there already.
     pub(crate) fn add(&mut self, number: u32) -> Result<(), AllocError>
         ensures { OnOk result (Grown (λ t. number ≡ t) self.old self.new) }
     {

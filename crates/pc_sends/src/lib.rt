@@ -1,10 +1,12 @@
-//! Which entity's methods may send which message, over every run at once: the metatheory of accepted programs, run as a check.
-//! For each node it is given the entity that is noted of its value, and goes through the methods that may ever begin.
+//! Which entity's methods may send which messages, over every run at once: the metatheory of accepted programs, run as
+//! a check. Its input is the entity that is noted of each node's value, and it goes through all methods that may ever
+//! begin.
 //!
-//! Proved: `sends` gives exactly the pairs of the definitions (`specs/Reach.antt`), what is never sent and what is reached, each
-//! once and in order. Where what is noted is held (`specs/Held.antt`), over every list of actors each frame is of a method that is
-//! reached, each message that is sent has its row, and nothing that is never sent waits in a mailbox (`held_covers`). At a call
-//! on a trait or an interface the methods of all that conform to it are looked at, and no others.
+//! Proved: `sends` returns exactly the pairs of the definitions (`specs/Reach.antt`), what is never sent and what is
+//! reached, each once and in order. If what is noted is held (`specs/Held.antt`), then over every list of actors each
+//! frame is of a method that is reached, each message that is sent has its row, and nothing that is never sent waits in
+//! a mailbox (`held_covers`). At a call on a trait or an interface, the methods of exactly the entities that conform to
+//! it are looked at.
 #![tactic(auto)]
 
 mod calls;

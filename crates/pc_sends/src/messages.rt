@@ -24,7 +24,7 @@ pub(crate) fn is_message(kind: MethodKind) -> bool
     }
 }
 
-// Whether the method of this number is sent.
+// Whether the method with this number is sent.
 fn is_message_at(core: &Core, number: u32) -> bool
     ensures { IsTrue result ↔ spec.IsMessage core.now number }
 {
@@ -36,7 +36,7 @@ fn is_message_at(core: &Core, number: u32) -> bool
 
 // ---- what is used
 
-// What a method uses is found, if it is in Reach.
+// Finds what a method uses, if the method is in Reach.
 fn see_reached(
     noted: &Noted,
     reached: &Found,
@@ -56,7 +56,7 @@ fn see_reached(
     }
 }
 
-// What these methods use, those of them that are in Reach.
+// What those of these methods use that are in Reach.
 fn used_from(
     alloc: Global,
     noted: &Noted,
@@ -76,7 +76,7 @@ fn used_from(
     Ok(walk.found)
 }
 
-// What the methods of an entity that are in Reach use.
+// What the methods of an entity use that are in Reach.
 fn used_by(alloc: Global, noted: &Noted, reached: &Found, entity: u32) -> Result<Found, AllocError>
     requires lists { ListsMayBe noted.now.core.now noted.now.lists.now }
     requires reached { spec.IsReach noted.now.core.now noted.now.entities.now reached.now }
@@ -94,7 +94,7 @@ fn used_by(alloc: Global, noted: &Noted, reached: &Found, entity: u32) -> Result
 
 // ---- what is sent
 
-// The method is found, if it is one that is sent.
+// Finds the method, if it is one that is sent.
 fn find_message(core: &Core, number: u32, messages: &mut Found) -> Result<(), AllocError>
     ensures { OnOk result (Grown (λ t. (number ≡ t) × spec.IsMessage core.now t) messages.old messages.new) }
 {
@@ -105,7 +105,7 @@ fn find_message(core: &Core, number: u32, messages: &mut Found) -> Result<(), Al
     }
 }
 
-// Those of the methods that are sent.
+// Those of these methods that are sent.
 fn messages_of(alloc: Global, core: &Core, numbers: &[u32]) -> Result<Found, AllocError>
     ensures { IfOk result (λ messages. Grown (OfSome (λ n t. (n ≡ t) × spec.IsMessage core.now t) numbers.now) [] messages) }
 {

@@ -35,7 +35,7 @@ fn is_actor(kind: EntityKind) -> bool
     }
 }
 
-// Whether the entity is an actor of the file.
+// Whether the entity is one of the file's actors.
 fn is_own_actor(core: &Core, entity: u32) -> bool
     ensures { IsTrue result ↔ spec.IsOwnActor core.now entity }
 {
@@ -45,7 +45,7 @@ fn is_own_actor(core: &Core, entity: u32) -> bool
     }
 }
 
-// Whether the method is a behaviour or a constructor of an actor of the file.
+// Whether the method is a behaviour or a constructor of one of the file's actors.
 fn is_of_actor(core: &Core, number: u32) -> bool
     ensures { IsTrue result ↔ spec.IsOfActor core.now number }
 {
@@ -55,7 +55,7 @@ fn is_of_actor(core: &Core, number: u32) -> bool
     }
 }
 
-// Whether the program begins with another method.
+// Whether the program does not begin with this method.
 fn is_later(first: Option<(u32, u32)>, number: u32) -> bool
     ensures { IsTrue result ↔ spec.IsLater first number }
 {
@@ -65,15 +65,15 @@ fn is_later(first: Option<(u32, u32)>, number: u32) -> bool
     }
 }
 
-// Whether the method is one of an actor of the file, the program begins with another, and it is no target.
+// Whether the method belongs to one of the file's actors, the program does not begin with it, and it is not a target.
 fn is_unsent(core: &Core, first: Option<(u32, u32)>, targets: &Found, number: u32) -> bool
     ensures { IsTrue result ↔ (spec.IsOfActor core.now number × spec.IsLater first number × (Has targets.now number → ⊥)) }
 {
     is_of_actor(core, number) && is_later(first, number) && !targets.has(number)
 }
 
-/// The behaviours and constructors of the file's actors, other than the one with which the program begins, that are no
-/// target of these rows, in ascending order.
+/// The behaviours and constructors of the file's actors, other than the one with which the program begins, that are not
+/// targets of these rows, in ascending order.
 pub(crate) fn list_never(alloc: Global, core: &Core, rows: &[Row]) -> Result<List<u32>, AllocError>
     ensures ascends { IfOk result (λ numbers. Ascends numbers) }
     ensures exact { IfOk result (λ numbers. (t : ℕ) → Has numbers t ↔ spec.IsUnsent core.now rows.now t) }

@@ -11,7 +11,7 @@ use pc_core::Core;
 use pc_semantics::main_create;
 use std::alloc::{AllocError, Global};
 
-// The method with which the program begins is found.
+// Finds the method with which the program begins.
 fn find_first(core: &Core, found: &mut Found) -> Result<(), AllocError>
     ensures { OnOk result (Grown (λ t. (e : ℕ) × (beginning.main_create core.now ≡ Some (e, t))) found.old found.new) }
 {
@@ -21,7 +21,7 @@ fn find_first(core: &Core, found: &mut Found) -> Result<(), AllocError>
     }
 }
 
-// The walk that has found that method, and has looked at no call.
+// The walk that has found this method, and has not looked at any call.
 fn begin(alloc: Global, noted: &Noted) -> Result<Walk, AllocError>
     ensures found { IfOk result (λ walk. spec.Found noted.now.core.now noted.now.entities.now 0 walk.found) }
     ensures calls { IfOk result (λ walk. walk.calls ≡ []) }
@@ -31,7 +31,8 @@ fn begin(alloc: Global, noted: &Noted) -> Result<Walk, AllocError>
     Ok(walk)
 }
 
-/// The methods in Reach, each once: those that were found are looked at, one after the other, and what they use is found.
+/// The methods in Reach, each once: the methods found are looked at one after another, and what they use is found in
+/// turn.
 pub(crate) fn reach(alloc: Global, noted: &Noted) -> Result<Found, AllocError>
     requires { ListsMayBe noted.now.core.now noted.now.lists.now }
     ensures { IfOk result (λ found. spec.IsReach noted.now.core.now noted.now.entities.now found) }

@@ -13,7 +13,7 @@ use crate::walk::Noted;
 use pc_caps::List;
 use std::alloc::{AllocError, Global};
 
-// The rows of an entity come behind the others.
+// Appends the rows of an entity.
 fn add_rows(from: u32, targets: &[u32], rows: &mut List<Row>) -> Result<(), AllocError>
     ensures { OnOk result (rows.new ≡ rows.old ++ map (spec.row from) targets.now) }
 {

@@ -34,20 +34,20 @@ fn table_of(alloc: Global, noted: &Noted, found: &Found) -> Result<Table, AllocE
     })
 }
 
-/// Which entity's methods may send which message, over every run at once. For each node `entities` has the entity that is
-/// noted of its value, or none; and what is noted of the receivers of calls is held by every run.
+/// Which entity's methods may send which messages, over every run at once. For each node, `entities` has the entity
+/// that is noted of its value, or none; what is noted of the receivers of calls has to be held by every run.
 ///
 /// # Errors
-/// At want of memory.
+/// If memory runs out.
 pub fn sends(alloc: Global, core: &Core, entities: &[Option<u32>]) -> Result<Table, AllocError>
     requires held { Held core.now entities.now }
     requires whole { length entities.now ≡ length core.now.nodes }
 
-    // The rows, what is never sent and what is reached are those of the definitions, each once and in order.
+    // The rows, what is never sent and what is reached are as defined, each once and in order.
     ensures table { IfOk result (λ table. spec.IsTable core.now entities.now table) }
 
-    // Over every list of actors each frame is of a method that is reached, what is sent has its row, and no message of a
-    // method that is never sent is in a mailbox.
+    // Over every list of actors, each frame is of a method that is reached, whatever is sent has its row, and no
+    // message of a method that is never sent is in a mailbox.
     ensures tells { IfOk result (λ table. (list : Sequence ℕ) → spec.Tells core.now table (after core.now list)) }
 {
     core.formed();

@@ -2,7 +2,7 @@
 
 use pc_caps::List;
 
-/// That methods of an entity may send a message: the entity's number, and the number of the method that is sent.
+/// Methods of an entity may send a message: the entity's number, and the number of the method that is sent.
 #[derive(Clone, Copy, Debug, PartialEq, Eq)]
 pub struct Row {
     pub from: u32,

@@ -13,17 +13,17 @@ use pc_caps::List;
 use pc_core::{Core, Method, MethodKind, Node, NodeKind};
 use std::alloc::{AllocError, Global};
 
-/// A core with what is noted of it.
+/// A core with the entities that are noted of it.
 #[derive(Drop)]
 pub(crate) struct Noted<'a> {
     pub(crate) core: &'a Core,
-    /// The entity of each node's type, where it has one.
+    /// The entity of each node's type, if it has one.
     pub(crate) entities: &'a [Option<u32>],
-    /// For each entity, those of which a value may be that is known to be of it.
+    /// For each entity, the entities that a value may have if it is known to be of it.
     pub(crate) lists: &'a [List<u32>],
 }
 
-/// What was found, and the calls that were looked at.
+/// What has been found, and the calls that have been looked at.
 #[derive(Drop)]
 pub(crate) struct Walk {
     pub(crate) found: Found,
@@ -41,7 +41,7 @@ fn is_called(kind: MethodKind) -> bool
     }
 }
 
-// The function or behaviour of this name of an entity.
+// The function or behaviour with this name of an entity.
 fn called_in(core: &Core, name: u32, entity: u32) -> Option<u32>
     ensures { result ≡ spec.called_in core.now name entity }
 {
@@ -54,7 +54,7 @@ fn called_in(core: &Core, name: u32, entity: u32) -> Option<u32>
     }
 }
 
-// That function or behaviour is found.
+// Finds that function or behaviour.
 fn find_called(core: &Core, name: u32, entity: u32, found: &mut Found) -> Result<(), AllocError>
     ensures { OnOk result (Grown (λ t. spec.called_in core.now name entity ≡ Some t) found.old found.new) }
 {
@@ -64,7 +64,7 @@ fn find_called(core: &Core, name: u32, entity: u32, found: &mut Found) -> Result
     }
 }
 
-// Those of all these entities are found.
+// Finds those of all these entities.
 fn find_all(core: &Core, name: u32, entities: &[u32], found: &mut Found) -> Result<(), AllocError>
     ensures { OnOk result (Grown (OfSome (λ d t. spec.called_in core.now name d ≡ Some t) entities.now) found.old found.new) }
 {
@@ -74,14 +74,14 @@ fn find_all(core: &Core, name: u32, entities: &[u32], found: &mut Found) -> Resu
     Ok(())
 }
 
-// The list of an entity.
+// The list for an entity.
 fn list_of<'a>(lists: &'a [List<u32>], entity: u32) -> Option<&'a List<u32>>
     ensures { option_copied result ≡ slice_get lists.now entity }
 {
     lists.get(entity as usize)
 }
 
-// What a call of this name may call, on a receiver that is known to be of entity `known`, is found.
+// Finds what a call of this name may call, on a receiver that is known to be of entity `known`.
 fn find_targets(noted: &Noted, name: u32, known: u32, found: &mut Found) -> Result<(), AllocError>
     requires { ListsMayBe noted.now.core.now noted.now.lists.now }
     ensures { OnOk result (Grown (spec.MayCall noted.now.core.now name known) found.old found.new) }
@@ -92,7 +92,7 @@ fn find_targets(noted: &Noted, name: u32, known: u32, found: &mut Found) -> Resu
     }
 }
 
-// The same, unless such a call was looked at.
+// The same, unless such a call has been looked at already.
 fn see_call(noted: &Noted, name: u32, known: u32, walk: &mut Walk) -> Result<(), AllocError>
     requires lists { ListsMayBe noted.now.core.now noted.now.lists.now }
     requires known { spec.Known noted.now.core.now walk.old.calls walk.old.found }
@@ -129,7 +129,7 @@ fn noted_receiver(entities: &[Option<u32>], children: &[u32]) -> Option<u32>
     noted_at(entities, last_of(children)?)
 }
 
-// What a node may make, spawn or call is found.
+// Finds what a node may make, spawn or call.
 fn see_node(noted: &Noted, node: &Node, walk: &mut Walk) -> Result<(), AllocError>
     requires lists { ListsMayBe noted.now.core.now noted.now.lists.now }
     requires known { spec.Known noted.now.core.now walk.old.calls walk.old.found }
@@ -167,7 +167,7 @@ fn see_node(noted: &Noted, node: &Node, walk: &mut Walk) -> Result<(), AllocErro
     }
 }
 
-// What these nodes may make, spawn or call is found.
+// Finds what these nodes may make, spawn or call.
 fn see_nodes(noted: &Noted, nodes: &[Node], walk: &mut Walk) -> Result<(), AllocError>
     requires lists { ListsMayBe noted.now.core.now noted.now.lists.now }
     requires known { spec.Known noted.now.core.now walk.old.calls walk.old.found }
@@ -182,7 +182,7 @@ fn see_nodes(noted: &Noted, nodes: &[Node], walk: &mut Walk) -> Result<(), Alloc
 
 // ---- methods
 
-// The number behind a method's last node.
+// The number after a method's last node.
 fn end_of(method: &Method) -> usize
     ensures { result ≡ node_end method.now.first_node method.now.body }
 {
@@ -212,7 +212,7 @@ impl Walk {
         }
     }
 
-    /// What a method's nodes may make, spawn or call is found.
+    /// Finds what a method's nodes may make, spawn or call.
     pub(crate) fn see_method(&mut self, noted: &Noted, number: u32) -> Result<(), AllocError>
         requires lists { ListsMayBe noted.now.core.now noted.now.lists.now }
         requires known { spec.Known noted.now.core.now self.old.calls self.old.found }

@@ -1,4 +1,4 @@
-//! Who sends what in small programs. Each is tried once more where memory was wanting.
+//! Who sends what in small programs. Each is tried once more if memory ran out.
 use crate::tables::lines_of;
 use pc_test_inputs::programs::BANK;
 use std::alloc::Global;
@@ -13,7 +13,7 @@ fn tells(alloc: Global, program: &[u8], lines: &[u8]) -> bool {
     false
 }
 
-/// An actor that is told to go, and never to stop.
+/// An actor that is sent `go`, and never `stop`.
 #[test]
 fn never_stops(rt: HostRuntime) {
     let program = b"actor A
@@ -42,7 +42,7 @@ Main sends Teller.report
     assert!(rt; tells(rt.alloc(), BANK, lines));
 }
 
-/// A call on an interface may be one of each actor that conforms to it, also of one that is never made.
+/// A call on an interface may reach each actor that conforms to it, even one that is never made.
 #[test]
 fn an_interface_is_called(rt: HostRuntime) {
     let program = b"interface Sink
@@ -70,7 +70,7 @@ never Apart.create
     assert!(rt; tells(rt.alloc(), program, lines));
 }
 
-/// So may a call on a trait: an actor conforms to it by its methods, also where it does not name it.
+/// So may a call on a trait: an actor conforms to it by its methods, even if it does not name it.
 #[test]
 fn a_trait_is_called(rt: HostRuntime) {
     let program = b"trait Sink
@@ -92,7 +92,7 @@ never Other.create
     assert!(rt; tells(rt.alloc(), program, lines));
 }
 
-/// What a function sends that nobody calls is not sent; what is sent by a function that is called is sent by its entity.
+/// What a function sends that nobody calls is not sent; what a called function sends is sent by its entity.
 #[test]
 fn a_function_is_never_called(rt: HostRuntime) {
     let program = b"class Idle

@@ -19,8 +19,8 @@ fn table_by(alloc: Global, core: &Core, ann: &Ann) -> Option<Table>
     sends(alloc, core, noted.as_slice()).ok()
 }
 
-/// The table of a core, by the derivation that is found for it. There is none where there is no derivation, and at want of
-/// memory.
+/// The table of a core, by the derivation that is found for it. There is none if there is no derivation, or if memory
+/// ran out.
 fn table_of(alloc: Global, core: &Core) -> Option<Table> {
     match check(alloc, core) {
         Ok(ann) => table_by(alloc, core, &ann),

@@ -1,4 +1,4 @@
--- The least number that passes, looked for one after the other.
+-- The least number that passes, searched one by one.
 use Rattle.std.proofs.Common.{◌≡◌, ◌<◌, ◌≤◌, ◌+◌, ◌-◌, ℕ, suc, Bool, true, false, cond, refl, ap, arith}
 use Rattle.pc_caps.specs.Limits.{field_limit, slot_limit}
 use Rattle.pc_masks.specs.declared.mask.Mask.{Mask}

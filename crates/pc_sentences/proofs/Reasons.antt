@@ -1,4 +1,4 @@
--- Steps to the part by which a node has no type, with as many left as there are nodes not counted yet.
+-- Steps to the part because of which a node has no type, with as many left as there are nodes not counted yet.
 use Rattle.std.proofs.Common.{◌≡◌, ◌<◌, ◌≤◌, ◌+◌, ◌-◌, ◌++◌, ℕ, zero, suc, List, Some, None, refl, ap, sym, ◌∙◌, append_assoc, arith}
 use Rattle.std.specs.Prelude.{slice_get}
 use Rattle.pc_words.specs.Scene.{SceneData}

@@ -1,4 +1,4 @@
--- Where a child goes, and the forms of children in words.
+-- Where a child's value goes, and the forms of children in words.
 use Rattle.std.specs.Prelude.{ℕ, Bool, true, false, ◌&&◌, not, [], ◌++◌, Option, Some, None, slice_get, if◌then◌else◌, codes}
 use Rattle.pc_caps.specs.Tables.{sendable_form}
 use Rattle.pc_caps.specs.declared.capability.Cap.{Cap}
@@ -18,11 +18,11 @@ use Rattle.pc_words.specs.Forms.{name_text, with_article}
 use Rattle.pc_words.specs.Scene.{SceneData}
 use Rattle.pc_sentences.specs.Stop.{StopData, child_form, method_of, named, own_slot}
 
--- The words for the child of this index.
+-- The words for the child with this index.
 unfoldable pub part : StopData → ℕ → Text
 part st i = role_words (child_role st.at i)
 
--- ---- the place that a child goes to
+-- ---- the place that a child's value goes to
 
 abbrev pub param_text : SceneData → Option ParamInfo → Text
 param_text s None = []
@@ -80,7 +80,7 @@ sends st = sends_by st st.at.kind
 abbrev pub form_note : (sent : Bool) → Form → Text
 form_note sent f = if is_alias f then codes ", an alias," else (if sent && not (sendable_form f) then codes ", which is not sendable," else [])
 
--- A form that was found, and what it is.
+-- A form that was found, with a description.
 unfoldable pub found : StopData → Form → Text
 found st f = form_word f ++ form_note (sends st) f
 

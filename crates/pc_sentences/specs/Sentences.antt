@@ -29,9 +29,9 @@ use Rattle.pc_sentences.specs.Slots.{consumed_at, looped_field, lost_slot}
 use Rattle.pc_sentences.specs.Stop.{StopData, child_entity, child_form, child_type, method_of, named, own_entity, own_field, own_slot, receiver_index}
 use Rattle.pc_sentences.specs.Untyped.{reason}
 
--- ---- of a child
+-- ---- about a child
 
--- The reason of the node that the part shows, since the words before it say that this one has no type.
+-- The reason of the node that the part shows, since the words before it say that this node has no type.
 abbrev pub reason_of : StopData → Role → Option ℕ → Text
 reason_of st r None = []
 reason_of st r (Some c) = reason st.scene (shown_node st.scene.core r c)
@@ -64,7 +64,7 @@ not_below st i f = has_form st i ++ (codes ", which is not below " ++ (form_word
 unfoldable pub not_just : StopData → ℕ → ℕ → Text
 not_just st i e = is_a st i ++ (codes ", and must be " ++ with_article (entity_name st.scene.core e))
 
--- ---- of a slot
+-- ---- about a slot
 
 unfoldable pub consumed_words : StopData → Text → Option ℕ → Text
 consumed_words st name None = []
@@ -95,7 +95,7 @@ fixed_word param = if param then codes " is a parameter" else codes " is a `let`
 unfoldable pub not_variable : StopData → ℕ → Text
 not_variable st k = quoted (own_slot st k) ++ (fixed_word (is_param st.scene st.at.method k) ++ codes ", and only a `var` can be assigned")
 
--- ---- of members
+-- ---- about members
 
 -- ``E has no WORD `n` ``
 unfoldable pub has_none : Text → Text → Text → Text

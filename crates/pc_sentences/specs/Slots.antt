@@ -24,13 +24,13 @@ abbrev pub last_consume : (method slot : ℕ) → Option ℕ → List Node → O
 last_consume m k found [] = found
 last_consume m k found (x ∷ xs) = last_consume m k (if consumes m k x then Some x.span.start else found) xs
 
--- Of those before the node.
+-- Among the nodes before this one.
 unfoldable pub consumed_at : StopData → ℕ → Option ℕ
 consumed_at st k = last_consume st.at.method k None (take st.number st.scene.core.nodes)
 
--- ---- what a loop does not keep
+-- ---- what a loop does not preserve
 
--- The first that passes of this count of numbers, from this one on, or 0.
+-- The first of `count` numbers, from this one on, that passes, or 0.
 abbrev pub least : (ℕ → Bool) → (count from : ℕ) → ℕ
 least p zero k = 0
 least p (suc n) k = if p k then k else least p n (k + 1)
@@ -57,7 +57,7 @@ is_lost before after k = has before k && not (has after k)
 abbrev pub differs : Mask → Mask → ℕ → Bool
 differs before after k = if has before k then not (has after k) else has after k
 
--- The first slot that is live before a loop, and not after its body.
+-- The first slot that is live before a loop, but not after its body.
 unfoldable pub lost_slot : StopData → ℕ
 lost_slot st = least (is_lost st.live (live_after st (body_note st))) slot_limit 0
 

@@ -1,4 +1,4 @@
--- A node of which no rule says anything, and what is read off it.
+-- A node at which no rule holds, and what can be read from it.
 use Rattle.std.specs.Prelude.{ℕ, ◌-◌, [], length, Option, Some, None, slice_get}
 use Rattle.pc_caps.specs.declared.capability.Form.{Form}
 use Rattle.pc_caps.specs.declared.capability.Form.TheVariants as form
@@ -35,7 +35,7 @@ abbrev pub form_of : Option (ℕ × Form) → Form
 form_of None = form.Tag
 form_of (Some ty) = ty.1
 
--- The form of the child. Of one without a type none is asked for.
+-- The form of the child. It is not used if the child has no type.
 unfoldable pub child_form : StopData → ℕ → Form
 child_form st i = form_of (child_type st i)
 
@@ -76,7 +76,7 @@ own_slot st k = slot_name st.scene st.at.method k
 unfoldable pub named : StopData → Text
 named st = name_text st.scene.core (name_by st.at.kind)
 
--- ---- the own entity
+-- ---- its method's entity
 
 abbrev pub entity_by : CoreData → Option Method → Text
 entity_by core None = []
@@ -97,6 +97,6 @@ abbrev pub field_by : CoreData → Option Method → ℕ → Text
 field_by core None i = []
 field_by core (Some x) i = field_in core (slice_get core.entities x.entity) i
 
--- The name of the own field of this index.
+-- The name of the field with this index of its method's entity.
 unfoldable pub own_field : StopData → ℕ → Text
 own_field st i = field_by st.scene.core (slice_get st.scene.core.methods st.at.method) i

@@ -16,13 +16,13 @@ use Rattle.pc_parts.specs.Members.{callee}
 use Rattle.pc_sentences.specs.declared.untyped.Step.{Step}
 use Rattle.pc_sentences.specs.declared.untyped.Step.TheVariants as step
 
--- ---- a step to the part by which a node has no type
+-- ---- a step to the part because of which a node has no type
 
 abbrev pub item_step : Option ℕ → Option Step
 item_step None = None
 item_step (Some c) = Some (step.LastItem c)
 
--- The first branch, if it has none, and else the second, if it has none.
+-- The first branch if it has no type, or else the second if it has none.
 abbrev pub branch_step : SceneData → Option ℕ → Option ℕ → Option Step
 branch_step s None b = None
 branch_step s (Some a) None = None
@@ -95,7 +95,7 @@ abbrev pub step_from : ℕ → Option Step → ℕ
 step_from n None = n
 step_from n (Some t) = step_to t
 
--- The steps, at most this number, to the part by which node n has no type, and that part's own reason.
+-- At most `depth` steps to the part because of which node n has no type, and then that part's own reason.
 abbrev pub reason_from : SceneData → (depth : ℕ) → ℕ → Text
 reason_from s zero n = own_reason s (slice_get s.core.nodes n)
 reason_from s (suc d) n = step_text (step_of s (slice_get s.core.nodes n)) ++ reason_from s d (step_from n (step_of s (slice_get s.core.nodes n)))

@@ -1,4 +1,4 @@
-//! Where a child goes, and the forms of children in words.
+//! Where a child's value goes, and the forms of children in words.
 ghost use Rattle.std.specs.Prelude.{◌≡◌, ◌++◌, OnOk};
 ghost use Rattle.std.specs.Option.{option_copied};
 ghost use Rattle.pc_sentences.specs.Goals as spec;
@@ -13,7 +13,7 @@ use pc_words::{
 };
 use std::alloc::{AllocError, Global};
 
-/// Appends the words for the child of this index.
+/// Appends the words for the child with this index.
 #[tactic(auto, unfolding(crate::specs::Goals::part))]
 pub(crate) fn push_part(
     alloc: Global,
@@ -60,7 +60,7 @@ fn push_field(alloc: Global, out: &mut Vec<u8>, name: &[u8]) -> Result<(), Alloc
     push_quoted(alloc, out, name)
 }
 
-/// Appends the place that a child goes to: a field, a local, a parameter or the result.
+/// Appends the place that a child's value goes to: a field, a local, a parameter or the result.
 #[tactic(auto, unfolding(crate::specs::Goals::goal))]
 pub(crate) fn push_goal(
     alloc: Global,
@@ -165,7 +165,7 @@ fn form_note(sent: bool, form: Form) -> &'static [u8]
     }
 }
 
-// Appends a form that was found, and what it is.
+// Appends a form that was found, with a description.
 #[tactic(auto, unfolding(crate::specs::Goals::found))]
 fn push_found(out: &mut Vec<u8>, stop: &Stop, form: Form) -> Result<(), AllocError>
     ensures { OnOk result (out.new.items ≡ out.old.items ++ spec.found stop.now form) }

@@ -1,7 +1,7 @@
-//! The sentence of what a rule asks of a node and does not hold.
+//! The sentence for a condition that a rule requires of a node and that does not hold.
 //!
-//! Proved: of each of the 30 conditions `push_sentence` appends exactly the sentence of its definition, or memory ran out; of
-//! a part without a type it is why it has none.
+//! Proved: for each of the 30 conditions, `push_sentence` appends exactly the sentence of its definition, or memory ran
+//! out; for a part without a type, the sentence says why it has none.
 #![tactic(auto)]
 
 mod goals;

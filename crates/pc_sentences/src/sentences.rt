@@ -185,7 +185,7 @@ fn push_not_just(
     push_with_article(alloc, out, entity_name(stop.core(), entity))
 }
 
-// Appends where a slot of this name is consumed, if it is.
+// Appends where a slot with this name is consumed, if it is.
 #[tactic(auto, unfolding(crate::specs::Sentences::consumed_words))]
 fn push_consumed(
     alloc: Global,
@@ -518,7 +518,7 @@ fn push_name_and(
     push_bytes(out, words)
 }
 
-/// Appends the sentence of a reason: of the first thing that a rule asks of the node and that does not hold.
+/// Appends the sentence of a reason: the first condition of the rule that does not hold at the node.
 #[tactic(auto, unfolding(crate::specs::Sentences::sentence))]
 pub fn push_sentence(
     alloc: Global,

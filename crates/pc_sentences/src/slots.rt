@@ -41,14 +41,14 @@ fn consumes_as(slot: u32, kind: &NodeKind) -> bool
     }
 }
 
-// Whether the node consumes the slot of this index of a method.
+// Whether the node consumes the slot with this index of a method.
 fn consumes(method: u32, slot: u32, node: &Node) -> bool
     ensures { result ≡ spec.consumes method slot node.now }
 {
     node.method == method && consumes_as(slot, &node.kind)
 }
 
-// Where the last of these nodes starts that consumes the slot.
+// Where the last of these nodes that consumes the slot starts.
 fn last_consume(nodes: &[Node], method: u32, slot: u32) -> Option<u32>
     ensures { result ≡ spec.last_consume method slot None nodes.now }
 {
@@ -61,14 +61,14 @@ fn last_consume(nodes: &[Node], method: u32, slot: u32) -> Option<u32>
     found
 }
 
-// The first nodes, as many as this.
+// The first `count` nodes.
 fn first_of(nodes: &[Node], count: u32) -> &[Node]
     ensures { result.now ≡ take count nodes.now }
 {
     &nodes[..(count as usize).min(nodes.len())]
 }
 
-/// Where the last node before this one starts that consumes the slot.
+/// Where the last node before this one that consumes the slot starts.
 #[tactic(auto, unfolding(crate::specs::Slots::consumed_at))]
 pub(crate) fn consumed_at(stop: &Stop, slot: u32) -> Option<u32>
     ensures { result ≡ spec.consumed_at stop.now slot }
@@ -152,7 +152,7 @@ fn first_different(before: Mask, after: Mask) -> u32
     0
 }
 
-/// The first slot that is live before a loop, and not after its body.
+/// The first slot that is live before a loop, but not after its body.
 #[tactic(auto, unfolding(crate::specs::Slots::lost_slot))]
 pub fn lost_slot(stop: &Stop) -> u32
     ensures { result ≡ spec.lost_slot stop.now }

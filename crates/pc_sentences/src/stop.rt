@@ -1,4 +1,4 @@
-//! A node of which no rule says anything, and what is read off it.
+//! A node at which no rule holds, and what can be read from it.
 ghost use Rattle.std.specs.Prelude.{◌≡◌, Some, slice_get};
 ghost use Rattle.std.specs.Option.{option_copied};
 ghost use Rattle.pc_sentences.specs.Stop as spec;
@@ -10,7 +10,7 @@ use pc_parts::callee;
 use pc_words::{Scene, child, entity_name, name_text};
 use std::marker::Model;
 
-/// A node of which no rule says anything, its number, and the masks before it.
+/// A node at which no rule holds, its number, and the masks before it.
 #[derive(Drop)]
 pub struct Stop<'a> {
     scene: &'a Scene<'a>,
@@ -29,7 +29,7 @@ impl<'a> Model for Stop<'a> {
 }
 
 impl<'a> Stop<'a> {
-    /// A node of this number of which no rule says anything, with these masks before it.
+    /// The node with this number, at which no rule holds, with these masks before it.
     pub fn new(scene: &'a Scene<'a>, number: u32, node: &'a Node, live: Mask, set: Mask) -> Stop<'a>
         ensures { result ≡ record { scene = scene.now; number = number; at = node.now; live = live; set = set } }
     {
@@ -84,7 +84,7 @@ impl<'a> Stop<'a> {
         self.set
     }
 
-    /// The type of the child of this index.
+    /// The type of the child with this index.
     #[tactic(auto, unfolding(crate::specs::Stop::child_type))]
     pub fn child_type(&self, index: usize) -> Option<(u32, Form)>
         ensures { result ≡ spec.child_type self.now index }
@@ -93,7 +93,7 @@ impl<'a> Stop<'a> {
         self.scene.type_of(number)
     }
 
-    /// Its form.
+    /// The form of the child with this index.
     #[tactic(auto, unfolding(crate::specs::Stop::child_form))]
     pub fn child_form(&self, index: usize) -> Form
         ensures { result ≡ spec.child_form self.now index }
@@ -104,7 +104,7 @@ impl<'a> Stop<'a> {
         }
     }
 
-    /// The name of its entity.
+    /// The name of the entity of the child with this index.
     #[tactic(auto, unfolding(crate::specs::Stop::child_entity))]
     pub fn child_entity(&self, index: usize) -> &'a [u8]
         ensures { result.now ≡ spec.child_entity self.now index }
@@ -183,7 +183,7 @@ impl<'a> Stop<'a> {
         }
     }
 
-    /// The name of the own field of this index.
+    /// The name of the field with this index of its method's entity.
     #[tactic(auto, unfolding(crate::specs::Stop::own_field))]
     pub fn own_field(&self, field: u32) -> &'a [u8]
         ensures { result.now ≡ spec.own_field self.now field }
@@ -226,7 +226,7 @@ fn name_by(kind: &NodeKind) -> u32
     }
 }
 
-// The name of the field of this index of an entity.
+// The name of the field with this index of an entity.
 fn field_in<'a>(core: &'a Core, entity: &EntityDef, field: u32) -> &'a [u8]
     ensures { result.now ≡ spec.field_in core.now (Some entity.now) field }
 {
@@ -236,7 +236,7 @@ fn field_in<'a>(core: &'a Core, entity: &EntityDef, field: u32) -> &'a [u8]
     }
 }
 
-// The same, of the entity of this number.
+// The same for the entity with this number.
 fn field_at(core: &Core, entity: u32, field: u32) -> &[u8]
     ensures { result.now ≡ spec.field_in core.now (slice_get core.now.entities entity) field }
 {

@@ -11,7 +11,7 @@ use pc_window::{push_bytes, push_quoted};
 use pc_words::{Scene, child, name_text, push_type};
 use std::alloc::{AllocError, Global};
 
-/// A step to the part, by its number, by which a node has no type.
+/// A step to the part, by number, because of which a node has no type.
 #[derive(Clone, Copy, Debug, PartialEq, Eq)]
 pub enum Step {
     LastItem(u32),
@@ -80,7 +80,7 @@ fn step_by(scene: &Scene, node: &Node) -> Option<Step>
     }
 }
 
-// The step from the node of this number.
+// The step from the node with this number.
 fn step_of(scene: &Scene, node: u32) -> Option<Step>
     ensures { result ≡ spec.step_of scene.now (slice_get scene.now.core.nodes node) }
 {
@@ -126,7 +126,7 @@ fn push_result(
     }
 }
 
-// Appends the reason of a call whose receiver is lent.
+// Appends the reason for a call whose receiver is lent.
 #[tactic(auto, unfolding(crate::specs::Untyped::lent_reason))]
 fn push_lent(
     alloc: Global,
@@ -144,7 +144,7 @@ fn push_lent(
     push_bytes(out, b" is not sendable")
 }
 
-// Appends the reason of an assignment.
+// Appends the reason for an assignment.
 fn push_assigned(alloc: Global, out: &mut Vec<u8>, name: &[u8]) -> Result<(), AllocError>
     ensures { OnOk result (out.new.items ≡ out.old.items ++ spec.assign_reason name.now) }
 {
@@ -155,7 +155,7 @@ fn push_assigned(alloc: Global, out: &mut Vec<u8>, name: &[u8]) -> Result<(), Al
     )
 }
 
-// Appends the reason of the write of a field.
+// Appends the reason for the write of a field.
 fn push_written(alloc: Global, out: &mut Vec<u8>, name: &[u8]) -> Result<(), AllocError>
     ensures { OnOk result (out.new.items ≡ out.old.items ++ spec.write_reason name.now) }
 {
@@ -197,7 +197,7 @@ fn push_branch(
     }
 }
 
-// Appends the reason of branches that both have a type.
+// Appends the reason for branches that both have a type.
 #[tactic(auto, unfolding(crate::specs::Untyped::branches_reason))]
 fn push_branches(
     alloc: Global,
@@ -214,7 +214,7 @@ fn push_branches(
     push_bytes(out, b", and neither is below the other")
 }
 
-// Appends the reason of a node that makes no step.
+// Appends the reason for a node that makes no step.
 fn push_reason_by(
     alloc: Global,
     out: &mut Vec<u8>,
@@ -251,7 +251,7 @@ fn push_reason_by(
     }
 }
 
-// Appends the reason of the node of this number.
+// Appends the reason for the node with this number.
 fn push_own_reason(
     alloc: Global,
     out: &mut Vec<u8>,
@@ -266,7 +266,8 @@ fn push_own_reason(
     }
 }
 
-// Appends the steps, at most this number, to the part by which a node has no type, and that part's own reason.
+// Appends the steps, at most this many, to the part because of which a node has no type, and then that part's own
+// reason.
 #[tactic(auto, using(crate::proofs::Reasons::stops, crate::proofs::Reasons::none_left))]
 fn push_reason_from(
     alloc: Global,
@@ -290,7 +291,7 @@ fn push_reason_from(
     push_own_reason(alloc, out, scene, at)
 }
 
-/// Appends why the node of this number has no type.
+/// Appends why the node with this number has no type.
 #[tactic(auto, unfolding(crate::specs::Untyped::reason))]
 pub(crate) fn push_reason(
     alloc: Global,

@@ -29,7 +29,7 @@ has_push xs x y h = (h.0, get_front xs (x ∷ []) h.0 y h.1)
 has_last : (xs : List ℕ) (x : ℕ) → Has (xs ++ x ∷ []) x
 has_last xs x = (length xs, get_behind xs x [])
 
--- A list of lists in which the list of one place has one number more.
+-- A list of lists in which the list at one place has one more number.
 abbrev pub added : List (List ℕ) → ℕ → ℕ → List (List ℕ)
 added lists k x = slice_set lists k (get_or lists k [] ++ x ∷ [])
 
@@ -51,7 +51,7 @@ module _ (lists : List (List ℕ)) (k x : ℕ) (low : k < length lists) where
   added_here : slice_get (added lists k x) k ≡ Some (get_or lists k [] ++ x ∷ [])
   added_here = get_set_same lists k _ low
 
-  -- What has a number has it still.
+  -- A list that has a number still has it.
   added_has : (j : ℕ) (xs : List ℕ) (y : ℕ) → slice_get lists j ≡ Some xs → Has xs y → (ys : List ℕ) × (slice_get (added lists k x) j ≡ Some ys) × Has ys y
   added_has j xs y g h =
       elim (cases_eq j k) [
@@ -74,7 +74,7 @@ first_front core firsts n k t e =
 first_behind : (core : CoreData) (firsts : List ℕ) (n : ℕ) (y : Method) → slice_get core.methods n ≡ Some y → first_of core (firsts ++ n ∷ []) (length firsts) ≡ Some y
 first_behind core firsts n y e = ap (λ (o : Option ℕ). o >>= slice_get core.methods) (get_behind firsts n []) ∙ e
 
--- The first method of a group, where there is one more.
+-- The first method of a group, if there is one more group.
 first_push : (core : CoreData) (firsts : List ℕ) (n k : ℕ) (t : Method) → first_of core (firsts ++ n ∷ []) k ≡ Some t → (first_of core firsts k ≡ Some t) ⊎ ((k ≡ length firsts) × (slice_get core.methods n ≡ Some t))
 first_push core firsts n k t e =
     let b = bind_some (slice_get (firsts ++ n ∷ []) k) _ t e in

@@ -1,4 +1,4 @@
--- What a search in ascending numbers found.
+-- What a search in ascending numbers has found.
 use Rattle.std.specs.Prelude.{◌≡◌, ◌⊎◌, ◌↔◌, ℕ, zero, suc, ◌<◌, ◌≤◌, List, [], ◌∷◌, length, Some, Result, Ok, Err, IsTrue, slice_get, refl}
 use Rattle.std.specs.Result.{is_ok}
 use Rattle.std.proofs.Common.{inl, inr, get_or, sym, ap, subst, ◌∙◌, arith}

@@ -21,7 +21,7 @@ ServesTo core g t ks n e = (i : ℕ) × (k : ℕ) × (i < n) × (slice_get ks i 
 pub serves_none : (core : CoreData) (g : Groups) (t : Method) (ks : List ℕ) (e : ℕ) → ServesTo core g t ks 0 e → ⊥
 serves_none core g t ks e s = let l = s.2 in absurd (omega (arith, l))
 
--- One group more.
+-- One more group.
 pub serves_next : (core : CoreData) (g : Groups) (t : Method) (ks : List ℕ) (n k e : ℕ) → slice_get ks n ≡ Some k → (ServesTo core g t ks (n + 1) e) ↔ (ServesBy core g t k e ⊎ ServesTo core g t ks n e)
 serves_next core g t ks n k e at = (
   λ s. elim (split s.0 n s.2) [
@@ -76,7 +76,7 @@ module _ (core : CoreData) (g : Groups) (t : Method) (grouped : Grouped core (le
         (w.first, w.entities, w.is_group, ((sym a.head.0 ∙ name, sym a.head.1 ∙ h.4), alike_stands core t h.1 w.first (alike_back w.first h.1 a) h.5), subst (Has w.entities) entity w.has_entity),
       )
 
-  -- All groups of methods of that name were looked at.
+  -- All groups of methods with that name were looked at.
   pub serves_all : (ks : List ℕ) (n e : ℕ) → ks ≡ get_or g.named t.name [] → length ks ≤ n → (ServesTo core g t ks n e) ↔ (HasFor core e t)
   serves_all ks n e all whole = (
     λ s. by_has s.1 e s.4,

@@ -1,4 +1,4 @@
--- Of methods that are alike, what holds of one holds of the other.
+-- If two methods are alike, what holds for one holds for the other.
 use Rattle.std.specs.Prelude.{◌≡◌, ℕ, List, map, length, Some, slice_get}
 use Rattle.std.proofs.Common.{sym, ap, subst, ◌∙◌}
 use Rattle.std.proofs.lemmas.List.{length-map}
@@ -24,7 +24,7 @@ as_many ps qs same = sym (length-map ps param_type) ∙ ap length same ∙ lengt
 param_there : (ps qs : List ParamInfo) (i : ℕ) (p : ParamInfo) → map param_type ps ≡ map param_type qs → slice_get ps i ≡ Some p → (q : ParamInfo) × (slice_get qs i ≡ Some q) × (param_type q ≡ param_type p)
 param_there ps qs i p same g = map_get param_type qs i (param_type p) (ap (λ xs. slice_get xs i) (sym same) ∙ get_map param_type ps i p g)
 
--- What stands for a method.
+-- What may replace a method.
 pub alike_stands : (core : CoreData) (t y s : Method) → Alike y s → StandsFor core t y → StandsFor core t s
 alike_stands core t y s a f = record {
   count = as_many s.params y.params a.params ∙ f.count;
@@ -36,7 +36,7 @@ alike_stands core t y s a f = record {
   form = subst (λ (x : Form). IsBelow x t.result.1) (sym a.result.1) f.form;
 }
 
--- What a method stands for.
+-- What a method may replace.
 pub stands_alike : (core : CoreData) (t s y : Method) → Alike t s → StandsFor core t y → StandsFor core s y
 stands_alike core t s y a f = record {
   count = f.count ∙ sym (as_many s.params t.params a.params);

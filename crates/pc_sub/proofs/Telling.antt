@@ -83,7 +83,7 @@ module _ (core : CoreData) (g : Groups) where
   pub tells_none : (sets : List (List Mask)) → Each (λ b set. (e : ℕ) → e < length core.entities → Holds set e) sets → TellsGroups core g 0 sets
   tells_none sets all = record { tells = λ b set at abstract e low. (λ h. λ k t es l is has. absurd (omega (arith, l)), λ h. all b set at e low) }
 
-  -- A group without traits and interfaces says nothing of them.
+  -- A group without traits and interfaces says nothing about them.
   pub tells_skip : (n : ℕ) (sets : List (List Mask)) → ((b : ℕ) (t : Method) (es : List ℕ) → IsGroup core g n t es → Has es b → IsAbstract core b → ⊥) → TellsGroups core g n sets → TellsGroups core g (n + 1) sets
   tells_skip n sets never before = record {
     tells = λ b set at abstract e low.
@@ -116,7 +116,7 @@ module _ (core : CoreData) (g : Groups) where
   }
 
   module _ (formed : Formed core) (grouped : Grouped core (length core.methods) g) where
-    -- To have a method for each of those of an entity is to have one for each of its groups.
+    -- Having a method for each method of an entity means having one for each of its groups.
     conforms_groups : (n b e : ℕ) → Conforms core e b → HasForGroups core g n b e
     conforms_groups n b e h k t es l is has =
         let own : HasAlike core b t = grouped.sound k t es is has.0 b has.1 in

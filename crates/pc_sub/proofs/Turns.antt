@@ -1,4 +1,5 @@
--- One turn of a loop that looks for the first fault: the faults from an element on are its own, and then those of the rest.
+-- One iteration of a loop that looks for the first fault: the faults from an element on are its own, followed by those
+-- of the rest.
 use Rattle.std.specs.Prelude.{◌≡◌, ℕ, ◌+◌, ◌<◌, false, List, [], ◌∷◌, length, drop, Some, None, get_or, slice_get, refl}
 use Rattle.std.proofs.Common.{ap, sym, subst, ◌∙◌, arith}
 use Rattle.std.proofs.lemmas.Option.{slice_get-get_or}
@@ -12,7 +13,7 @@ use Rattle.pc_sub.specs.Declarations as spec
 use Rattle.pc_sub.specs.Faults.{passed, stopped}
 use Rattle.pc_lists.proofs.Cuts.{drop_item, item_first}
 
--- The same of a list that was looked at.
+-- The same for a list that was looked at.
 from_seen : {A : Type 0} → (xs ys : List A) (i : ℕ) (x : A) → ys ≡ xs → i < length ys → x ≡ get_or ys i x → drop i xs ≡ x ∷ drop (i + 1) xs
 from_seen xs ys i x same l e = subst (λ zs. drop i zs ≡ x ∷ drop (i + 1) zs) same (item_first ys i x l e)
 
@@ -62,7 +63,7 @@ entities_pass core xs ys n i x bs same l g own h =
     sym (ap (λ zs. slice_get (spec.entity_faults core n zs) 0) (from_seen xs ys i x same l g)
     ∙ passed (spec.list_faults core n x.provides) _ (subst (λ cs. slice_get (spec.list_faults core n cs) 0 ≡ None) own h))
 
--- ---- fewer parameters than the declared method has
+-- ---- fewer parameters than the declared method
 
 pub too_few : (core : CoreData) (ps qs : List ParamInfo) → 0 < length ps → length qs < 1 → conform.params_fit core ps qs ≡ false
 too_few core [] qs l m = absurd (omega (arith, l))

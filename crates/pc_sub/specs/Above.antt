@@ -1,4 +1,4 @@
--- In a core that fits together the computed chains are the chains.
+-- In a core that fits together, the computed chains are exactly the chains.
 use Rattle.std.specs.Prelude.{◌≡◌, ◌↔◌, ℕ, zero, suc, true, List, [], ◌∷◌, Option, Some, None, IsTrue, nat_eq, slice_get, refl}
 use Rattle.std.proofs.Common.{inl, inr, ap, sym, ◌∙◌}
 use Rattle.std.proofs.lemmas.Option.{same_Some, none-some}
@@ -12,7 +12,7 @@ use Rattle.pc_core.specs.Chain.{Chain}
 use Rattle.pc_sub.specs.Chain.{is_in, above_in, is_chain}
 use Rattle.pc_lists.proofs.Bools.{false_true}
 
--- A chain begins at an entity that is there.
+-- A chain starts at an entity that exists.
 begins : (core : CoreData) (a b : ℕ) → Leads core a b → slice_get core.entities a ≡ None → ⊥
 begins core a b (one n) e = none-some n.0 (sym e ∙ n.1)
 begins core a b (more n r) e = none-some n.0 (sym e ∙ n.1)

@@ -1,4 +1,4 @@
--- In a core that fits together the computed order is the order, and what is computed of conforming is so.
+-- In a core that fits together, the computed order is the order, and computed conformance is conformance.
 use Rattle.std.specs.Prelude.{◌≡◌, ◌↔◌, ℕ, true, ◌&&◌, Option, Some, None, IsTrue, slice_get, refl}
 use Rattle.std.specs.Option.{is_none}
 use Rattle.std.proofs.Common.{inl, inr, ap, ◌∙◌}

@@ -9,7 +9,7 @@ use Rattle.pc_core.specs.declared.declarations.ParamInfo.{ParamInfo}
 abbrev pub param_type : ParamInfo → ℕ × Cap
 param_type p = (p.entity, p.cap)
 
--- Two methods have one name, kind and receiver.
+-- Two methods have the same name, kind and receiver.
 abbrev pub SameHead : Method → Method → Type 0
 SameHead t y = (y.name ≡ t.name) × (y.kind ≡ t.kind) × (y.receiver ≡ t.receiver)
 

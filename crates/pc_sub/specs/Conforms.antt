@@ -1,4 +1,4 @@
--- What is wrong of an entity that does not have what a trait or an interface declares: `Conforms`, as it is computed.
+-- The faults of an entity that does not have what a trait or an interface declares: `Conforms`, as it is computed.
 use Rattle.std.specs.Prelude.{ℕ, ◌+◌, Bool, true, false, ◌&&◌, List, [], ◌∷◌, ◌++◌, Option, Some, None, slice_get, if◌then◌else◌}
 use Rattle.std.specs.Option.{is_none}
 use Rattle.pc_caps.specs.Order.{is_below}
@@ -19,17 +19,17 @@ use Rattle.pc_sub.specs.Chain.{is_chain}
 abbrev pub param_fits : CoreData → ParamInfo → ParamInfo → Bool
 param_fits core p q = is_chain core p.entity q.entity && fits (unalias p.cap) q.cap
 
--- As many parameters, and each fits.
+-- The same number of parameters, and each fits.
 abbrev pub params_fit : CoreData → List ParamInfo → List ParamInfo → Bool
 params_fit core [] [] = true
 params_fit core (p ∷ ps) (q ∷ qs) = param_fits core p q && params_fit core ps qs
 params_fit core ps qs = false
 
--- What method t takes, y takes too.
+-- Method y accepts what method t accepts.
 abbrev pub takes : CoreData → Method → Method → Bool
 takes core t y = fits (unalias t.receiver) y.receiver && params_fit core t.params y.params
 
--- What y gives is below what t gives.
+-- The result of y is below that of t.
 abbrev pub gives : CoreData → Method → Method → Bool
 gives core t y = is_chain core y.result.0 t.result.0 && is_below y.result.1 t.result.1
 
@@ -43,14 +43,14 @@ same_kind method.New method.New = true
 same_kind method.Spawn method.Spawn = true
 same_kind j k = false
 
--- The entity's method of a name and kind, with its number.
+-- The entity's method with this name and kind, and its number.
 abbrev pub method_like : CoreData → ℕ → Method → Option (ℕ × Method)
 method_like core e t = do
   m ← method_named core e t.name
   y ← slice_get core.methods m
   if same_kind y.kind t.kind then Some (m, y) else None
 
--- What fails of entity e at method t of a trait or an interface, which has this number.
+-- The fault of entity e at method t of a trait or an interface, which has this number.
 abbrev pub method_faults : CoreData → (entity number : ℕ) → Method → Option (ℕ × Method) → List DeclFault
 method_faults core e n t None = fault.MissingMethod e n ∷ []
 method_faults core e n t (Some y) = if stands_for core t y.1 then [] else fault.Mismatch e y.0 ∷ []
@@ -64,6 +64,6 @@ abbrev pub conform_faults : CoreData → ℕ → Option EntityDef → List DeclF
 conform_faults core e None = []
 conform_faults core e (Some x) = trait_faults core e x.first_method (own_methods core x)
 
--- Nothing is wrong of the entity.
+-- The entity has no fault.
 abbrev pub conforms : CoreData → (entity above : ℕ) → Bool
 conforms core e b = is_none (slice_get (conform_faults core e (slice_get core.entities b)) 0)

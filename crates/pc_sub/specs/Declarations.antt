@@ -16,7 +16,7 @@ use Rattle.pc_sub.specs.declared.faults.DeclFault.TheVariants as fault
 use Rattle.pc_core.specs.Conforms.{Conforms}
 use Rattle.pc_sub.specs.Conforms.{conform_faults}
 
--- The result of a class's constructor that its parameters must be sendable for.
+-- The results of a class's constructor for which its parameters must be sendable.
 abbrev pub isolates : Form → Bool
 isolates form.IsoE = true
 isolates form.TrnE = true
@@ -27,15 +27,15 @@ isolates form.Ref = false
 isolates form.Box = false
 isolates form.Tag = false
 
--- The parameters of this method must be sendable: a behaviour, an actor's constructor, or a class's that is `iso`, `trn`
--- or `val`.
+-- The parameters of this method must be sendable: a behaviour, an actor's constructor, or a class's constructor whose
+-- result is `iso`, `trn` or `val`.
 abbrev pub takes_sendable : MethodKind → Form → Bool
 takes_sendable method.Fun f = false
 takes_sendable method.Be f = true
 takes_sendable method.New f = isolates f
 takes_sendable method.Spawn f = true
 
--- Where they must be, all parameters of the method are sendable.
+-- If they must be, all parameters of the method are sendable.
 abbrev pub TakesSendable : Method → Type 0
 TakesSendable x = takes_sendable x.kind x.result.1 ≡ true → Each (λ i p. sendable p.cap ≡ true) x.params
 
@@ -47,12 +47,12 @@ pub record DeclOk (core : CoreData) : Type 0 where
 
 -- ---- the declarations that fail, in order
 
--- Parameters, from number i of method m on.
+-- Parameters of method m, from index i on.
 abbrev pub not_sendable : (method index : ℕ) → List ParamInfo → List DeclFault
 not_sendable m i [] = []
 not_sendable m i (p ∷ ps) = (if sendable p.cap then [] else fault.NotSendable m i ∷ []) ++ not_sendable m (i + 1) ps
 
--- Those of method m.
+-- The faults of method m.
 abbrev pub own_faults : ℕ → Method → List DeclFault
 own_faults m x = if takes_sendable x.kind x.result.1 then not_sendable m 0 x.params else []
 

@@ -1,4 +1,4 @@
--- No declaration fails exactly where the declarations fit.
+-- There is no fault iff the declarations fit.
 use Rattle.std.specs.Prelude.{◌≡◌, ℕ, zero, suc, ◌+◌, ◌-◌, ◌<◌, ◌≤◌, Bool, true, false, cond, List, [], ◌∷◌, ◌++◌, map, length, Option, Some, None, slice_get, refl}
 use Rattle.std.proofs.Common.{ap, sym, subst, ◌∙◌, arith}
 use Rattle.std.proofs.lemmas.Bool.{and_parts, and_from}
@@ -29,11 +29,11 @@ use Rattle.pc_sub.specs.DeclarationLaws.{NoFaultWhereFit}
 
 -- ---- lists of faults
 
--- None fails.
+-- There are no faults.
 abbrev Clean : List DeclFault → Type 0
 Clean xs = slice_get xs 0 ≡ None
 
--- The first of two lists, one behind the other.
+-- The first of two lists, one after the other.
 pub passed : (xs ys : List DeclFault) → slice_get xs 0 ≡ None → slice_get (xs ++ ys) 0 ≡ slice_get ys 0
 passed [] ys e = refl
 passed (x ∷ xs) ys e = absurd (none-some x (sym e))
@@ -49,7 +49,7 @@ both (x ∷ xs) ys e = absurd (none-some x (sym e))
 together : (xs ys : List DeclFault) → Clean xs → Clean ys → Clean (xs ++ ys)
 together xs ys e f = passed xs ys e ∙ f
 
--- A fault that is there unless something holds.
+-- A fault that is there unless a test holds.
 unless : (b : Bool) (f : DeclFault) → Clean (cond b [] (f ∷ [])) → b ≡ true
 unless true f e = refl
 unless false f e = absurd (none-some f (sym e))
@@ -57,7 +57,7 @@ unless false f e = absurd (none-some f (sym e))
 held : (b : Bool) (f : DeclFault) → b ≡ true → Clean (cond b [] (f ∷ []))
 held b f h = subst (λ c. Clean (cond c [] (f ∷ []))) (sym h) refl
 
--- Faults that are looked for where something holds.
+-- Faults that are looked for only if a test holds.
 looked : (b : Bool) (xs : List DeclFault) → Clean (cond b xs []) → b ≡ true → Clean xs
 looked true xs e h = e
 looked false xs e h = absurd (let bad : false ≡ true = h in cc)
@@ -88,7 +88,7 @@ all_take m (y ∷ ys) h =
     together _ _ (unlooked (spec.takes_sendable y.kind y.result.1) (spec.not_sendable m 0 y.params) (λ t. all_sent m 0 y.params (h 0 y refl t)))
     (all_take (m + 1) ys (λ k x g. h (suc k) x g))
 
--- ---- a method that stands for another
+-- ---- a method that replaces another
 
 fits_param : (core : CoreData) (p q : ParamInfo) → Formed core → conform.param_fits core p q ≡ true → ParamFits core p q
 fits_param core p q f e = let k = and_parts _ _ e in ((is_chain_iff core p.entity q.entity f).0 k.0, (below_iff (unalias p.cap) (unalias q.cap)).0 k.1)
@@ -96,7 +96,7 @@ fits_param core p q f e = let k = and_parts _ _ e in ((is_chain_iff core p.entit
 param_fit : (core : CoreData) (p q : ParamInfo) → Formed core → ParamFits core p q → conform.param_fits core p q ≡ true
 param_fit core p q f h = and_from _ _ ((is_chain_iff core p.entity q.entity f).1 h.0) ((below_iff (unalias p.cap) (unalias q.cap)).1 h.1)
 
--- Each parameter of the declared method fits the one at its place.
+-- Each parameter of the declared method fits the one at the same index.
 abbrev ParamsFit : CoreData → List ParamInfo → List ParamInfo → Type 0
 ParamsFit core ps qs = Each (λ i p. (q : ParamInfo) → slice_get qs i ≡ Some q → ParamFits core p q) ps
 
@@ -156,7 +156,7 @@ same_kinds method.Be = refl
 same_kinds method.New = refl
 same_kinds method.Spawn = refl
 
--- An entity has one method of a name.
+-- An entity has one method with a given name.
 method_place : (core : CoreData) (e name m : ℕ) (x : EntityDef) → Formed core → slice_get core.entities e ≡ Some x → IsMethod core e name m → (x.first_method ≤ m) × (slice_get (map field_name x.fields ++ map method_name (own_methods core x)) (length x.fields + (m - x.first_method)) ≡ Some name)
 method_place core e name m x f g h =
     let y = h.0 in
@@ -266,6 +266,6 @@ fits_without_fault core f = (
   λ d. together (spec.parameter_faults 0 core.methods) (spec.entity_faults core 0 core.entities) (all_take 0 core.methods d.sendable) (conform_all core 0 core.entities f (λ e x g. let at : e ≡ 0 + e = omega arith in subst (λ n. Each (λ i b. Conforms core n b) x.provides) at (d.conform e x g))),
 )
 
--- Declarations that fail do not fit.
+-- If a declaration fails, the declarations do not fit.
 pub faulted : (core : CoreData) (x : DeclFault) → Formed core → spec.first_fault core ≡ Some x → spec.DeclOk core → ⊥
 faulted core x f e d = none-some x (sym ((fits_without_fault core f).1 d) ∙ e)

@@ -50,7 +50,7 @@ pub record Grouped (core : CoreData) (n : ℕ) (g : Groups) : Type 0 where
 
 -- ---- which groups serve
 
--- Method y has the name and kind of method t, and may stand for it.
+-- Method y has the name and kind of method t, and may replace it.
 abbrev pub Serves : CoreData → (wanted given : Method) → Type 0
 Serves core t y = ((y.name ≡ t.name) × (y.kind ≡ t.kind)) × StandsFor core t y
 

@@ -9,7 +9,7 @@ use Rattle.pc_core.specs.Conforms.{Conforms}
 use Rattle.pc_sub.specs.Chain.{is_chain}
 use Rattle.pc_sub.specs.Conforms.{conforms}
 
--- Of these kinds an entity is below another that does not name it: by its methods.
+-- For these kinds, an entity is below another that it does not name if it has the methods.
 abbrev pub is_structural : EntityKind → Bool
 is_structural kind.Class = false
 is_structural kind.Actor = false
@@ -21,8 +21,8 @@ abbrev pub IsInterface : CoreData → ℕ → Type 0
 IsInterface core e = (x : EntityDef) × (slice_get core.entities e ≡ Some x) × (is_structural x.kind ≡ true)
 
 -- A chain of `is` leads from the first entity to the second, or the second is an interface to which the first conforms
--- (nominal and structural subtyping, in the Pony tutorial). It need not be transitive: what conforms is compared by
--- chains alone.
+-- (nominal and structural subtyping, in the Pony tutorial). It need not be transitive, since conformance compares
+-- entities by chains alone.
 abbrev pub Sub : CoreData → (entity above : ℕ) → Type 0
 Sub core a b = Chain core a b ⊎ (IsInterface core b × Conforms core a b)
 

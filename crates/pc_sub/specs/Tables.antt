@@ -1,4 +1,4 @@
--- How a table of what conforms to what is made, group by group.
+-- How a table of what conforms to what is computed, group by group.
 use Rattle.std.specs.Prelude.{◌≡◌, ◌↔◌, ℕ, ◌<◌, List, length, Some, slice_get}
 use Rattle.pc_masks.specs.declared.mask.Mask.{Mask}
 use Rattle.pc_lists.specs.Places.{Each, Has}
@@ -10,7 +10,7 @@ use Rattle.pc_core.specs.EntitySets.{Holds, IsSetOf}
 use Rattle.pc_sub.specs.declared.groups.Groups.{Groups}
 use Rattle.pc_sub.specs.Groups.{IsGroup}
 
--- Where a place has this property, its set keeps what another set has too.
+-- If a place has this property, its set keeps what another set has too.
 pub record Kept (R : ℕ → Type 0) (other : List Mask) (old new : List (List Mask)) : Type 0 where
   pub long : length new ≡ length old
   pub each : Each (λ b set. (was : List Mask) × (slice_get old b ≡ Some was) × ((e : ℕ) → (Holds set e) ↔ (Holds was e × (R b → Holds other e)))) new
@@ -19,6 +19,6 @@ pub record Kept (R : ℕ → Type 0) (other : List Mask) (old new : List (List M
 abbrev pub HasForGroups : CoreData → Groups → ℕ → (above entity : ℕ) → Type 0
 HasForGroups core g n b e = (k : ℕ) (t : Method) (es : List ℕ) → k < n → IsGroup core g k t es → Has es b → HasFor core e t
 
--- The sets tell so of each trait and interface.
+-- The sets contain exactly these for each trait and interface.
 pub record TellsGroups (core : CoreData) (g : Groups) (n : ℕ) (sets : List (List Mask)) : Type 0 where
   pub tells : Each (λ b set. IsAbstract core b → IsSetOf core (HasForGroups core g n b) set) sets

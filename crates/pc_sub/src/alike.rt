@@ -4,14 +4,14 @@ ghost use Rattle.pc_sub.specs.Alike as spec;
 
 use pc_core::{Method, ParamInfo};
 
-// Whether the two parameters have one type.
+// Whether the two parameters have the same type.
 fn same_type(first: ParamInfo, second: ParamInfo) -> bool
     ensures { result ≡ spec.same_type first second }
 {
     first.entity == second.entity && first.cap == second.cap
 }
 
-// Whether there are as many parameters, each of the same type.
+// Whether there is the same number of parameters, each of the same type.
 fn same_types(first: &[ParamInfo], second: &[ParamInfo]) -> bool
     ensures { result ≡ spec.same_types first.now second.now }
 {
@@ -45,14 +45,14 @@ fn same_head(first: &Method, second: &Method) -> bool
     second.name == first.name && second.kind == first.kind && second.receiver == first.receiver
 }
 
-// Whether the two methods have one result.
+// Whether the two methods have the same result.
 fn same_result(first: &Method, second: &Method) -> bool
     ensures { IsTrue result ↔ spec.SameResult first.now second.now }
 {
     second.result.0 == first.result.0 && second.result.1 == first.result.1
 }
 
-/// Whether the two methods have one name, kind, receiver and result, and the same types of parameters.
+/// Whether the two methods have the same name, kind, receiver and result, and the same types of parameters.
 pub(crate) fn is_alike(first: &Method, second: &Method) -> bool
     ensures { IsTrue result ↔ spec.Alike first.now second.now }
 {

@@ -1,4 +1,4 @@
-//! Chains of `is`, by a search in what is above an entity.
+//! Chains of `is`, by a search among what is above an entity.
 ghost use Rattle.std.specs.Prelude.{◌≡◌, ◌↔◌, IsTrue};
 ghost use Rattle.pc_core.specs.Entities.{Leads};
 ghost use Rattle.pc_lists.specs.Places.{Ascends, Has};
@@ -6,7 +6,7 @@ ghost use Rattle.pc_sub.specs.Chain as spec;
 
 use pc_core::Core;
 
-// Whether the two are one, or a chain of `is` leads from one to the other.
+// Whether the two are the same, or a chain of `is` leads from one to the other.
 pub(crate) fn is_chain(core: &Core, from: u32, to: u32) -> bool
     ensures { result ≡ spec.is_chain core.now from to }
 {
@@ -14,7 +14,7 @@ pub(crate) fn is_chain(core: &Core, from: u32, to: u32) -> bool
     from == to || leads(core, from, to)
 }
 
-// Whether a chain of at least one `is` leads from one to the other.
+// Whether a chain of one or more `is` leads from one to the other.
 fn leads(core: &Core, from: u32, to: u32) -> bool
     ensures { IsTrue result ↔ Leads core.now from to }
 {
@@ -25,7 +25,7 @@ fn leads(core: &Core, from: u32, to: u32) -> bool
     }
 }
 
-// Whether the number stands in the list, by halving it.
+// Whether the number is in the list, by binary search.
 fn contains(numbers: &[u32], wanted: u32) -> bool
     requires { Ascends numbers.now }
     ensures { IsTrue result ↔ Has numbers.now wanted }

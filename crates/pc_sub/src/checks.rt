@@ -7,9 +7,9 @@ use crate::parameters::parameter_fault;
 use crate::traits::entity_fault;
 use pc_core::Core;
 
-/// Looks at the declarations: what must be sendable is, and each entity conforms to each trait and interface of its `is`
-/// list. The parameters come first, method by method; then, entity by entity, the traits and interfaces of its `is` list
-/// in order, and for each its methods in order. The fault is the first one in this order. Takes no memory.
+/// Checks the declarations: what must be sendable is, and each entity conforms to each trait and interface of its `is`
+/// list. The parameters come first, method by method; then, entity by entity, the traits and interfaces of its `is`
+/// list in order, and for each its methods in order. The fault is the first one in this order. Does not allocate.
 #[tactic(auto, using(crate::specs::Faults::fits_without_fault))]
 pub fn declarations(core: &Core) -> Result<(), DeclFault>
     ensures ok { IsOk result ↔ spec.DeclOk core.now }

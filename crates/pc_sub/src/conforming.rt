@@ -8,9 +8,10 @@ use crate::faults::DeclFault;
 use crate::stands::stands_for;
 use pc_core::{Core, EntityDef, Method};
 
-/// Whether an entity conforms to the trait or interface `above`: for each method there it has one of the same name and kind
-/// that may be called in its place, where entities are compared by chains of `is` alone. It is true of every entity if
-/// `above` has no methods. Takes no memory, and of a core with its tables (`tabulate`) a time that does not grow.
+/// Whether an entity conforms to the trait or interface `above`: for each method there it has one of the same name and
+/// kind that may be called in its place, where entities are compared by chains of `is` alone. Every entity conforms if
+/// `above` has no methods. Does not allocate, and with the core's tables (`tabulate`) takes a time that does not grow
+/// with the core.
 pub fn conforms(core: &Core, entity: u32, above: u32) -> bool
     ensures methods { IsTrue result ↔ Conforms core.now entity above }
     ensures value { result ≡ spec.conforms core.now entity above }
@@ -22,14 +23,14 @@ pub fn conforms(core: &Core, entity: u32, above: u32) -> bool
     }
 }
 
-// The same, as it is computed.
+// The same as it is computed.
 fn nothing_is_wrong(core: &Core, entity: u32, above: u32) -> bool
     ensures { result ≡ spec.conforms core.now entity above }
 {
     first_fault(core, entity, above).is_none()
 }
 
-// What is wrong of an entity at a declared method, which has this number.
+// The fault of an entity at a declared method, which has this number.
 fn method_fault(core: &Core, entity: u32, number: u32, wanted: &Method) -> Option<DeclFault>
     ensures { result ≡ slice_get (spec.method_faults core.now entity number wanted.now (spec.method_like core.now entity wanted.now)) 0 }
 {
@@ -57,7 +58,7 @@ fn method_fault(core: &Core, entity: u32, number: u32, wanted: &Method) -> Optio
     }
 }
 
-// What is first wrong of an entity at these methods of a trait or an interface, which have numbers from this one on.
+// The first fault of an entity at these methods of a trait or an interface, numbered from `first` on.
 fn trait_fault(core: &Core, entity: u32, first: u32, methods: &[Method]) -> Option<DeclFault>
     requires { first + length methods.now < 2 ^ 32 }
     ensures { result ≡ slice_get (spec.trait_faults core.now entity first methods.now) 0 }
@@ -81,7 +82,7 @@ fn methods_of<'c>(core: &'c Core, entity: &EntityDef) -> &'c [Method]
     &core.methods()[first..first + entity.methods as usize]
 }
 
-// What is first wrong of an entity at a trait or an interface, found by going through the methods there.
+// The first fault of an entity at a trait or an interface, found by going through the methods there.
 fn first_fault(core: &Core, entity: u32, above: u32) -> Option<DeclFault>
     ensures { result ≡ slice_get (spec.conform_faults core.now entity (slice_get core.now.entities above)) 0 }
 {
@@ -92,7 +93,7 @@ fn first_fault(core: &Core, entity: u32, above: u32) -> Option<DeclFault>
     }
 }
 
-// What is first wrong of an entity at a trait or an interface.
+// The first fault of an entity at a trait or an interface.
 pub(crate) fn conform_fault(core: &Core, entity: u32, above: u32) -> Option<DeclFault>
     ensures { result ≡ slice_get (spec.conform_faults core.now entity (slice_get core.now.entities above)) 0 }
 {

@@ -9,7 +9,7 @@ use pc_caps::List;
 use pc_core::{Core, Method};
 use std::alloc::{AllocError, Global};
 
-/// The groups, by their numbers. For what conforms to what, the methods of a group are as good as one.
+/// The groups, by their numbers. For conformance the methods of a group are interchangeable.
 #[derive(Debug, Drop)]
 pub(crate) struct Groups {
     // The first method of each group.
@@ -28,7 +28,7 @@ pub(crate) fn first_of<'c>(core: &'c Core, firsts: &[u32], group: u32) -> Option
     core.method_at(*first)
 }
 
-/// The list at this place, and past the last one the empty list.
+/// The list at this place, or past the last one the empty list.
 pub(crate) fn list_at(lists: &List<List<u32>>, place: usize) -> &[u32]
     ensures { result.now ≡ get_or lists.now place [] }
 {
@@ -60,7 +60,7 @@ fn find_group(core: &Core, firsts: &[u32], among: &[u32], method: &Method) -> Op
     None
 }
 
-// Puts a number into the list at this place.
+// Adds a number to the list at this place.
 fn add_at(
     alloc: Global,
     lists: &mut List<List<u32>>,
@@ -76,7 +76,7 @@ fn add_at(
     Ok(())
 }
 
-// Puts a method into a group that it is alike to.
+// Adds a method to a group of methods that are alike to it.
 fn join_group(
     alloc: Global,
     core: &Core,
@@ -137,7 +137,7 @@ fn add_method(
     }
 }
 
-// No groups, and as many names as the core has.
+// No groups, with all names of the core.
 fn no_groups(alloc: Global, core: &Core) -> Result<Groups, AllocError>
     ensures { IfOk result (spec.Grouped core.now 0) }
 {

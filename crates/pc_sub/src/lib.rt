@@ -1,9 +1,9 @@
 //! Subtypes between entities, and when the declarations of a program fit each other.
 //!
-//! Proved: `is_sub` is the order between entities, by chains of `is` and, below an interface, by the methods that an entity
-//! has. `conforms` says exactly where it has them. `declarations` is Ok exactly where the declarations fit, and else names
-//! the first that does not. `tabulate` gives a core its tables, and `is_sub`, `conforms` and `declarations` answer the same
-//! with them as without; how long they take is not proved.
+//! Proved: `is_sub` is the order between entities, by chains of `is` and, below an interface, by the methods that an
+//! entity has. `conforms` says whether it has them. `declarations` is Ok iff the declarations fit, and otherwise names
+//! the first that does not. `tabulate` gives a core its tables, and `is_sub`, `conforms` and `declarations` return the
+//! same with them as without; how long they take is not proved.
 #![tactic(auto)]
 
 mod alike;

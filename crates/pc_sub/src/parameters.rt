@@ -6,7 +6,7 @@ use crate::faults::DeclFault;
 use pc_caps::{Form, sendable};
 use pc_core::{Core, Method, MethodKind, ParamInfo};
 
-// Whether this form is one of a class's constructor whose parameters must be sendable.
+// Whether the parameters of a class's constructor must be sendable, by the form of its result.
 fn isolates(form: Form) -> bool
     ensures { result ≡ spec.isolates form }
 {

@@ -35,7 +35,7 @@ fn group_serves(core: &Core, firsts: &[u32], group: u32, wanted: &Method) -> boo
     }
 }
 
-// Puts these entities into the set.
+// Adds these entities to the set.
 fn add_all(set: &mut EntitySet, entities: &[u32])
     requires { Each (λ i e. HasRoom (e + 1) set.old) entities.now }
     ensures room { length set.new ≡ length set.old }
@@ -46,7 +46,7 @@ fn add_all(set: &mut EntitySet, entities: &[u32])
     }
 }
 
-// Puts the entities of a group into the set, if its methods serve for the declared one.
+// Adds the entities of a group to the set, if its methods serve for the declared one.
 fn add_group(core: &Core, groups: &Groups, set: &mut EntitySet, group: u32, wanted: &Method)
     requires grouped { spec.Grouped core.now (length core.now.methods) groups.now }
     requires room { HasRoom (length core.now.entities) set.old }

@@ -7,8 +7,8 @@ use crate::conforming::conforms;
 use pc_core::Core;
 use pc_tree::EntityKind;
 
-/// Whether an entity is below the one called `above`: they are the same, or a chain of `is` leads from it to that one, or that
-/// one is an interface to which it conforms (nominal and structural subtyping, in the Pony tutorial). Takes no memory.
+/// Whether an entity is below `above`: they are the same, or a chain of `is` leads from it to `above`, or `above` is an
+/// interface to which it conforms (nominal and structural subtyping, in the Pony tutorial). Does not allocate.
 #[tactic(auto, using(crate::specs::Agreement::is_sub_iff))]
 pub fn is_sub(core: &Core, entity: u32, above: u32) -> bool
     ensures order { IsTrue result ↔ spec.Sub core.now entity above }
@@ -18,14 +18,14 @@ pub fn is_sub(core: &Core, entity: u32, above: u32) -> bool
     is_below(core, entity, above)
 }
 
-// The same, as it is computed.
+// The same as it is computed.
 fn is_below(core: &Core, entity: u32, above: u32) -> bool
     ensures { result ≡ spec.is_sub core.now entity above }
 {
     is_chain(core, entity, above) || is_interface(core, above) && conforms(core, entity, above)
 }
 
-// Whether there is an interface of this number.
+// Whether there is an interface with this number.
 fn is_interface(core: &Core, entity: u32) -> bool
     ensures { result ≡ spec.is_interface (slice_get core.now.entities entity) }
 {
@@ -35,7 +35,7 @@ fn is_interface(core: &Core, entity: u32) -> bool
     }
 }
 
-// Whether what has the methods of an entity of this kind is below it, without naming it.
+// Whether an entity is below one of this kind if it has its methods, without naming it.
 fn is_structural(kind: EntityKind) -> bool
     ensures { result ≡ spec.is_structural kind }
 {

@@ -1,4 +1,4 @@
-//! The tables in which later calls look things up.
+//! The tables used by later calls.
 ghost use Rattle.std.specs.Prelude.{◌≡◌, ◌↔◌, ℕ, ◌+◌, ◌<◌, IfOk, IsTrue, OnOk, length};
 ghost use Rattle.pc_core.specs.Conforming.{TellsConforming};
 ghost use Rattle.pc_core.specs.Entities.{IsAbstract};
@@ -36,7 +36,7 @@ fn all_sets(alloc: Global, count: usize) -> Result<List<EntitySet>, AllocError>
     Ok(sets)
 }
 
-// Takes out of the set at this place what the other set does not have.
+// Removes from the set at this place what the other set does not have.
 fn keep_at(
     alloc: Global,
     sets: &mut List<EntitySet>,
@@ -55,7 +55,7 @@ fn keep_at(
     }
 }
 
-// Takes out of the sets of these entities what the other set does not have.
+// Removes from the sets of these entities what the other set does not have.
 fn keep_all(
     alloc: Global,
     sets: &mut List<EntitySet>,
@@ -70,7 +70,8 @@ fn keep_all(
     Ok(())
 }
 
-// Takes out of the sets, of the traits and interfaces with a method of this group, the entities that have no method for it.
+// Removes, from the sets of the traits and interfaces with a method of this group, the entities that have no method for
+// it.
 fn keep_group(
     alloc: Global,
     core: &Core,
@@ -95,7 +96,7 @@ fn keep_group(
     }
 }
 
-// The same of all groups.
+// The same for all groups.
 fn keep_groups(
     alloc: Global,
     core: &Core,
@@ -124,9 +125,9 @@ fn list_conforming(alloc: Global, core: &Core) -> Result<List<EntitySet>, AllocE
     Ok(sets)
 }
 
-/// Makes what later calls look things up in: the index of the methods (`Core::index_methods`), and the table of what
+/// Makes the tables that later calls use: the index of the methods (`Core::index_methods`), and the table of what
 /// conforms to what (`Core::keep_conforming`), by which `is_sub` and `conforms` take a time that does not grow with the
-/// number of methods. It takes memory. What a contract sees of the core stays, and an `Err` leaves the core as it was.
+/// number of methods. It allocates. In contracts the core is unchanged, and an `Err` leaves it as it was.
 pub fn tabulate(alloc: Global, core: &mut Core) -> Result<(), AllocError>
     ensures { core.new ≡ core.old }
 {

@@ -1,4 +1,4 @@
-//! What the traits and interfaces of an entity's `is` list ask for.
+//! What the traits and interfaces of an entity's `is` list require.
 ghost use Rattle.std.specs.Prelude.{◌≡◌, slice_get};
 ghost use Rattle.pc_sub.specs.Declarations as spec;
 
@@ -6,7 +6,7 @@ use crate::conforming::conform_fault;
 use crate::faults::DeclFault;
 use pc_core::Core;
 
-// What is first wrong of an entity at these traits and interfaces.
+// The first fault of an entity at these traits and interfaces.
 fn list_fault(core: &Core, entity: u32, traits: &[u32]) -> Option<DeclFault>
     ensures { result ≡ slice_get (spec.list_faults core.now entity traits.now) 0 }
 {
@@ -19,7 +19,7 @@ fn list_fault(core: &Core, entity: u32, traits: &[u32]) -> Option<DeclFault>
     None
 }
 
-// What is first wrong of all entities at the traits and interfaces of their `is` lists.
+// The first fault of all entities at the traits and interfaces of their `is` lists.
 pub(crate) fn entity_fault(core: &Core) -> Option<DeclFault>
     ensures { result ≡ slice_get (spec.entity_faults core.now 0 core.now.entities) 0 }
 {

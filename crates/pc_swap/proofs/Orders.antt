@@ -55,14 +55,14 @@ module _ (core : CoreData) (c : Configuration) (i j : ℕ) (race : Race core c �
   prints (Some o) None s t = tt
   prints (Some o) (Some p) s t = apart.differ (s ∙ sym t)
 
-  -- Where both make an object, the makers differ.
+  -- If both make an object, the makers differ.
   places : (o p : Option Message) (a b : Address) → NotBoth o p → i < length c.actors → j < length c.actors → a ≡ place_of c.objects i (length c.actors) o → b ≡ place_of c.objects j (length c.actors) p → a ≢ b
   places None None a b n u v s t = λ e. apart.differ (ap (λ (q : Address). q.maker) (sym s ∙ e ∙ t))
   places None (Some m) a b n u v s t = λ e. let f : i ≡ length c.actors = ap (λ (q : Address). q.maker) (sym s ∙ e ∙ t) in absurd (omega (arith, u, f))
   places (Some m) None a b n u v s t = λ e. let f : length c.actors ≡ j = ap (λ (q : Address). q.maker) (sym s ∙ e ∙ t) in absurd (omega (arith, v, f))
   places (Some m) (Some k) a b n u v s t = absurd n
 
-  -- What stands is not what is made.
+  -- What exists is not what is made.
   standing : (h : ObjectMap) (a b : Address) → (o : Object) × (get h a ≡ Some o) → get h b ≡ None → a ≢ b
   standing h a b o n e = none-some o.0 (sym n ∙ ap (get h) (sym e) ∙ o.1)
 
@@ -124,11 +124,11 @@ module _ (core : CoreData) (c : Configuration) (i j : ℕ) (race : Race core c �
           same = ap (λ (r : Outcome × Configuration). r.1) second_j ∙ both ∙ sym (ap (λ (r : Outcome × Configuration). r.1) second_i);
         }
 
-  -- Without a race, and where objects are placed, steps that are apart are swapped.
+  -- Without a race, and if objects are placed, steps that are apart are swapped.
   pub swapped : Swapped core c i j
   swapped = let x = plans core c i apart.moves in let y = plans core c j apart.moves_too in swapped_by x.0 y.0 x.1 y.1
 
--- ---- behind a list
+-- ---- after a list
 
 moved_on : (r : Outcome × Configuration) (rest : Configuration → Configuration) (c : Configuration) → r.0 ≡ Moved → followed rest c c r ≡ rest r.1
 moved_on r rest c e = ap (λ (o : Outcome). followed rest c c (o, r.1)) e

@@ -2,7 +2,7 @@
 use Rattle.std.proofs.Common.{◌≡◌, ℕ, suc, ◌+◌, ◌-◌, List, [], ◌∷◌, ◌++◌, length, get_or, take, refl, ap, ◌∙◌, arith}
 use Rattle.std.specs.Prelude.{slice_set}
 
--- ---- behind a front
+-- ---- after a front
 
 front_taken : (front : List ℕ) (i j : ℕ) (rest : List ℕ) → take (length front) (front ++ i ∷ j ∷ rest) ≡ front
 front_taken [] i j rest = refl

@@ -1,4 +1,4 @@
--- Whether two steps are apart, told by what they are.
+-- Whether two steps are apart, determined by what they are.
 use Rattle.std.specs.Prelude.{◌≡◌, ◌≢◌, ℕ, true, false, Result, Ok, Err, IsOk, MatchResult, ◌↔◌, refl}
 use Rattle.std.proofs.Common.{ap, sym, ◌∙◌}
 use Rattle.std.proofs.lemmas.Bool.{eqb-true, eq-eqb, true≢false, false≢true}

@@ -1,4 +1,4 @@
--- The turns of a list are exchanged, or stay: from what is known at their place to the whole list.
+-- The turns of a list are exchanged, or keep their order: from what is known at their place to the whole list.
 use Rattle.std.proofs.Common.{◌≡◌, ℕ, ◌+◌, ◌-◌, List, ◌∷◌, ◌++◌, length, get_or, take, sym, ap, ◌∙◌, subst}
 use Rattle.std.specs.Prelude.{Err, Ok, None, slice_set}
 use Rattle.pc_core.specs.CoreData.{CoreData}
@@ -21,7 +21,7 @@ module _ (core : CoreData) (list front rest : List ℕ) (i j place : ℕ) (is : 
   front_is = cut ∙ taken list front rest i j place is at
 
   module _ (m : MachineData) (goes_on : end_of (outcomes core f) ≡ None) (behind : IsBehind core f m) (a b : ℕ) (first : a ≡ get_or list (place - 1) 0) (second : b ≡ get_or list place 0) where
-    -- What holds in the machine of these two actors holds behind the front.
+    -- What holds in the machine of these two actors holds after the front.
     there : (P : CoreData → Configuration → ℕ → ℕ → Type 0) → P m.core m.configuration a b → P core (after core front) i j
     there P h =
         let at_core : P core m.configuration a b = subst (λ (x : CoreData). P x m.configuration a b) behind.0 h in

@@ -7,7 +7,8 @@ use Rattle.pc_semantics.specs.Step.{step}
 use Rattle.pc_semantics.specs.declared.ahead.Ahead.TheVariants.{Send, Spawn}
 use Rattle.pc_semantics.specs.Ahead.{ahead_of}
 
--- The actors differ, both steps move, they do not both send to one actor, and they do not both make an actor.
+-- The actors are different, both steps move, they do not both send to the same actor, and they do not both make an
+-- actor.
 pub record Apart (core : CoreData) (c : Configuration) (i j : ℕ) : Type 0 where
   pub differ : i ≢ j
   pub moves : (step core c i).0 ≡ Moved

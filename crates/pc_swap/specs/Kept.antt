@@ -14,7 +14,7 @@ pub record BothMove (core : CoreData) (c : Configuration) (i j : ℕ) : Type 0 w
   pub moves : (step core c i).0 ≡ Moved
   pub moves_too : (step core c j).0 ≡ Moved
 
--- Both send to one actor.
+-- Both send to the same actor.
 pub record OneMailbox (core : CoreData) (c : Configuration) (i j : ℕ) : Type 0 where
   pub receiver : ℕ
   pub sends : ahead_of core c i ≡ ahead.Send receiver
@@ -25,7 +25,7 @@ pub record BothSpawn (core : CoreData) (c : Configuration) (i j : ℕ) : Type 0 
   pub spawns : ahead_of core c i ≡ ahead.Spawn
   pub spawns_too : ahead_of core c j ≡ ahead.Spawn
 
--- This part of being apart fails, and none that stands before it.
+-- This part of being apart fails, and none of those before it does.
 abbrev pub IsKept : CoreData → Configuration → (first second : ℕ) → Kept → Type 0
 IsKept core c i j kept.SameActor = i ≡ j
 IsKept core c i j kept.NotMoved = (i ≢ j) × ¬ (BothMove core c i j)

@@ -1,4 +1,4 @@
-//! Why two steps stay in their order.
+//! Why two steps keep their order.
 ghost use Rattle.std.specs.Prelude.{◌≡◌};
 ghost use Rattle.pc_swap.specs.declared.kept.SwapFault.TheVariants as fault;
 
@@ -7,11 +7,11 @@ use std::alloc::AllocError;
 /// Why the next steps of two actors are not apart.
 #[derive(Clone, Copy, Debug, PartialEq, Eq)]
 pub enum Kept {
-    /// They are steps of one actor.
+    /// They are steps of the same actor.
     SameActor,
     /// One of them does not move.
     NotMoved,
-    /// Both send a message to one actor.
+    /// Both send a message to the same actor.
     OneMailbox,
     /// Both make an actor.
     BothSpawn,

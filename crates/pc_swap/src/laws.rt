@@ -1,13 +1,13 @@
 //! What is proved of steps that are apart. Each call does nothing, and its contract is the law.
 ghost use Rattle.pc_swap.specs.Laws as law;
 
-/// In a safe program the next steps of two actors that are apart may be swapped: all four steps move, and both orders lead to
-/// one configuration.
+/// In a safe program, the next steps of two actors that are apart may be swapped: all four steps move, and both orders
+/// lead to the same configuration.
 pub fn steps_swap()
     ensures { law.StepsSwap }
 {}
 
-/// So the whole lists lead to one configuration, whatever follows.
+/// So the whole lists lead to the same configuration, whatever follows.
 #[tactic(auto, using(crate::proofs::Orders::whole_lists_swap))]
 pub fn lists_swap()
     ensures { law.ListsSwap }

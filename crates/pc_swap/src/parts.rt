@@ -22,7 +22,7 @@ fn moves(step: Ahead) -> bool
     }
 }
 
-// Whether two steps send to one actor.
+// Whether two steps send to the same actor.
 fn send_to_one(one: Ahead, other: Ahead) -> bool
     ensures { result ≡ one_receiver one other }
 {
@@ -41,7 +41,7 @@ fn send_to_one(one: Ahead, other: Ahead) -> bool
     }
 }
 
-// Whether two steps make an actor each.
+// Whether two steps both make an actor.
 fn both_spawn(one: Ahead, other: Ahead) -> bool
     ensures { result ≡ two_spawns one other }
 {
@@ -60,7 +60,7 @@ fn both_spawn(one: Ahead, other: Ahead) -> bool
     }
 }
 
-// The first part that fails of two different actors being apart.
+// The first part of being apart that fails for two different actors.
 #[tactic(auto, using(crate::proofs::Telling::first_stays, crate::proofs::Telling::second_stays, crate::proofs::Telling::to_one, crate::proofs::Telling::both_make, crate::proofs::Telling::are_apart))]
 fn apart_others(machine: &Machine<'_>, actor: u32, other_actor: u32) -> Result<(), Kept>
     requires { actor ≢ other_actor }
@@ -85,7 +85,7 @@ fn apart_others(machine: &Machine<'_>, actor: u32, other_actor: u32) -> Result<(
     Ok(())
 }
 
-/// Whether the next steps of two actors of a machine are apart, and so may be swapped. It takes no memory.
+/// Whether the next steps of two actors of a machine are apart, and so may be swapped. It does not allocate.
 ///
 /// # Errors
 /// The first part of being apart that fails, in the order of `Kept`.

@@ -15,7 +15,7 @@ use pc_list_steps::{StepsFault, take_steps};
 use pc_machine::{Machine, start};
 use std::alloc::{AllocError, Global};
 
-// The machine behind the turns before a place.
+// The machine after the turns before a place.
 fn behind<'p>(alloc: Global, core: &'p Core, front: &[u32]) -> Result<Machine<'p>, SwapFault>
     requires safe { Safe core.now }
     requires few { length front.now ≤ list_limit }
@@ -31,7 +31,7 @@ fn behind<'p>(alloc: Global, core: &'p Core, front: &[u32]) -> Result<Machine<'p
     }
 }
 
-// The list with the turns at a place, counted from 1, and behind it in each other's place.
+// The list with the turn at a place, counted from 1, and the next one exchanged.
 fn exchanged(alloc: Global, list: &[u32], place: usize) -> Result<List<u32>, AllocError>
     requires first { 0 < place }
     requires last { place < length list.now }
@@ -43,13 +43,13 @@ fn exchanged(alloc: Global, list: &[u32], place: usize) -> Result<List<u32>, All
     Ok(turns)
 }
 
-/// Exchanges the turn at a place of a list, counted from 1, with the one behind it, where their steps are apart, of a core that
-/// is safe. The list has at most 4,000,000 turns.
+/// Exchanges the turn at a place of a list, counted from 1, with the next one, if their steps are apart. The core is
+/// safe. The list has at most 4,000,000 turns.
 ///
 /// # Errors
-/// - `Kept` exactly where the two steps are not apart behind the turns before them, with the answer of `apart`.
-/// - `TooLong(n)` exactly where the n-th step of the list, counted from 1, is before them and would make too long a text.
-/// - `Memory` at want of memory.
+/// - `Kept` iff the two steps are not apart after the turns before them, with the answer of `apart`.
+/// - `TooLong(n)` iff the n-th step of the list, counted from 1, is before them and would make too long a text.
+/// - `Memory` if memory ran out.
 pub fn swap(alloc: Global, core: &Core, list: &[u32], place: u32) -> Result<List<u32>, SwapFault>
     requires safe { Safe core.now }
     requires few { length list.now ≤ list_limit }

@@ -1,4 +1,4 @@
--- Sums of first numbers, and what a change of one number makes of them.
+-- Sums of prefixes, and how changing one number changes them.
 use Rattle.std.proofs.Common.{◌≡◌, ℕ, zero, suc, ◌+◌, ◌-◌, ◌*◌, ◌/◌, ◌<◌, ◌≤◌, ◌^◌, Bool, true, false, nat_lt, List, [], ◌∷◌, length, take, get_or, set, sum, Some, refl, ap, arith}
 use Rattle.std.specs.Prelude.{slice_get}
 use Rattle.std.proofs.Math.Seq.{take-set-lt}
@@ -23,7 +23,7 @@ sum_step_fits xs i l few = let e = sum_step xs i l in let f = sum_by-take-le sam
 pub sum_all : (n : ℕ) (xs : List ℕ) → length xs ≤ n → sum (take n xs) ≡ sum xs
 sum_all n xs l = ap sum (take_all n xs l)
 
--- ---- another number at a place
+-- ---- replacing the number at a place
 
 shorter : (n : ℕ) (xs : List ℕ) (i : ℕ) → i < length xs → i < n → i < length (take n xs)
 shorter zero xs i l m = absurd (omega (arith, m))

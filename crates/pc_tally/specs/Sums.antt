@@ -1,17 +1,17 @@
--- Sums of the first numbers of a list.
+-- Sums of prefixes of a list.
 use Rattle.std.specs.Prelude.{◌≡◌, ℕ, ◌+◌, ◌*◌, ◌<◌, ◌≤◌, ◌^◌, ◌⊎◌, List, [], ◌∷◌, ◌++◌, length, take, sum}
 
--- The sums of the first numbers pass `wanted` at this place: with the number there it is exceeded, and before it is not.
+-- The prefix sums pass `wanted` at this place: with the number there they exceed it, and before it they do not.
 pub record FallsOn (numbers : List ℕ) (wanted place : ℕ) : Type 0 where
   pub there : place < length numbers
   pub before : sum (take place numbers) ≤ wanted
   pub passes : wanted < sum (take (place + 1) numbers)
 
--- how many numbers have one sum
+-- how many numbers are summed in one group
 abbrev pub group : ℕ
 group = 64
 
--- Each of the upper numbers is the sum of the next 64 of the lower ones, and they are enough for all.
+-- Each of the upper numbers is the sum of the next 64 lower ones, and there are enough of them for all.
 pub record Summed (upper lower : List ℕ) : Type 0 where
   pub sums : (n : ℕ) → sum (take n upper) ≡ sum (take (group * n) lower)
   pub covers : length lower ≤ group * length upper
@@ -25,6 +25,6 @@ pub record IsTally (numbers groups blocks : List ℕ) (total : ℕ) : Type 0 whe
   pub groups_are : Summed groups numbers
   pub blocks_are : Summed blocks groups
 
--- The list is the old one, perhaps with a 0 at its end.
+-- The list is the old one, perhaps with a 0 appended.
 abbrev pub IsLonger : (old new : List ℕ) → Type 0
 IsLonger old new = (new ≡ old) ⊎ (new ≡ old ++ 0 ∷ [])

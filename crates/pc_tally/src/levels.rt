@@ -4,10 +4,10 @@ ghost use Rattle.pc_tally.specs.Sums.{FallsOn, IsLonger};
 
 use std::alloc::AllocError;
 
-/// How many numbers have one sum.
+/// How many numbers are summed in one group.
 pub const GROUP: usize = 64;
 
-/// Takes one number of a list away and puts another in its place, at a place that holds both.
+/// Subtracts one number from the sum at a place, and adds another.
 pub fn exchange(sums: &mut Vec<u32>, at: usize, old: u32, new: u32)
     requires there { at < length sums.old.items }
     requires holds { old ≤ slice_index sums.old.items at }
@@ -18,7 +18,7 @@ pub fn exchange(sums: &mut Vec<u32>, at: usize, old: u32, new: u32)
     sums[at] = sum - old + new;
 }
 
-/// Puts an empty group after the others if they are too few for this count of numbers.
+/// Appends an empty group if there are too few groups for this count of numbers.
 pub fn cover(sums: &mut Vec<u32>, count: usize) -> Result<(), AllocError>
     requires few { length sums.old.items < 2 ^ 40 }
     requires nearly { count ≤ GROUP * length sums.old.items + 1 }
@@ -32,7 +32,7 @@ pub fn cover(sums: &mut Vec<u32>, count: usize) -> Result<(), AllocError>
     Ok(())
 }
 
-/// The sum of the first numbers of a list, from that of some of them on.
+/// The sum of the numbers before `end`, given that of the numbers before `start`.
 pub fn sum_to(numbers: &[u32], start: usize, end: usize, before: u32) -> u32
     requires within { start ≤ end }
     requires there { end ≤ length numbers.now }
@@ -47,8 +47,8 @@ pub fn sum_to(numbers: &[u32], start: usize, end: usize, before: u32) -> u32
     before
 }
 
-/// The place at which the sums of the first numbers pass one that is below the sum of all, and the sum of the numbers before
-/// it. The search begins at a place that is not after it.
+/// The place at which the prefix sums pass `wanted`, which is below the sum of all, and the sum of the numbers before
+/// that place. The search begins at `start`, which must not be after it.
 pub fn place_from(numbers: &[u32], start: usize, before: u32, wanted: u32) -> (usize, u32)
     requires few { sum numbers.now < 2 ^ 32 }
     requires before { before ≡ sum (take start numbers.now) }

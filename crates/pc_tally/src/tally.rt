@@ -39,7 +39,7 @@ impl Tally {
         }
     }
 
-    /// How many numbers there are.
+    /// The number of numbers.
     pub fn len(&self) -> usize
         ensures { result ≡ length self.now }
     {
@@ -53,14 +53,14 @@ impl Tally {
         self.total
     }
 
-    /// The number at a place. `None` exactly if there is none.
+    /// The number at a place. `None` iff there is none.
     pub fn get(&self, place: u32) -> Option<u32>
         ensures { result ≡ slice_get self.now place }
     {
         self.numbers.get(place as usize).copied()
     }
 
-    /// Puts a number after the others. An `Err` changes nothing.
+    /// Appends a number. An `Err` changes nothing.
     pub fn push(&mut self, number: u32) -> Result<(), AllocError>
         requires room { length self.old < 2 ^ 32 }
         requires few { sum self.old + number < 2 ^ 32 }
@@ -73,7 +73,7 @@ impl Tally {
         Ok(())
     }
 
-    /// Puts another number at a place.
+    /// Replaces the number at a place.
     pub fn set(&mut self, place: u32, number: u32)
         requires there { place < length self.old }
         requires few { sum self.old + number < 2 ^ 32 + slice_index self.old place }
@@ -97,7 +97,7 @@ impl Tally {
         sum_to(&self.numbers, GROUP * group, end, before)
     }
 
-    /// The place at which the sums of the first numbers pass this one. `None` exactly if they never do.
+    /// The place at which the prefix sums pass `wanted`. `None` iff they never do.
     pub fn place_of(&self, wanted: u32) -> Option<u32>
         ensures none { IfNone result (sum self.now ≤ wanted) }
         ensures some { IfSome result (FallsOn self.now wanted) }
@@ -111,7 +111,7 @@ impl Tally {
         Some(place as u32)
     }
 
-    // Puts a 0 after the others.
+    // Appends a 0.
     fn push_zero(&mut self) -> Result<(), AllocError>
         requires room { length self.old < 2 ^ 32 }
         ensures ok { OnOk result (self.new ≡ self.old ++ 0 ∷ []) }
@@ -125,7 +125,7 @@ impl Tally {
         Ok(())
     }
 
-    // Puts another number in place of one.
+    // Replaces the number at a place, which is `old`.
     fn exchange_at(&mut self, at: usize, old: u32, new: u32)
         requires there { slice_get self.old at ≡ Some old }
         requires few { sum self.old + new < 2 ^ 32 + old }

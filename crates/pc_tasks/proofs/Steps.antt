@@ -16,7 +16,7 @@ use Rattle.pc_semantics.specs.Tasks.{task_move}
 use Rattle.pc_semantics.specs.Step.{around, made, run_task, run_frames, step_of, step}
 use Rattle.pc_tasks.specs.Inside.{IsInside, Inside, ended, first_move}
 
--- Nothing changes where the objects and the frames stay.
+-- Nothing changes if the objects and the frames are unchanged.
 unmoved : (c : Configuration) (i : ℕ) (a : Actor) (f : Frame) (fs : List Frame) → slice_get c.actors i ≡ Some a → a.frames ≡ f ∷ fs → with_frames (with_objects c c.objects) i a (f ∷ fs) ≡ c
 unmoved c i a f fs here e =
     ap (λ frames. with_frames c i a frames) (sym e)
@@ -26,7 +26,7 @@ unmoved c i a f fs here e =
 abbrev pub stepped : Configuration → ℕ → Actor → List Frame → Outcome × ObjectMap × Frame → Outcome × Configuration
 stepped c i a fs r = (r.0, with_frames (with_objects c r.1) i a (r.2 ∷ fs))
 
--- A move that concerns the frame and the objects alone is made: they are put in their places, also where nothing moved.
+-- A move of the frame and the objects alone is made: they are put in their places, even if nothing moved.
 pub made_inside : (c : Configuration) (i : ℕ) (a : Actor) (f : Frame) (fs : List Frame) (m : Move) (r : Outcome × ObjectMap × Frame) → slice_get c.actors i ≡ Some a → a.frames ≡ f ∷ fs → ended c.objects f m ≡ Some r → made c i a fs m ≡ stepped c i a fs r
 made_inside c i a f fs (Stuck l) r here e s = ap (λ d. (Lacks l, d)) (sym (unmoved c i a f fs here e)) ∙ ap (stepped c i a fs) (same_Some _ _ s)
 made_inside c i a f fs Overflows r here e s = ap (λ d. (TooLong, d)) (sym (unmoved c i a f fs here e)) ∙ ap (stepped c i a fs) (same_Some _ _ s)

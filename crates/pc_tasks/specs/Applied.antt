@@ -1,4 +1,4 @@
--- What an operator makes of its operands, as a move.
+-- The result of an operator, as a move.
 use Rattle.pc_semantics.specs.declared.frames.Frame.{Frame}
 use Rattle.pc_semantics.specs.declared.outcome.Lack.TheVariants as lack
 use Rattle.pc_semantics.specs.Around.{Move, Stuck, Overflows, Goes, pushed}

@@ -1,4 +1,4 @@
--- Objects that have the fields of their entities.
+-- Objects that have exactly the fields of their entities.
 use Rattle.std.specs.Prelude.{◌≡◌, Some, length, slice_get}
 use Rattle.std.specs.FinMap.{get}
 use Rattle.pc_heap.specs.Object.{Object}
@@ -11,6 +11,6 @@ use Rattle.pc_semantics.specs.Configurations.{fields_in}
 abbrev pub HasFields : CoreData → Object → Type 0
 HasFields core o = length o.fields ≡ fields_in (slice_get core.entities o.entity)
 
--- So has every object.
+-- Every object has a place for each field of its entity.
 abbrev pub Fielded : CoreData → ObjectMap → Type 0
 Fielded core objects = (a : Address) (o : Object) → get objects a ≡ Some o → HasFields core o

@@ -1,5 +1,5 @@
-//! What the first task of a frame is, before it is done, where it concerns the frame and the objects alone. The functions only
-//! look, and take no memory.
+//! What the first task of a frame is, before it is done, if it concerns the frame and the objects alone. The functions
+//! only read, and do not allocate.
 ghost use Rattle.std.specs.Prelude.{◌≡◌, ℕ, Bool, slice_get};
 ghost use Rattle.pc_semantics.specs.Ahead.{by_move};
 ghost use Rattle.pc_semantics.specs.Around.{pop};
@@ -21,7 +21,7 @@ use pc_heap::{Heap, Text, Value};
 use pc_semantics::{Ahead, Frame, Task};
 use pc_tree::Op;
 
-// The value of a slot comes, or goes out of it.
+// The value of a slot is pushed, or taken out of the slot.
 fn slot(frame: &Frame, slot: u32) -> Ahead
     ensures read { result ≡ by_move (evaluation.push_slot (relieved frame.now) (slice_get frame.now.slots slot)) }
     ensures taken { result ≡ by_move (evaluation.take_slot (relieved frame.now) slot (slice_get frame.now.slots slot)) }
@@ -83,7 +83,7 @@ fn evaluate(core: &Core, frame: &Frame, number: u32) -> Ahead
     }
 }
 
-// The field of this name of the object on top is read.
+// The field with this name of the object on top is read.
 fn read(core: &Core, heap: &Heap, frame: &Frame, name: u32) -> Ahead
     ensures { result ≡ by_move (pop (relieved frame.now) (fields.get_from core.now (seeing heap.now.objects) name)) }
 {
@@ -137,7 +137,7 @@ fn get(core: &Core, heap: &Heap, frame: &Frame, number: u32) -> Ahead
     }
 }
 
-// The field of this name of the object on top gets the value below it.
+// The field with this name of the object on top gets the value below it.
 #[tactic(auto, using(crate::proofs::Written::written))]
 fn write(core: &Core, heap: &Heap, frame: &Frame, name: u32) -> Ahead
     requires { Fielded core.now heap.now.objects }
@@ -194,7 +194,7 @@ fn put(core: &Core, heap: &Heap, frame: &Frame, number: u32) -> Ahead
     }
 }
 
-// A value is wanted on top.
+// A value must be on top.
 fn top(frame: &Frame) -> Ahead
     ensures stored { (slot : ℕ) → result ≡ by_move (pop (relieved frame.now) (fields.store slot)) }
     ensures dropped { result ≡ by_move (pop (relieved frame.now) (λ v g. Goes g)) }
@@ -239,7 +239,7 @@ fn store(core: &Core, frame: &Frame, number: u32) -> Ahead
     }
 }
 
-// What an operator gives, where it gives something.
+// The value of an operator, if it has one.
 fn given(value: Option<Value>) -> Ahead
     ensures { (f : Frame) → result ≡ by_move (operators.gives f value) }
 {
@@ -479,7 +479,7 @@ fn go_round(core: &Core, frame: &Frame, number: u32) -> Ahead
     }
 }
 
-// What the first task of a frame is, said of a task that looks at the objects alone.
+// What the first task of a frame is, for a task that only looks at the objects.
 fn first_ahead(core: &Core, heap: &Heap, frame: &Frame) -> Ahead
     requires inside { IsInside (slice_get frame.now.tasks 0) }
     requires fielded { Fielded core.now heap.now.objects }
@@ -505,8 +505,8 @@ fn first_ahead(core: &Core, heap: &Heap, frame: &Frame) -> Ahead
     }
 }
 
-/// What the first task of a frame is, where it concerns the frame and the objects alone and every object has the fields of its
-/// entity. It takes no memory.
+/// What the first task of a frame is, if it concerns the frame and the objects alone and every object has the fields of
+/// its entity. It does not allocate.
 #[tactic(auto, using(crate::proofs::Anyone::for_anyone))]
 pub fn ahead_inside(core: &Core, heap: &Heap, frame: &Frame) -> Ahead
     requires inside { IsInside (slice_get frame.now.tasks 0) }

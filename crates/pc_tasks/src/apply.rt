@@ -1,4 +1,4 @@
-//! Operators that are applied to what is on the stack.
+//! Operators applied to the values on the stack.
 ghost use Rattle.std.specs.Prelude.{◌≡◌, ◌<◌, length, drop, slice_get, Some, IfOk, OnErr};
 ghost use Rattle.pc_semantics.specs.Around.{with_stack, pop};
 ghost use Rattle.pc_semantics.specs.Operators as operators;
@@ -15,7 +15,7 @@ use pc_semantics::{Frame, Lack, Outcome};
 use pc_tree::Op;
 use std::alloc::{AllocError, Global};
 
-// What an operator made of the top takes its place.
+// The result of an operator replaces the top.
 fn replace_one(frame: &mut Frame, applied: Applied) -> Outcome
     requires operand { 0 < length frame.old.stack }
     requires task { 0 < length frame.old.tasks }
@@ -32,7 +32,7 @@ fn replace_one(frame: &mut Frame, applied: Applied) -> Outcome
     }
 }
 
-// What an operator made of the top two values takes their place.
+// The result of an operator replaces the top two values.
 fn replace_two(frame: &mut Frame, applied: Applied) -> Outcome
     requires operands { 1 < length frame.old.stack }
     requires task { 0 < length frame.old.tasks }

@@ -1,4 +1,4 @@
-//! Tasks that look at a truth value and go one way or another.
+//! Tasks that look at a truth value and choose what to do next.
 ghost use Rattle.std.specs.Prelude.{◌≡◌, ◌<◌, length, drop, slice_get, Some, IfOk, OnErr};
 ghost use Rattle.pc_semantics.specs.Around.{Goes, with_stack, pop};
 ghost use Rattle.pc_semantics.specs.Choices as spec;
@@ -12,7 +12,7 @@ use pc_heap::Value;
 use pc_semantics::{Frame, Lack, Outcome, Task};
 use std::alloc::AllocError;
 
-// The left side of an `and`: where it is false it is the value.
+// The left side of an `and`: if it is false, it is the value.
 fn test_and(frame: &mut Frame, children: &[u32]) -> Outcome
     requires { 0 < length frame.old.tasks }
     ensures { within frame.old (pop (relieved frame.old) (spec.truth (spec.test_and children.now))) ≡ Some (result, frame.new) }
@@ -27,7 +27,7 @@ fn test_and(frame: &mut Frame, children: &[u32]) -> Outcome
     right_side(frame, children)
 }
 
-// The left side of an `or`: where it is true it is the value.
+// The left side of an `or`: if it is true, it is the value.
 fn test_or(frame: &mut Frame, children: &[u32]) -> Outcome
     requires { 0 < length frame.old.tasks }
     ensures { within frame.old (pop (relieved frame.old) (spec.truth (spec.test_or children.now))) ≡ Some (result, frame.new) }
@@ -42,7 +42,7 @@ fn test_or(frame: &mut Frame, children: &[u32]) -> Outcome
     right_side(frame, children)
 }
 
-// The value on top goes, and the right side is evaluated.
+// The value on top is removed, and the right side is evaluated.
 fn right_side(frame: &mut Frame, children: &[u32]) -> Outcome
     requires value { 0 < length frame.old.stack }
     requires task { 0 < length frame.old.tasks }
@@ -120,8 +120,8 @@ fn take_branch(frame: &mut Frame, children: &[u32]) -> Outcome
     Outcome::Moved
 }
 
-/// The task Loop of this node: the body is evaluated and its value dropped, and then comes the whole again; or the value is
-/// None.
+/// The task Loop of this node: the body is evaluated, its value is dropped, and the whole loop follows again; or the
+/// value is None.
 pub fn go_round(core: &Core, frame: &mut Frame, number: u32) -> Result<Outcome, AllocError>
     requires { 0 < length frame.old.tasks }
     ensures ok { IfOk result (λ o. within frame.old (at_node (slice_get core.now.nodes number) (λ x. spec.loop_task (relieved frame.old) number x.children)) ≡ Some (o, frame.new)) }
@@ -158,7 +158,7 @@ fn turn(frame: &mut Frame, number: u32, children: &[u32]) -> Result<Outcome, All
     Ok(Outcome::Moved)
 }
 
-/// The task Discard: the top goes.
+/// The task Discard: the top is removed.
 pub fn discard(frame: &mut Frame) -> Outcome
     requires { 0 < length frame.old.tasks }
     ensures { within frame.old (pop (relieved frame.old) (λ v g. Goes g)) ≡ Some (result, frame.new) }

@@ -25,7 +25,7 @@ fn push_slot(frame: &mut Frame, slot: u32) -> Result<Outcome, AllocError>
     push_value(frame, value)
 }
 
-// A slot's value is pushed, and the slot is empty.
+// A slot's value is pushed, and the slot becomes empty.
 fn take_slot(frame: &mut Frame, slot: u32) -> Result<Outcome, AllocError>
     requires { 0 < length frame.old.tasks }
     ensures ok { IfOk result (λ o. within frame.old (spec.take_slot (relieved frame.old) slot (slice_get frame.old.slots slot)) ≡ Some (o, frame.new)) }
@@ -43,7 +43,7 @@ fn take_slot(frame: &mut Frame, slot: u32) -> Result<Outcome, AllocError>
     Ok(Outcome::Moved)
 }
 
-// All children, and then this task.
+// All children are evaluated, and then this task is done.
 #[tactic(auto, using(std::proofs::Common::append_assoc))]
 fn children_first(
     frame: &mut Frame,
@@ -62,7 +62,7 @@ fn children_first(
     Ok(Outcome::Moved)
 }
 
-// The first child, and then this task, if there is one.
+// The first child is evaluated, and then this task is done, if there is one.
 fn first_then(
     frame: &mut Frame,
     children: &[u32],
@@ -82,7 +82,7 @@ fn first_then(
     Ok(Outcome::Moved)
 }
 
-// The items of a sequence, one after the other: each value but the last is dropped.
+// The items of a sequence, one after another: every value but the last is dropped.
 fn items_first(frame: &mut Frame, children: &SharedList<u32>) -> Result<Outcome, AllocError>
     requires { 0 < length frame.old.tasks }
     ensures ok { IfOk result (λ o. within frame.old (Goes (doing (relieved frame.old) (spec.items children.now))) ≡ Some (o, frame.new)) }
@@ -135,7 +135,7 @@ fn evaluate(
     }
 }
 
-/// The task Eval of this node: its value is pushed, or the tasks that lead to its value come first.
+/// The task Eval of this node: its value is pushed, or the tasks that compute it come first.
 pub fn evaluate_node(core: &Core, frame: &mut Frame, number: u32) -> Result<Outcome, AllocError>
     requires { 0 < length frame.old.tasks }
     ensures ok { IfOk result (λ o. within frame.old (spec.evaluate_node (relieved frame.old) number (slice_get core.now.nodes number)) ≡ Some (o, frame.new)) }

@@ -11,7 +11,7 @@ use pc_heap::{Heap, Value};
 use pc_semantics::{Frame, Lack, Outcome};
 use std::alloc::AllocError;
 
-// The field of this name of the object on top is read.
+// The field with this name of the object on top is read.
 fn read(core: &Core, heap: &Heap, frame: &mut Frame, name: u32) -> Result<Outcome, AllocError>
     requires { 0 < length frame.old.tasks }
     ensures ok { IfOk result (λ o. within frame.old (pop (relieved frame.old) (spec.get_from core.now (seeing heap.now.objects) name)) ≡ Some (o, frame.new)) }
@@ -39,7 +39,7 @@ fn read(core: &Core, heap: &Heap, frame: &mut Frame, name: u32) -> Result<Outcom
     Ok(Outcome::Moved)
 }
 
-/// The task Get of this node: the origin goes, and the value of its field comes.
+/// The task Get of this node: the origin is replaced by the value of its field.
 pub fn get(core: &Core, heap: &Heap, frame: &mut Frame, number: u32) -> Result<Outcome, AllocError>
     requires { 0 < length frame.old.tasks }
     ensures ok { IfOk result (λ o. within frame.old (at_node (slice_get core.now.nodes number) (λ x. spec.get_task core.now (seeing heap.now.objects) (relieved frame.old) x.kind)) ≡ Some (o, frame.new)) }
@@ -76,7 +76,7 @@ pub fn get(core: &Core, heap: &Heap, frame: &mut Frame, number: u32) -> Result<O
     }
 }
 
-// The value on top is put into the slot, and the one before comes, or None.
+// The value on top goes into the slot, and is replaced by the slot's old value, or None.
 fn store_in(frame: &mut Frame, slot: u32) -> Result<Outcome, AllocError>
     requires { 0 < length frame.old.tasks }
     ensures ok { IfOk result (λ o. within frame.old (pop (relieved frame.old) (spec.store slot)) ≡ Some (o, frame.new)) }
@@ -100,7 +100,7 @@ fn store_in(frame: &mut Frame, slot: u32) -> Result<Outcome, AllocError>
     Ok(Outcome::Moved)
 }
 
-/// The task Store of this node: the value goes into the slot, and the one before comes, or None.
+/// The task Store of this node: the value goes into the slot, and is replaced by the slot's old value, or None.
 pub fn store(core: &Core, frame: &mut Frame, number: u32) -> Result<Outcome, AllocError>
     requires { 0 < length frame.old.tasks }
     ensures ok { IfOk result (λ o. within frame.old (at_node (slice_get core.now.nodes number) (λ x. spec.store_task (relieved frame.old) x.kind)) ≡ Some (o, frame.new)) }
@@ -136,7 +136,7 @@ pub fn store(core: &Core, frame: &mut Frame, number: u32) -> Result<Outcome, All
     }
 }
 
-// The field of this name of the object on top gets the value below it.
+// The field with this name of the object on top gets the value below it.
 fn write(core: &Core, heap: &mut Heap, frame: &mut Frame, name: u32) -> Outcome
     requires { 0 < length frame.old.tasks }
     ensures end { ended heap.old.objects frame.old (pop (relieved frame.old) (λ o g. pop g (spec.put_into core.now (seeing heap.old.objects) name o))) ≡ Some (result, heap.new.objects, frame.new) }
@@ -172,7 +172,8 @@ fn write(core: &Core, heap: &mut Heap, frame: &mut Frame, name: u32) -> Outcome
     }
 }
 
-/// The task Put of this node: the origin and the value go, the field gets the value, and the one before comes, or None.
+/// The task Put of this node: the field gets the value, and the field's old value, or None, replaces the origin and the
+/// value.
 pub fn put(core: &Core, heap: &mut Heap, frame: &mut Frame, number: u32) -> Outcome
     requires { 0 < length frame.old.tasks }
     ensures end { ended heap.old.objects frame.old (at_node (slice_get core.now.nodes number) (λ x. spec.put_task core.now (seeing heap.old.objects) (relieved frame.old) x.kind)) ≡ Some (result, heap.new.objects, frame.new) }

@@ -7,7 +7,7 @@ use pc_heap::Value;
 use pc_semantics::{Frame, Outcome, Task};
 use std::alloc::AllocError;
 
-/// Pushes a value, with which the first task is done. A refusal changes nothing.
+/// Pushes a value, which completes the first task. If memory runs out, nothing changes.
 pub fn push_value(frame: &mut Frame, value: Value) -> Result<Outcome, AllocError>
     requires { 0 < length frame.old.tasks }
     ensures ok { IfOk result (λ o. within frame.old (Goes (pushed (relieved frame.old) value)) ≡ Some (o, frame.new)) }
@@ -18,7 +18,7 @@ pub fn push_value(frame: &mut Frame, value: Value) -> Result<Outcome, AllocError
     Ok(Outcome::Moved)
 }
 
-/// Puts these tasks in place of the first one. A refusal changes nothing.
+/// Replaces the first task by these tasks. If memory runs out, nothing changes.
 pub fn go_on_with(frame: &mut Frame, tasks: &[Task]) -> Result<(), AllocError>
     requires { 0 < length frame.old.tasks }
     ensures ok { OnOk result (frame.new ≡ doing (relieved frame.old) tasks.now) }

@@ -21,7 +21,8 @@ fn same_address(left: Address, right: Address) -> bool
     }
 }
 
-/// Whether two values are equal numbers, equal truth values, texts of equal bytes, the same primitive, or the same object.
+/// Whether two values are equal numbers, equal truth values, texts with equal bytes, the same primitive, or the same
+/// object.
 pub fn same_value(left: &Value, right: &Value) -> bool
     ensures { result ≡ spec.same_value left.now right.now }
 {

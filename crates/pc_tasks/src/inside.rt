@@ -11,8 +11,8 @@ use pc_heap::Heap;
 use pc_semantics::{Frame, Outcome, Task};
 use std::alloc::{AllocError, Global};
 
-/// Whether the first task of a frame concerns the frame and the objects alone: there is one, and it is none of `Make`,
-/// `Spawn`, `Invoke` and `Return`.
+/// Whether the first task of a frame concerns the frame and the objects alone: there is one, and it is not `Make`,
+/// `Spawn`, `Invoke` or `Return`.
 pub fn is_inside(frame: &Frame) -> bool
     ensures { IsTrue result ↔ IsInside (slice_get frame.now.tasks 0) }
 {
@@ -36,8 +36,8 @@ pub fn is_inside(frame: &Frame) -> bool
     }
 }
 
-/// Does the first task of a frame, where it concerns the frame and the objects alone. How it ends is what the machine's
-/// definitions say of it; where it does not move, and where memory is refused, the frame and the objects are unchanged.
+/// Does the first task of a frame, if it concerns the frame and the objects alone. It ends as the machine's definitions
+/// state; if it does not move, or if memory runs out, the frame and the objects are unchanged.
 #[tactic(auto, using(crate::proofs::Anyone::for_anyone))]
 pub fn run_inside(
     alloc: Global,
@@ -53,7 +53,7 @@ pub fn run_inside(
     run_task(alloc, core, heap, frame)
 }
 
-// The same, said of a task that looks at the objects alone.
+// The same for a task that only looks at the objects.
 fn run_task(
     alloc: Global,
     core: &Core,

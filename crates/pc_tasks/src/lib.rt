@@ -1,10 +1,10 @@
-//! The tasks of the machine that stay within one frame and the objects: all but the making of objects and actors, calls,
-//! messages and returns. `specs/Inside.antt` says how such a task ends.
+//! The tasks of the machine that stay within one frame and the objects: all but the making of objects and actors,
+//! calls, messages and returns. `specs/Inside.antt` states how such a task ends.
 //!
-//! Proved: `run_inside` does the first task of a frame, where it is none of Make, Spawn, Invoke and Return, as the
-//! definitions of `pc_semantics` say: all kinds of evaluation, fields, slots, operators, choices. A step that lacks
-//! something, that is too long or that is refused memory leaves the frame and the objects as they were. `inside_step`
-//! leads from there to the definitions' `step` of an actor.
+//! Proved: `run_inside` does the first task of a frame, unless it is Make, Spawn, Invoke or Return, as defined in
+//! `pc_semantics`: all kinds of evaluation, fields, slots, operators and choices. A step that lacks something, that
+//! would make too long a text, or that runs out of memory leaves the frame and the objects unchanged. `inside_step`
+//! leads from there to the definition of an actor's `step`.
 #![tactic(auto)]
 
 mod ahead;

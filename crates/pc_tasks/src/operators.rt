@@ -1,4 +1,4 @@
-//! What operators give.
+//! The values of operators.
 ghost use Rattle.std.specs.Prelude.{◌≡◌, ◌/◌, ◌%◌, ◌++◌, length, nat_lt, IfOk};
 ghost use Rattle.pc_caps.specs.Limits.{text_limit};
 ghost use Rattle.pc_semantics.specs.declared.frames.Frame.{Frame};
@@ -11,12 +11,12 @@ use pc_heap::{Text, Value};
 use pc_tree::Op;
 use std::alloc::{AllocError, Global};
 
-/// What an operator makes of its operands.
+/// The result of an operator.
 #[derive(Drop)]
 pub enum Applied {
     /// This value.
     Gives(Value),
-    /// Nothing: it asks for a value of another kind.
+    /// None: an operand of another kind is needed.
     OtherKind,
     /// A text that would be longer than a text may be.
     TooLong,
@@ -35,7 +35,7 @@ fn remainder(left: u64, right: u64) -> u64
     if right == 0 { 0 } else { left % right }
 }
 
-/// An operator on two numbers. `None` exactly where it asks for values of another kind.
+/// An operator on two numbers. `None` iff it needs values of another kind.
 pub fn of_numbers(op: Op, left: u64, right: u64) -> Option<Value>
     ensures { result ≡ spec.of_numbers op left right }
 {
@@ -55,7 +55,7 @@ pub fn of_numbers(op: Op, left: u64, right: u64) -> Option<Value>
     }
 }
 
-/// An operator on two truth values. `None` exactly where it asks for values of another kind.
+/// An operator on two truth values. `None` iff it needs values of another kind.
 pub fn of_truths(op: Op, left: bool, right: bool) -> Option<Value>
     ensures { result ≡ spec.of_truths op left right }
 {
@@ -78,7 +78,7 @@ pub fn of_truths(op: Op, left: bool, right: bool) -> Option<Value>
     }
 }
 
-/// Whether the text of both would be longer than a text may be.
+/// Whether both texts joined would be longer than a text may be.
 pub fn is_too_long(left: &Text, right: &Text) -> bool
     ensures { result ≡ nat_lt text_limit (length (left.now ++ right.now)) }
 {
@@ -88,7 +88,7 @@ pub fn is_too_long(left: &Text, right: &Text) -> bool
     }
 }
 
-// Both texts in one.
+// Both texts joined.
 fn joined(alloc: Global, left: &Text, right: &Text) -> Result<Applied, AllocError>
     ensures { IfOk result (λ r. (f : Frame) → applied_to f r ≡ spec.joined f (left.now ++ right.now)) }
 {
@@ -123,7 +123,7 @@ fn of_texts(alloc: Global, op: Op, left: &Text, right: &Text) -> Result<Applied,
     }
 }
 
-// A value, where there is one.
+// A value, if there is one.
 fn given(value: Option<Value>) -> Applied
     ensures { (f : Frame) → applied_to f result ≡ spec.gives f value }
 {

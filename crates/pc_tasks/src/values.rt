@@ -1,11 +1,11 @@
-//! A value that stands for no other.
+//! The value that carries no information.
 ghost use Rattle.std.specs.Prelude.{◌≡◌};
 ghost use Rattle.pc_semantics.specs.Around as spec;
 
 use pc_heap::Value;
 use pc_tree::NONE_ENTITY;
 
-/// None, the value of what has no other.
+/// None, the value of everything that has no other.
 pub fn none() -> Value
     ensures { result ≡ spec.none }
 {

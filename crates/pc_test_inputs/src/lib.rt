@@ -1,5 +1,6 @@
-//! What test crates share: from a text to its tokens, its tree and its core, whole programs, and the derivation of the smallest
-//! program with a local, as text and as notes. Both are those of the format's description, worked out by hand.
+//! What test crates share: the steps from a text to its tokens, its tree and its core, whole programs, and the
+//! derivation of the smallest program with a local, as text and as notes. Both follow the format's description, and
+//! were worked out by hand.
 #![tactic(auto)]
 
 mod cores;

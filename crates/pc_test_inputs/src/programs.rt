@@ -111,7 +111,7 @@ actor Main
     b.read()
 ";
 
-/// Writes one text, and then doubles one until it is too long.
+/// Writes one text, and then doubles another until it is too long.
 pub const DOUBLES: &[u8] = b"\
 actor Main
   new create(env: Env) =>

@@ -13,7 +13,7 @@ use pc_text_order::tokens_are_in_order;
 use pc_tree::File;
 use std::alloc::Global;
 
-/// The tokens of a text. A text that is longer than the lexer takes is answered as want of memory.
+/// The tokens of a text. If it is longer than the lexer takes, the answer is that memory ran out.
 pub fn tokens_of(alloc: Global, text: &[u8]) -> Result<List<Token>, LexFault>
     ensures end { IfOk result EndsWithEnd }
     ensures ascend { IfOk result (λ tokens. Ascends (starts tokens)) }
@@ -25,7 +25,7 @@ pub fn tokens_of(alloc: Global, text: &[u8]) -> Result<List<Token>, LexFault>
     lex(alloc, text)
 }
 
-/// The tree of a text. A text that has no tokens is answered as want of memory.
+/// The tree of a text. If it has no tokens, the answer is that memory ran out.
 pub fn tree_of(alloc: Global, text: &[u8]) -> Result<File, ParseFault>
     ensures { IfOk result (λ tree. Spelled (file_view tree)) }
 {

@@ -17,18 +17,18 @@ pub record Among (ns : List ℕ) (ts : List Token) : Type 0 where
 pub nothing : {ts : List Token} → Among [] ts
 nothing {ts} = record { sub = nothing_at itself (starts ts) }
 
--- The number is where the next token starts.
+-- The number is the start of the next token.
 pub put : {x : Token} {s : Span} {ns : List ℕ} {ts : List Token} → x.span ≡ s → Among ns ts → Among (s.start ∷ ns) (x ∷ ts)
 put {x} {s} {ns} {ts} e a = subst (λ (z : Span). Among (z.start ∷ ns) (x ∷ ts)) e (record { sub = take x.span.start ns (starts ts) a.sub })
 
--- With a token more.
+-- With one more token.
 pub after : {x : Token} {ns : List ℕ} {ts : List Token} → Among ns ts → Among ns (x ∷ ts)
 after {x} {ns} {ts} a = record { sub = skip ns x.span.start (starts ts) a.sub }
 
 pub both : {ns ms : List ℕ} {ts us : List Token} → Among ns ts → Among ms us → Among (ns ++ ms) (ts ++ us)
 both {ns} {ms} {ts} {us} a b = record { sub = subst (Sub itself (ns ++ ms)) (sym (map-append (λ (x : Token). x.span.start) ts us)) (sub_join itself ns ms (starts ts) (starts us) a.sub b.sub) }
 
--- With tokens more before, or behind.
+-- With more tokens before, or after.
 pub past : (ts : List Token) {ns : List ℕ} {us : List Token} → Among ns us → Among ns (ts ++ us)
 past ts {ns} {us} a = both {ns = []} {ms = ns} {ts = ts} {us = us} nothing a
 
@@ -38,7 +38,7 @@ before {ns} {ts} us a = subst (λ l. Among l (ts ++ us)) (append-nil ns) (both {
 pub moved : {ns : List ℕ} {ts us : List Token} → ts ≡ us → Among ns us → Among ns ts
 moved {ns} e a = subst (Among ns) (sym e) a
 
--- ---- where the tokens ascend, so do the numbers
+-- ---- if the tokens ascend, so do the numbers
 
 rising_ascends : (ns : List ℕ) → Rising itself ns → Ascends ns
 rising_ascends [] r i j a b l e k = absurd (none-some a e)

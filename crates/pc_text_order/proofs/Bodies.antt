@@ -115,7 +115,7 @@ initials_in : (fs : List t.Field) (ts : List Token) → SpellsFields fs ts → A
 initials_in [] ts h = nothing
 initials_in (f ∷ fs) ts h = moved h.2 (both (field_in f h.0 h.3) (initials_in fs h.1 h.4))
 
--- Of a method that is no constructor they are none.
+-- A method that is not a constructor has none.
 initials_of : (word : MethodWord) (fs : List t.Field) (ts : List Token) → Among (initial_places fs) ts → Among (initial_places (initial_fields word fs)) ts
 initials_of method.Fun fs ts a = nothing
 initials_of method.Be fs ts a = nothing

@@ -13,7 +13,7 @@ use Rattle.pc_text_order.proofs.Among.{Among, nothing, put, after, both, past, b
 use Rattle.pc_text_order.proofs.Files.{file_in}
 use Rattle.pc_text_order.proofs.Bodies.{type_in}
 
--- ---- what stands behind `is`
+-- ---- what comes after `is`
 
 more_names_in : (ms : List Name) (ts : List Token) → SpellsMoreNames ms ts → Among (map start_of ms) ts
 more_names_in [] ts h = nothing

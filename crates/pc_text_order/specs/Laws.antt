@@ -1,4 +1,4 @@
--- In what order tokens, and the names of trees, stand in a text.
+-- The order in which tokens, and the names of trees, are in a text.
 use Rattle.std.specs.Prelude.{ℕ, List, map}
 use Rattle.pc_lists.specs.Places.{Ascends, Each}
 use Rattle.pc_tree.specs.Tree as t
@@ -23,12 +23,12 @@ TokensEnd = (text : List ℕ) (ts : List Token) → Tokens text ts → EndsWithE
 
 -- ---- the names of a tree that tokens spell
 
--- Of each entity: the places of its initial values, and those of the body of each method.
+-- For each entity: the places of its initial values, and those of the body of each method.
 abbrev pub BodiesAscend : Type 0
 BodiesAscend =
     (f : t.File) (ts : List Token) → SpellsFile f ts → Ascends (starts ts)
     → Each (λ i e. Ascends (initial_places e.fields) × Each (λ j m. Ascends (body_places e.fields m)) e.methods) f.entities
 
--- Of each entity: the places of its declarations.
+-- For each entity: the places of its declarations.
 abbrev pub DeclarationsAscend : Type 0
 DeclarationsAscend = (f : t.File) (ts : List Token) → SpellsFile f ts → Ascends (starts ts) → Each (λ i e. Ascends (names.places e)) f.entities

@@ -1,7 +1,7 @@
-//! In what order tokens, and the names of trees, stand in a text.
+//! The order in which tokens, and the names of trees, are in a text.
 //!
-//! Proved: The tokens of a text ascend and end with `End` (`tokens_are_in_order`); so do the names in the bodies and
-//! declarations of a file that they spell (`names_are_in_order`).
+//! Proved: the tokens of a text ascend and end with `End` (`tokens_are_in_order`), and so do the names in the bodies
+//! and declarations of a file that they spell (`names_are_in_order`).
 #![tactic(auto)]
 
 mod laws;

@@ -1,4 +1,4 @@
-//! Derivations as texts. The expected values are those of the format's description.
+//! Derivations as texts. The expected values follow the format's description.
 use pc_ann::{Ann, Note, Rule};
 use pc_caps::{Form, List};
 use pc_deriv::{DerivFault, read, write, write2};
@@ -60,7 +60,7 @@ fn is_read(
     Ok(is_read_as(alloc, &text, &wanted))
 }
 
-// Whether the lines are written of the example, in version 2 or in version 1.
+// Whether these lines are written for the example, in version 2 or in version 1.
 fn is_written(alloc: Global, second: bool, lines: &[&[u8]]) -> Result<bool, AllocError> {
     let text = variant_of(alloc, lines, 0, b"")?;
     let ann = ann_of(alloc, &NODES)?;
@@ -80,7 +80,7 @@ fn the_example_is_read_and_written_in_both_versions(rt: HostRuntime) {
     assert!(rt; is_written(alloc, true, &LINES2) == Ok(true));
 }
 
-// Masks after that are taken for the bits that differ, and bits that differ that are taken for the masks after.
+// The masks after a node taken for the bits that differ, and the bits that differ taken for the masks after it.
 const OTHER_NODES: [NodeRow; 7] = [
     (Rule::Prim, Some((0, Form::Val)), 1, 0),
     (Rule::Seq, Some((0, Form::Val)), 1, 0),
@@ -200,7 +200,7 @@ fn is_told(alloc: Global, lines: &[&[u8]], variant: Variant) -> bool {
     }
 }
 
-// The place of the first of these variants that is told otherwise.
+// The place of the first of these variants with another result.
 fn wrong_variant(alloc: Global, lines: &[&[u8]], variants: &[Variant]) -> Option<usize> {
     for at in 0..variants.len() {
         if !is_told(alloc, lines, variants[at]) {
@@ -241,7 +241,7 @@ const CRAFTED: [(&[u8], Option<DerivFault>); 13] = [
     (b"rcap-derivation 0 0 0\n", Some(DerivFault::BadLine(1))),
 ];
 
-// The place of the first of these texts that is told otherwise.
+// The place of the first of these texts with another result.
 fn wrong_text(alloc: Global, rows: &[(&[u8], Option<DerivFault>)]) -> Option<usize> {
     for at in 0..rows.len() {
         if !reads_as(alloc, rows[at].0, rows[at].1) {
@@ -306,7 +306,7 @@ fn alone(alloc: Global, own: Note) -> Result<Ann, AllocError> {
     })
 }
 
-// Whether a text is read as this one note, and is what is written of it in version 2, or in version 1.
+// Whether a text is read as this one note, and is what is written for it in version 2, or in version 1.
 fn is_of_note(alloc: Global, second: bool, text: &[u8], own: Note) -> Result<bool, AllocError> {
     let ann = alone(alloc, own)?;
     Ok(is_written_as(alloc, second, &ann, text) && is_read_as(alloc, text, &ann))
@@ -330,7 +330,7 @@ fn is_named(alloc: Global, rule: Rule, name: &str) -> Result<bool, AllocError> {
     is_of_note(alloc, false, &text, own)
 }
 
-// The first name that is not that of its rule.
+// The first name that is not the name of its rule.
 fn wrong_name<'a>(alloc: Global, names: &[(Rule, &'a str)]) -> Option<&'a str> {
     for (rule, name) in names {
         if is_named(alloc, *rule, name) != Ok(true) {
@@ -345,7 +345,7 @@ fn each_rule_has_its_name(rt: HostRuntime) {
     assert_eq!(rt; wrong_name(rt.alloc(), &NAMES), None);
 }
 
-// Masks before and after a node, with their bits that differ, and the three as they are written.
+// Masks before and after a node, with the bits in which they differ, and how the three are written.
 type MaskRow = (u64, u64, &'static [u8], &'static [u8], &'static [u8]);
 
 const MASKS: [MaskRow; 7] = [
@@ -358,7 +358,7 @@ const MASKS: [MaskRow; 7] = [
     (0, u64::MAX, b"0", b"ffffffffffffffff", b"ffffffffffffffff"),
 ];
 
-// Whether a node with these masks live, and set the other way round, is written so.
+// Whether a node with these live masks, and with the same set masks swapped, is written like this.
 fn has_masks(alloc: Global, row: MaskRow) -> Result<bool, AllocError> {
     let (before, after, before_text, after_text, differing) = row;
     let parts: [&[u8]; 9] = [
@@ -384,7 +384,7 @@ fn has_masks(alloc: Global, row: MaskRow) -> Result<bool, AllocError> {
     is_of_note(alloc, true, &text, own)
 }
 
-// The place of the first row of masks that is written otherwise.
+// The place of the first row of masks that is written differently.
 fn wrong_masks(alloc: Global, rows: &[MaskRow]) -> Option<usize> {
     for at in 0..rows.len() {
         if has_masks(alloc, rows[at]) != Ok(true) {

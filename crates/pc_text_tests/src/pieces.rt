@@ -13,7 +13,7 @@ const SLOT_LINES: [Line; 4] = [
     Line::Slot(6, Cap::Iso),
 ];
 
-// A line of the example in the version of this number.
+// A line of the example in the version with this number.
 fn line_of(version: u32, at: usize) -> Option<Line> {
     if at == 0 {
         return Some(Line::Head {
@@ -29,7 +29,7 @@ fn line_of(version: u32, at: usize) -> Option<Line> {
     Some(Line::Node(note(*row)))
 }
 
-/// How many lines ended, and whether each is that of the example in the version of this number.
+/// How many lines ended, and whether each is that of the example in the version with this number.
 #[derive(Drop)]
 struct Ended {
     version: u32,
@@ -56,7 +56,7 @@ impl Ended {
     }
 }
 
-// Puts the lines that end in a piece behind those before, up to a fault.
+// Appends the lines that end in a piece to those before, up to a fault.
 fn feed(lines: &mut Lines, piece: &[u8], ended: &mut Ended) -> Result<(), LineFault> {
     let mut at = 0;
     for _ in 0..piece.len() {
@@ -72,7 +72,7 @@ fn feed(lines: &mut Lines, piece: &[u8], ended: &mut Ended) -> Result<(), LineFa
     Ok(())
 }
 
-// Puts the lines of two pieces behind those before. The answer is what is wrong with both.
+// Appends the lines of two pieces to those before. The result is what is wrong with both.
 fn taken(first: &[u8], second: &[u8], ended: &mut Ended) -> Result<(), LineFault> {
     let mut lines = Lines::new();
     feed(&mut lines, first, ended)?;
@@ -87,7 +87,7 @@ fn is_example_cut(version: u32, bytes: &[u8], cut: usize) -> bool {
     taken(&bytes[..cut], &bytes[cut..], &mut ended).is_ok() && ended.is_example()
 }
 
-// Where a text is cut so that its lines are not those of the example, if anywhere.
+// A place where a text can be cut so that its lines are not those of the example, if there is one.
 fn wrong_cut(version: u32, bytes: &[u8]) -> Option<usize> {
     for cut in 0..bytes.len() {
         if !is_example_cut(version, bytes, cut) {
@@ -109,7 +109,7 @@ fn is_taken_by_bytes(version: u32, bytes: &[u8]) -> bool {
     lines.finish().is_ok() && ended.is_example()
 }
 
-// Where the example is cut so that its lines are others, if anywhere.
+// A place where the example can be cut so that its lines are others, if there is one.
 fn wrong_example(
     alloc: Global,
     version: u32,
@@ -119,7 +119,7 @@ fn wrong_example(
     Ok(wrong_cut(version, &text))
 }
 
-// Whether the example has its lines where its bytes come one by one.
+// Whether the example has its lines if its bytes come one by one.
 fn is_taken(alloc: Global, version: u32, lines: &[&[u8]]) -> Result<bool, AllocError> {
     let text = variant_of(alloc, lines, 0, b"")?;
     Ok(is_taken_by_bytes(version, &text))
@@ -143,7 +143,7 @@ fn answer(first: &[u8], second: &[u8]) -> Result<(), LineFault> {
     taken(first, second, &mut ended)
 }
 
-// Whether the answer is what a whole text is read as.
+// Whether the result is the same as for the whole text.
 fn is_same(answer: Result<(), LineFault>, wanted: Option<DerivFault>) -> bool {
     match answer {
         Ok(()) => wanted == None,
@@ -152,7 +152,7 @@ fn is_same(answer: Result<(), LineFault>, wanted: Option<DerivFault>) -> bool {
     }
 }
 
-// Where a text is cut so that it is told otherwise, if at any 23rd byte.
+// A place at which cutting a text changes the result, among every 23rd byte, if there is one.
 fn other_cut(bytes: &[u8], wanted: Option<DerivFault>) -> Option<usize> {
     for nth in 0..bytes.len() / 23 {
         let cut = 23 * nth;
@@ -163,7 +163,7 @@ fn other_cut(bytes: &[u8], wanted: Option<DerivFault>) -> Option<usize> {
     None
 }
 
-// Whether a variant is told so wherever it is cut.
+// Whether a variant has its result wherever it is cut.
 fn is_told(alloc: Global, lines: &[&[u8]], variant: Variant) -> bool {
     let (number, line, wanted) = variant;
     match variant_of(alloc, lines, number, line) {
@@ -172,7 +172,7 @@ fn is_told(alloc: Global, lines: &[&[u8]], variant: Variant) -> bool {
     }
 }
 
-// The place of the first of these variants that is told otherwise in pieces.
+// The place of the first of these variants that has another result in pieces.
 fn wrong_variant(alloc: Global, lines: &[&[u8]], variants: &[Variant]) -> Option<usize> {
     for at in 0..variants.len() {
         if !is_told(alloc, lines, variants[at]) {
@@ -231,7 +231,7 @@ fn is_answer(cut: Cut) -> bool {
     answer(first, second) == wanted
 }
 
-// The place of the first cut with another answer.
+// The place of the first cut with another result.
 fn wrong_answer(cuts: &[Cut]) -> Option<usize> {
     for at in 0..cuts.len() {
         if !is_answer(cuts[at]) {
@@ -246,7 +246,7 @@ fn counts_past_a_limit_are_found_in_pieces(rt: HostRuntime) {
     assert_eq!(rt; wrong_answer(&COUNTS), None);
 }
 
-/// A call, and what it answers.
+/// A call, and its result.
 #[derive(Clone, Copy)]
 enum Call {
     Next(&'static [u8], usize, Result<(usize, Option<Line>), LineFault>),
@@ -260,7 +260,7 @@ fn is_answered(lines: &mut Lines, call: Call) -> bool {
     }
 }
 
-// The place of the first call that is answered otherwise, from no byte on.
+// The place of the first call with another result, starting from no bytes.
 fn wrong_call(calls: &[Call]) -> Option<usize> {
     let mut lines = Lines::new();
     for at in 0..calls.len() {
@@ -271,7 +271,7 @@ fn wrong_call(calls: &[Call]) -> Option<usize> {
     None
 }
 
-// The fault is answered again, whatever comes.
+// The fault is returned again, whatever comes.
 const PAST_127: [Call; 5] = [
     Call::Next(&[b'x'; 127], 0, Ok((127, None))),
     Call::Finish(Err(LineFault::BadLine(1))),

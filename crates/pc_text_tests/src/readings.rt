@@ -5,7 +5,7 @@ use std::alloc::{AllocError, Global};
 use std::fs;
 use std::test::Fail;
 
-/// What a reading gives, or the cause for which it is refused.
+/// What a reading returns, or the cause for which it is refused.
 type Wanted = Result<&'static [u8], FileFault>;
 
 // Whether a reading gave this text, or was refused with this cause.
@@ -16,7 +16,7 @@ fn is_answer(answer: Result<Bytes, FileFault>, wanted: Wanted) -> bool {
     }
 }
 
-/// A name, the limit of bytes, and what its reading gives.
+/// A name, the limit of bytes, and what reading it returns.
 type Reading = (&'static str, u32, Wanted);
 
 fn is_read<F: Files>(alloc: Global, files: &mut F, reading: Reading) -> bool {
@@ -24,7 +24,7 @@ fn is_read<F: Files>(alloc: Global, files: &mut F, reading: Reading) -> bool {
     is_answer(files.read(alloc, name, limit), wanted)
 }
 
-// The place of the first of these readings that is answered otherwise.
+// The place of the first of these readings with another result.
 fn wrong_reading<F: Files>(alloc: Global, files: &mut F, readings: &[Reading]) -> Option<usize> {
     for at in 0..readings.len() {
         if !is_read(alloc, files, readings[at]) {
@@ -52,7 +52,7 @@ const NEVER_FAILING: [Reading; 6] = [
     ("a", 4, Ok(b"xyz")),
 ];
 
-// Adds three files, of which the last one takes the place of the first.
+// Adds three files, of which the last one replaces the first.
 fn add_three(files: &mut MemFiles) -> Result<(), AllocError> {
     files.add("a", b"abcd")?;
     files.add("b", b"")?;
@@ -65,7 +65,7 @@ fn add_three_never_failing(files: &mut NeverFiles) -> Result<(), AllocError> {
     files.add("a", b"xyz")
 }
 
-// The third reading is told to fail.
+// The third reading is made to fail.
 fn wrong_in_memory(alloc: Global) -> Result<Option<usize>, AllocError> {
     let mut files = MemFiles::new(alloc, &[3])?;
     add_three(&mut files)?;
@@ -89,7 +89,7 @@ const ON_THE_HOST: [Reading; 5] = [
     ("four", 3, Err(FileFault::TooLong)),
     ("none", 0, Ok(b"")),
     ("gone", 9, Err(FileFault::Failed)),
-    // A folder is opened, but cannot be read.
+    // A folder can be opened, but not read.
     (".", 9, Err(FileFault::Failed)),
 ];
 
@@ -98,7 +98,7 @@ fn wrong_on_the_host(rt: &HostRuntime) -> Option<usize> {
     wrong_reading(rt.alloc(), &mut files, &ON_THE_HOST)
 }
 
-// Whether a slow file that has so many bytes before it fails is answered so, within nine bytes.
+// Whether reading a slow file that has this many bytes before it fails, within nine bytes, has this result.
 fn is_slow_answer(alloc: Global, room: usize, wanted: Wanted) -> bool {
     let runtime = SlowFiles { room };
     let mut files = HostFiles::new(alloc, &runtime);
@@ -113,13 +113,13 @@ fn a_file_is_given_whole_or_refused_with_its_cause(rt: HostRuntime) -> Result<()
     fs::remove_file(&rt, "four")?;
     fs::remove_file(&rt, "none")?;
 
-    // A file that fails in mid-stream, and one that has more than the limit before.
+    // A file that fails in mid-stream, and one that has more than the limit before it fails.
     assert!(rt; is_slow_answer(rt.alloc(), 5, Err(FileFault::Failed)));
     assert!(rt; is_slow_answer(rt.alloc(), 50, Err(FileFault::TooLong)));
     Ok(())
 }
 
-/// A name, the place and the limit of a part, and what its reading gives. A limit of 0 is no part.
+/// A name, the place and the limit of a part, and what reading it returns. A limit of 0 is not a part.
 type Part = (&'static str, u32, u32, Wanted);
 
 fn is_part<F: Files>(alloc: Global, files: &mut F, part: Part) -> bool {
@@ -127,7 +127,7 @@ fn is_part<F: Files>(alloc: Global, files: &mut F, part: Part) -> bool {
     limit > 0 && is_answer(files.part(alloc, name, from, limit), wanted)
 }
 
-// The place of the first of these parts that is answered otherwise.
+// The place of the first of these parts with another result.
 fn wrong_part<F: Files>(alloc: Global, files: &mut F, parts: &[Part]) -> Option<usize> {
     for at in 0..parts.len() {
         if !is_part(alloc, files, parts[at]) {
@@ -146,7 +146,7 @@ const PARTS: [Part; 6] = [
     ("six", 4000000000, 1, Ok(b"")),
 ];
 
-// The seventh call of all is told to fail, and a missing name fails where it is not an empty file.
+// The seventh call of all is made to fail, and a missing name fails unless it is an empty file.
 const PARTS_IN_MEMORY: [Part; 3] = [
     ("six", 0, 1, Err(FileFault::Failed)),
     ("six", 0, 1, Ok(b"a")),
@@ -157,7 +157,7 @@ const GONE_NEVER_FAILING: [Part; 1] = [("gone", 0, 1, Ok(b""))];
 
 const GONE_ON_THE_HOST: [Part; 1] = [("gone", 0, 1, Err(FileFault::Failed))];
 
-// The place of the first part that is answered otherwise, of those of the text and then of some more.
+// The place of the first part with another result, among those of the text and then some more.
 fn wrong_of<F: Files>(alloc: Global, files: &mut F, more: &[Part]) -> Option<usize> {
     match wrong_part(alloc, files, &PARTS) {
         Some(at) => Some(at),
@@ -192,7 +192,7 @@ fn a_part_is_given_from_its_place_up_to_the_limit(rt: HostRuntime) -> Result<(),
     Ok(())
 }
 
-// The parts of a file before it is replaced, and those behind: it goes on to its end, and then the new one is read.
+// The parts of a file before it is replaced, and those after: it goes on to its end, and then the new one is read.
 const BEFORE_REPLACED: [Part; 1] = [("row", 0, 2, Ok(b"ab"))];
 
 const ONCE_REPLACED: [Part; 4] = [

@@ -3,7 +3,7 @@ use pc_caps::List;
 use pc_sched::{SchedFault, Turn, read};
 use std::alloc::{AllocError, Global};
 
-/// The answer for a text within the limit of bytes.
+/// The result for a text within the limit of bytes.
 fn answer(alloc: Global, text: &[u8]) -> Result<List<Turn>, SchedFault> {
     if text.len() > 1_048_576 {
         return Err(SchedFault::Memory);
@@ -88,7 +88,7 @@ fn has_fault(alloc: Global, text: &[u8], wanted: SchedFault) -> bool {
     }
 }
 
-// The place of the first of these texts that has not its fault.
+// The place of the first of these texts that does not have its fault.
 fn wrong_fault(alloc: Global, faults: &[(&[u8], SchedFault)]) -> Option<usize> {
     for at in 0..faults.len() {
         if !has_fault(alloc, faults[at].0, faults[at].1) {
@@ -103,7 +103,7 @@ fn faults(rt: HostRuntime) {
     assert_eq!(rt; wrong_fault(rt.alloc(), &FAULTS), None);
 }
 
-/// So many times one word and a blank.
+/// The same word and a blank, this many times.
 fn repeated(alloc: Global, word: u8, count: usize) -> Result<Vec<u8>, AllocError> {
     let mut text = Vec::new(alloc);
     for _ in 0..count {
@@ -123,7 +123,7 @@ fn are_all_of_3(turns: &[Turn]) -> bool {
     true
 }
 
-/// How many turns so many words `3` are, where each is one turn of actor 3.
+/// How many turns this many words `3` are, if each is one turn of actor 3.
 fn counted(alloc: Global, count: usize) -> Option<usize> {
     let text = repeated(alloc, b'3', count).ok()?;
     let turns = answer(alloc, text.as_slice()).ok()?;

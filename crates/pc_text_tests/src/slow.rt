@@ -8,7 +8,7 @@ fn no_such_call<T>() -> io::Result<T> {
     Err(io::Error::from(ErrorKind::Unsupported))
 }
 
-/// A reader that is interrupted at each second call, gives three bytes at most, and fails after so many.
+/// A reader that is interrupted at every second call, returns at most three bytes, and fails after a number of bytes.
 #[derive(Drop)]
 pub struct SlowReader {
     room: usize,
@@ -65,7 +65,7 @@ impl OpenFile for SlowReader {
     }
 }
 
-/// A runtime whose files all give so many bytes, slowly, and then fail. Nothing else can be done with them.
+/// A runtime whose files all return a number of bytes, slowly, and then fail. Nothing else can be done with them.
 #[derive(Drop)]
 pub struct SlowFiles {
     pub room: usize,
@@ -120,7 +120,7 @@ impl Files for SlowFiles {
     }
 }
 
-/// A writer with little room, which takes two bytes at a time and is interrupted at each second call.
+/// A writer with little room, which takes two bytes at a time and is interrupted at every second call.
 #[derive(Drop)]
 pub struct SlowWriter {
     pub held: Vec<u8>,

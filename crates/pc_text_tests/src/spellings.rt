@@ -132,7 +132,7 @@ const SPELLED_SIGNS: [(&[u8], Sign); 21] = [
     (b">=", Sign::GreaterEqual),
 ];
 
-// The first word that is spelled otherwise.
+// The first word that is spelled differently.
 fn wrong_word(alloc: Global, spelled: &[(&[u8], Word)]) -> Option<Word> {
     for (text, word) in spelled {
         if !is_only_word(alloc, text, *word) {
@@ -147,7 +147,7 @@ fn every_word(rt: HostRuntime) {
     assert_eq!(rt; wrong_word(rt.alloc(), &SPELLED_WORDS), None);
 }
 
-// The first sign that is spelled otherwise.
+// The first sign that is spelled differently.
 fn wrong_sign(alloc: Global, spelled: &[(&[u8], Sign)]) -> Option<Sign> {
     for (text, sign) in spelled {
         if !is_only_sign(alloc, text, *sign) {

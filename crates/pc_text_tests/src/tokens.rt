@@ -3,7 +3,7 @@ use pc_caps::List;
 use pc_lex::{LexFault, Token, TokenKind, lex};
 use std::alloc::{AllocError, Global};
 
-/// The answer for a text within the limit of bytes.
+/// The result for a text within the limit of bytes.
 pub fn answer(alloc: Global, text: &[u8]) -> Result<List<Token>, LexFault> {
     if text.len() > 1_048_576 {
         return Err(LexFault::Memory);
@@ -295,7 +295,7 @@ fn has_fault(alloc: Global, text: &[u8], wanted: LexFault) -> bool {
     fault(alloc, text) == Some(wanted)
 }
 
-// The place of the first of these texts that has not its fault.
+// The place of the first of these texts that does not have its fault.
 fn wrong_fault(alloc: Global, faults: &[(&[u8], LexFault)]) -> Option<usize> {
     for at in 0..faults.len() {
         if !has_fault(alloc, faults[at].0, faults[at].1) {
@@ -310,7 +310,7 @@ fn faults(rt: HostRuntime) {
     assert_eq!(rt; wrong_fault(rt.alloc(), &FAULTS), None);
 }
 
-/// So many dots, and a byte behind them.
+/// This many dots, followed by a byte.
 fn dots(alloc: Global, count: usize, last: u8) -> Result<Vec<u8>, AllocError> {
     let mut text = Vec::new(alloc);
     for _ in 0..count {

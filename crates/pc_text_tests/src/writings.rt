@@ -6,7 +6,7 @@ use std::alloc::{AllocError, Global};
 /// A piece, and whether it is written.
 type Piece = (&'static str, bool);
 
-// The first piece of these that is answered otherwise.
+// The first of these pieces with another result.
 fn wrong_piece<S: Sink>(sink: &mut S, pieces: &[Piece]) -> Option<&'static str> {
     for (piece, is_written) in pieces {
         if sink.put(piece.as_bytes()).is_ok() != *is_written {
@@ -32,7 +32,7 @@ const WRITTEN: [Piece; 5] = [
     ("g", true),
 ];
 
-// Whether a sink in memory, which is told to fail, holds the rest.
+// Whether a sink in memory, which is made to fail, holds the rest.
 fn holds_the_rest(alloc: Global) -> Result<bool, AllocError> {
     let mut sink = MemSink::new(alloc, &[(2, 1), (3, 1), (4, 9)])?;
     Ok(wrong_piece(&mut sink, &PIECES).is_none() && sink.bytes() == b"abcefg".as_slice())
@@ -58,7 +58,7 @@ const SLOW_PIECES: [Piece; 5] = [
     ("", true),
 ];
 
-// The first piece that is answered otherwise, over a slow writer.
+// The first piece with another result, over a slow writer.
 fn wrong_slow_piece(writer: &mut SlowWriter, pieces: &[Piece]) -> Option<&'static str> {
     let mut sink = HostSink::new(writer);
     wrong_piece(&mut sink, pieces)

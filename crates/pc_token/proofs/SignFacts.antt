@@ -1,4 +1,4 @@
--- The first sign that fits, in a list with the longer ones first, is the longest.
+-- In a list with longer signs first, the first sign that fits is the longest.
 use Rattle.std.proofs.Common.{◌≡◌, ℕ, ◌≤◌, Bool, true, false, cond, ◌&&◌, List, [], ◌∷◌, length, Some, None, refl, sym, ap, ◌∙◌, subst, inl, inr, arith, ◌⊎◌}
 use Rattle.std.specs.Prelude.{nat_eq, nat_le}
 use Rattle.std.proofs.lemmas.Bool.{and_parts, true≢false, leb-true}

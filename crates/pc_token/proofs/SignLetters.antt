@@ -1,4 +1,4 @@
--- A sign is looked for among those that begin with the text's first byte.
+-- A sign is looked for among those that begin with the first byte of the text.
 use Rattle.std.proofs.Common.{◌≡◌, ℕ, ◌<◌, List, [], ◌∷◌, refl, sym, subst, arith, slice_index_or}
 use Rattle.pc_token.specs.declared.signs.Sign.{Sign}
 use Rattle.pc_token.specs.declared.signs.Sign.TheVariants as sign

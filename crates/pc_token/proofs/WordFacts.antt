@@ -104,7 +104,7 @@ passes p (x ∷ xs) b w all found =
     let (here, more) = and_parts (p (word_text x)) (list_all (λ x. p (word_text x)) xs) all in
     passes_step p x w xs b (bytes_eq (word_text x) b) refl found here (passes p xs b w more)
 
--- what holds of every spelling in the table holds of every word's
+-- what holds for every spelling in the table holds for every word's
 pub each_word : (p : List ℕ → Bool) → list_all (λ w. p (word_text w)) WORDS ≡ true → (w : Word) → p (word_text w) ≡ true
 unfolding word_of
 each_word p all w = passes p WORDS (word_text w) w all (word_own w)

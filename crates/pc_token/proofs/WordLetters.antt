@@ -1,4 +1,4 @@
--- A word is looked for among those that begin with the text's first byte.
+-- A word is looked for among those that begin with the first byte of the text.
 use Rattle.std.proofs.Common.{◌≡◌, ℕ, ◌<◌, List, [], ◌∷◌, refl, sym, subst, arith, slice_index_or}
 use Rattle.pc_token.specs.declared.words.Word.{Word}
 use Rattle.pc_token.specs.declared.words.TheConstants.{WORDS, A_WORDS, B_WORDS, C_WORDS, D_WORDS, E_WORDS, F_WORDS, I_WORDS, L_WORDS, M_WORDS, N_WORDS, O_WORDS, P_WORDS, R_WORDS, S_WORDS, T_WORDS, U_WORDS, V_WORDS, W_WORDS, X_WORDS}

@@ -1,4 +1,4 @@
--- What the tables of words and signs are good for.
+-- Laws of the tables of words and signs.
 use Rattle.std.specs.Prelude.{◌≡◌, ◌≤◌, ℕ, List, length, Some, None, true, nat_eq}
 use Rattle.std.specs.List.{starts_with}
 use Rattle.pc_token.specs.declared.words.Word.{Word}
@@ -6,26 +6,26 @@ use Rattle.pc_token.specs.declared.signs.Sign.{Sign}
 use Rattle.pc_token.specs.Words.{word_text, word_of}
 use Rattle.pc_token.specs.Signs.{sign_text, sign_at}
 
--- A word is found by its spelling.
+-- Each word is found by its spelling.
 abbrev pub WordFound : Type 0
 WordFound = (word : Word) → word_of (word_text word) ≡ Some word
 
--- A word that is found has these bytes as its spelling.
+-- A word is found only by its own spelling.
 abbrev pub WordOnly : Type 0
 WordOnly = (bytes : List ℕ) (word : Word) → word_of bytes ≡ Some word → bytes ≡ word_text word
 
 abbrev pub Begins : List ℕ → Sign → Type 0
 Begins text sign = starts_with nat_eq text (sign_text sign) ≡ true
 
--- What is found is a sign with which the text begins, with its length, and no such sign is longer.
+-- If a sign is found, the text begins with it, the length is its own, and no longer sign begins the text.
 abbrev pub SignFound : Type 0
 SignFound = (text : List ℕ) (sign : Sign) (size : ℕ) → sign_at text ≡ Some (sign, size)
     → Begins text sign × (size ≡ length (sign_text sign)) × ((other : Sign) → Begins text other → length (sign_text other) ≤ size)
 
--- Where none is found, the text begins with none.
+-- If none is found, the text begins with no sign.
 abbrev pub SignNone : Type 0
 SignNone = (text : List ℕ) (sign : Sign) → sign_at text ≡ None → Begins text sign → ⊥
 
--- Two signs of one spelling are one.
+-- Two signs with the same spelling are the same.
 abbrev pub SignOnly : Type 0
 SignOnly = (one other : Sign) → sign_text one ≡ sign_text other → one ≡ other

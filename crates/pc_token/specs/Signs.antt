@@ -29,11 +29,11 @@ sign_text sign.Percent = codes "%"
 sign_text sign.Less = codes "<"
 sign_text sign.Greater = codes ">"
 
--- the first of some signs with which a text begins, and its length
+-- the first of these signs with which the text begins, and its length
 abbrev pub first_sign : List Sign → List ℕ → Option (Sign × ℕ)
 first_sign [] text = None
 first_sign (s ∷ ss) text = if starts_with nat_eq text (sign_text s) then Some (s, length (sign_text s)) else first_sign ss text
 
--- the longest sign with which a text begins, and its length
+-- the longest sign with which the text begins, and its length
 unfoldable pub sign_at : List ℕ → Option (Sign × ℕ)
 sign_at = first_sign SIGNS

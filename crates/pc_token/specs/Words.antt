@@ -67,7 +67,7 @@ word_text word.CompileIntrinsicWord = codes "compile_intrinsic"
 word_text word.AddressofWord = codes "addressof"
 word_text word.DigestofWord = codes "digestof"
 
--- the first of some words with this spelling
+-- the first of these words with this spelling
 abbrev pub first_word : List Word → List ℕ → Option Word
 first_word [] text = None
 first_word (w ∷ ws) text = if bytes_eq (word_text w) text then Some w else first_word ws text

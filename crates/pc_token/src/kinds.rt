@@ -3,21 +3,21 @@ use crate::signs::Sign;
 use crate::words::Word;
 use pc_caps::{List, Span};
 
-/// What a token is, with what it carries. The tokens are those of this project's profile of Pony.
+/// A kind of token, with the value that it carries. The tokens are those of this project's profile of Pony.
 #[derive(Debug, Drop)]
 pub enum TokenKind {
-    /// A name that is no reserved word, in bytes: a small letter, before it one `_` or nothing, behind it any number of
-    /// letters, digits and `_`, and at the end any number of `'`.
+    /// A name that is no reserved word, in bytes: at most one `_`, a small letter, then any number of letters, digits
+    /// and `_`, and finally any number of `'`.
     Name(List<u8>),
-    /// A type name, in bytes: the same with a capital letter.
+    /// A type name, in bytes: the same with a capital letter first.
     TypeName(List<u8>),
     /// A reserved word.
     Word(Word),
     /// A number below 2^64, by its value.
     Number(u64),
-    /// A text literal, by the bytes that it stands for, with its escapes resolved.
+    /// A text literal, by the bytes that it denotes, with its escapes resolved.
     Text(List<u8>),
-    /// A documentation text between two `"""`. Nothing reads what stands in it.
+    /// A documentation text between two `"""`. Its contents are ignored.
     Doc,
     /// A sign.
     Sign(Sign),
@@ -25,11 +25,11 @@ pub enum TokenKind {
     End,
 }
 
-/// A token and where it stands.
+/// A token and its place.
 #[derive(Debug, Drop)]
 pub struct Token {
     pub kind: TokenKind,
-    /// Whether it is the first token of the text, or a line feed stands between the previous token and it.
+    /// Whether it is the first token of the text, or there is a line feed between the previous token and it.
     pub first: bool,
     /// Its bytes, by their offsets in the text.
     pub span: Span,

@@ -1,6 +1,6 @@
 //! Tokens: their kinds, the reserved words and the signs, and small tests on them.
 //!
-//! Proved: each reserved word is found by its spelling and by no other; the longest sign is found; tests on a token.
+//! Proved: each reserved word is found by its spelling and by no other; the longest sign is found; tests on tokens.
 #![tactic(auto)]
 
 mod asking;

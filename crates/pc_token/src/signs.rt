@@ -49,7 +49,7 @@ pub enum Sign {
     Greater,
 }
 
-/// Every sign, each once, the longer ones first.
+/// All signs, each once, longer ones first.
 pub const SIGNS: [Sign; 21] = [
     Sign::Arrow,
     Sign::Equal,
@@ -103,7 +103,7 @@ pub fn sign_text(sign: Sign) -> &'static [u8]
     }
 }
 
-/// The first of some signs with which a text begins, and its length.
+/// The first of these signs with which the text begins, and its length.
 fn find_sign(signs: &[Sign], text: &[u8]) -> Option<(Sign, usize)>
     ensures value { result ≡ spec.first_sign signs.now text.now }
     ensures within { IfSome result (λ found. found.1 ≤ length text.now) }
@@ -117,7 +117,8 @@ fn find_sign(signs: &[Sign], text: &[u8]) -> Option<(Sign, usize)>
     None
 }
 
-/// The longest sign with which a text begins, and its length. Only signs with the text's first byte are looked at.
+/// The longest sign with which the text begins, and its length. Only signs that begin with the first byte of the text
+/// are tried.
 pub fn sign_at(text: &[u8]) -> Option<(Sign, usize)>
     ensures value { result ≡ spec.sign_at text.now }
     ensures within { IfSome result (λ found. found.1 ≤ length text.now) }

@@ -1,10 +1,10 @@
-//! The reserved words, and how they are spelled.
+//! The reserved words and their spellings.
 ghost use Rattle.std.specs.Prelude.{◌≡◌};
 ghost use Rattle.pc_token.specs.Words as spec;
 
 /// A reserved word, named by its spelling. No name is spelled like one.
 ///
-/// The words from `StructWord` on are reserved, and no rule of the grammar takes them so far.
+/// The words from `StructWord` on are reserved, but no rule of the grammar uses them so far.
 #[derive(Clone, Copy, Debug, PartialEq, Eq)]
 pub enum Word {
     ActorWord,
@@ -68,7 +68,7 @@ pub enum Word {
     DigestofWord,
 }
 
-/// Every reserved word, each once.
+/// All reserved words, each once.
 pub const WORDS: [Word; 59] = [
     Word::ActorWord,
     Word::ClassWord,
@@ -249,7 +249,7 @@ pub fn word_text(word: Word) -> &'static [u8]
     }
 }
 
-/// The first of some words with this spelling.
+/// The first of these words with this spelling.
 fn find_word(words: &[Word], text: &[u8]) -> Option<Word>
     ensures { result ≡ spec.first_word words.now text.now }
 {
@@ -261,7 +261,7 @@ fn find_word(words: &[Word], text: &[u8]) -> Option<Word>
     None
 }
 
-/// The word with this spelling. Only words with the text's first byte are looked at.
+/// The word with this spelling. Only words that begin with the first byte of the text are tried.
 pub fn word_of(text: &[u8]) -> Option<Word>
     ensures { result ≡ spec.word_of text.now }
 {

@@ -1,4 +1,4 @@
--- What is known of the bytes of a source that was read, and of what is told of its file.
+-- What is known of the bytes of a source that was read, and of the known bytes of its file.
 use Rattle.std.proofs.Common.{◌≡◌, ◌≤◌, ℕ, List, Option, Some, None, Ok, inl, inr, subst, arith}
 use Rattle.std.specs.Prelude.{IfSome}
 use Rattle.std.specs.Io.KnownBytes.{Appends}
@@ -16,12 +16,12 @@ use Rattle.pc_top.specs.Asked.{IsVerdict, FailedIn}
 use Rattle.pc_top.specs.CoreOf.{IsDerivable}
 use Rattle.pc_top.proofs.Deriving.{source_says}
 
--- what holds of the bytes that were read, holds of those that are told
+-- what holds of the bytes that were read holds of those that are known
 pub of_told : (Holds : Text → Type 0) (told : Option Text) (bytes : Text) → Holds bytes → IfSome told (λ b. bytes ≡ b) → IfSome told Holds
 of_told Holds None bytes h e = tt
 of_told Holds (Some b) bytes h e = subst Holds e h
 
--- what follows of told bytes
+-- what follows for known bytes
 pub some_by : (P Q : Text → Type 0) (o : Option Text) → ((x : Text) → P x → Q x) → IfSome o P → IfSome o Q
 some_by P Q None by h = tt
 some_by P Q (Some x) by h = by x h
@@ -42,7 +42,7 @@ derivable file r s ann g h v = of_source IsDerivable file r s g h (s.core, (sour
 
 -- ---- an answer
 
--- no other answer than the verdict's accepts
+-- only the verdict's answer accepts
 faults_refuse : (status n : ℕ) → status ≡ n → 9 ≤ n → n ≤ 11 → IsAccepting status → ⊥
 faults_refuse status n is low high (inl e) = omega (arith, is, low, high, e)
 faults_refuse status n is low high (inr e) = omega (arith, is, low, high, e)

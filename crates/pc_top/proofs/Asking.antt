@@ -1,4 +1,4 @@
--- What the referee was asked of, from how a command ended to the answer.
+-- What the referee was asked, from how a command ended to the answer.
 use Rattle.std.proofs.Common.{◌≡◌, ℕ, Option, Some, None, Ok, Err, refl, sym, subst, ◌∙◌, inl, inr, arith}
 use Rattle.std.specs.Prelude.{Result}
 use Rattle.std.proofs.lemmas.Option.{none-some, same_Some}

@@ -55,7 +55,7 @@ module _ (laws : Refusing) where
   begins_refuses {file = file} {v = v} (refused r g h) e = underived file r v g h e
   begins_refuses {v = v} (accepted r a g h l) e = absurd (late_not_one v.status l e)
 
--- A source that is told and within the limit is read whole.
+-- A source whose bytes are known and within the limit is read whole.
 some_whole : (bytes : Text) (before now taken : ℕ) (r : Reading) → now ≡ before → length bytes ≤ source_limit → IsReading source_limit (Some bytes) before now taken r → r ≡ whole bytes
 some_whole bytes before now taken (whole b) n l g = ap whole g.1
 some_whole bytes before now taken longer n l g = let long : source_limit < length bytes = g.1 n in absurd (omega (arith, l, long))

@@ -41,7 +41,7 @@ pub source_says : {name : Text} {r : Reading} {s : Source} → SourceStage name 
 source_says (goes (fits {bytes = b} short) (has_core (goes (lexed {ts = t} l) (goes (parsed {file = f} tree) (elaborated {core = c} made))))) =
     (refl, record { short = short; tokens = t; file = f; lexed = l; parsed = tree; stands = made_cores_stand f c made })
 
--- one whose tree alone is asked for: it was read whole, and its tokens spell this file
+-- one of which only the tree is needed: it was read whole, and its tokens spell this file
 pub file_says : {name : Text} {r : Reading} {f : t.File} → FileStage name r (Ok f)
     → (bytes : Text) × (r ≡ whole bytes) × (length bytes ≤ source_limit) × (tokens : List Token) × TokenList bytes tokens × IsFileAnswer tokens (spelled f)
 file_says (goes (fits {bytes = b} short) (goes (lexed {ts = ts} l) (parsed p))) = (b, refl, short, ts, l, p)

@@ -15,7 +15,7 @@ use Rattle.pc_top.specs.Shapes.{OfDerivation}
 use Rattle.pc_top.proofs.Room.{NotOne, Room, looks_for_none, of_file, zero_not_one, zero_own}
 use Rattle.pc_top.proofs.Shapes.{Derives, derivation_accepts, derivation_derives, derivation_one, derivation_status}
 
--- Both files tell their bytes, and no reading of them failed.
+-- The bytes of both files are known, and no reading of them failed.
 abbrev pub BothTell : Named → Named → Type 0
 BothTell file derivation = IsSome file.told × (file.now ≡ file.before) × IsSome derivation.told × (derivation.now ≡ derivation.before)
 

@@ -19,7 +19,7 @@ module _ (files : Files) (out : Change) where
       → Ends (IsVerdictOf files (Some own)) (FailedOf files (Some own)) out result
   command_ends own asked result e h = subst (λ (a : Asked). Ends (IsVerdictOf files (Some a)) (FailedOf files (Some a)) out result) (sym e) h
 
-  -- one that answers a text
+  -- one that returns a text
   pub command_puts : (own asked : Asked) (answer : Result Text Stop) (result : Result (Unit {0}) Stop) → own ≡ asked → AnswersText (IsVerdictOf files (Some asked)) (FailedOf files (Some asked)) answer → Puts answer out result
       → Ends (IsVerdictOf files (Some own)) (FailedOf files (Some own)) out result
   command_puts own asked answer result e h p = command_ends own asked result e (put_ends (IsVerdictOf files (Some asked)) (FailedOf files (Some asked)) out answer result h p)

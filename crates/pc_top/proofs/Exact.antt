@@ -1,4 +1,4 @@
--- What the statuses 0 and 1 say of a source, exactly.
+-- What the statuses 0 and 1 mean for a source, exactly.
 use Rattle.std.proofs.Common.{◌≡◌, Option, Some, inl, refl, ap, subst}
 use Rattle.std.specs.Prelude.{◌↔◌, IfSome, IsTrue}
 use Rattle.pc_lists.specs.Texts.{Text}

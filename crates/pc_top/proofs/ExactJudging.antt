@@ -1,4 +1,4 @@
--- When `judge` and `upgrade` answer 0.
+-- When the status of `judge` and `upgrade` is 0.
 use Rattle.std.proofs.Common.{◌≡◌, List, [], ◌∷◌, Option, Some, Ok, inl, refl, sym, ap, subst}
 use Rattle.std.specs.Prelude.{IfSome, IsSome}
 use Rattle.pc_ann.specs.declared.annotation.Ann.{Ann}

@@ -1,4 +1,4 @@
--- From what the elaboration answers to the stages of a source.
+-- From the result of the elaboration to the stages of a source.
 use Rattle.std.proofs.Common.{◌≡◌, ◌<◌, List, length, Ok, Err, refl, subst}
 use Rattle.std.specs.Prelude.{Result}
 use Rattle.pc_core.specs.CoreData.{CoreData}
@@ -59,12 +59,12 @@ member_fault file names.Memory o r = absurd (o refl)
 pub members_stop : (name bytes : Text) (file : t.File) (f : NameFault) (s : Stop) → IsFirstFault file f → IsNameStop name bytes f s → StageStops (Elaborating name bytes file) s
 members_stop name bytes file f s r h = name_stops (Elaborating name bytes file) name bytes f s (λ o. misused f o (member_fault file f o r)) h
 
--- The core of a tree is that of the source, and where it is refused, the source is.
+-- The core of a tree is that of the source, and if it is refused, so is the source.
 pub elaborating_ends : (name bytes : Text) (ts : List Token) (f : t.File) (r : Result CoreData Stop) → Lexing name bytes (Ok ts) → Parsing name bytes ts (Ok f) → StageEnds (Elaborating name bytes f) r → StageEnds (CoreStage name bytes) r
 elaborating_ends name bytes ts f (Ok core) l p h = goes l (goes p h)
 elaborating_ends name bytes ts f (Err s) l p h = stops_as (Elaborating name bytes f) (CoreStage name bytes) (λ v e. goes l (goes p e)) s h
 
--- The stages behind the length of a source that was read whole.
+-- The stages after the length of a source that was read whole.
 pub core_given : (file : Named) (bytes shown : Text) (core : CoreData) → IsReadingOf file source_limit (whole bytes) → shown ≡ bytes
     → CoreStage file.name shown (Ok core) → PartGives source_limit (SourceStage file.name) file (record { bytes = bytes; core = core })
 core_given file bytes shown core g same h = (whole bytes, g, goes (fits g.0) (has_core (subst (λ (b : Text). CoreStage file.name b (Ok core)) same h)))
@@ -77,7 +77,7 @@ core_stopped file bytes shown (File n) g same h = absurd h
 core_stopped file bytes shown Sink g same h = absurd h
 core_stopped file bytes shown Memory g same h = tt
 
--- A text that stands in no file and is longer than a source may be.
+-- A text that is in no file and is longer than a source may be.
 pub text_longer : (name bytes line : Text) → source_limit < length bytes → line ≡ longer_line name source_limit
     → PartStops source_limit (SourceStage name) (text_as name bytes) (Refused 8 line)
 text_longer name bytes line long e = (longer, (long, λ same. long), rw e (stops is_longer))

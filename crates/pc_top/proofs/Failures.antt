@@ -1,4 +1,4 @@
--- What each status of a failure says.
+-- What each status of a failure means.
 use Rattle.std.proofs.Common.{◌≡◌, ◌≤◌, ℕ, List, inl, inr, arith}
 use Rattle.std.specs.Prelude.{◌⊎◌}
 use Rattle.pc_lists.specs.Texts.{Text}
@@ -9,7 +9,7 @@ use Rattle.pc_refusals.proofs.Statuses.{IsOwn}
 use Rattle.pc_top.specs.Failures.{Answers, ErrFailed, FailuresAreTold, OutFailed, Unread, WantsMemory}
 use Rattle.pc_top.proofs.Verdicts.{verdicts_own}
 
--- a status between 9 and 11 is no verdict's
+-- no verdict has a status from 9 to 11
 not_own : (status n : ℕ) → n ≡ status → 9 ≤ n → n ≤ 11 → IsOwn status → ⊥
 not_own status n e low high (inl small) = omega (arith, e, low, high, small)
 not_own status n e low high (inr (inl twelve)) = omega (arith, e, low, high, twelve)

@@ -1,4 +1,4 @@
--- Lists in order with the same elements are one.
+-- Lists in order with the same elements are equal.
 use Rattle.std.proofs.Common.{◌≡◌, ◌<◌, ℕ, zero, suc, List, [], ◌∷◌, Some, refl, sym, ap₂, ◌∙◌, subst, arith}
 use Rattle.std.specs.Prelude.{slice_get}
 use Rattle.std.proofs.lemmas.Option.{none-some, same_Some}
@@ -14,7 +14,7 @@ module _ {T : Type 0} (Less : T → T → Type 0) (apart : (a b : T) → Less a 
   order_tail : (x : T) (xs : List T) → InOrder (x ∷ xs) → InOrder xs
   order_tail x xs h i j a b l e f = h (suc i) (suc j) a b (omega (arith, l)) e f
 
-  -- an element of a list is its first, or one of those behind
+  -- an element of a list is its first, or one of those after it
   first_less : (x : T) (xs : List T) (b : T) → InOrder (x ∷ xs) → Has xs b → Less x b
   first_less x xs b h m = h 0 (suc m.0) x b (omega arith) refl m.1
 

@@ -63,7 +63,7 @@ module _ (files : Files) (asked : Asked) (source : Text) (its : source_of asked 
       numbered_one Is (λ n. OfAccepted (Last n) file) same (λ n. accepted_one (Last n) file laws (told all) (none_of unfailed) (one laws n)) v w (is_of v a) (is_of w b))
       (λ tells v out is e o. let s = numbered_says Is (λ n. OfAccepted (Last n) file) v e (is_of v is) in writes v out s.0 s.1 s.2 e o)
 
--- ---- from what the reading answers to how the command ends
+-- ---- from the result of the reading to how the command ends
 
 -- the number that was read is one that is asked for
 of_number : (Is : ℕ → Type 0) (number : Option ℕ) (n : ℕ) → Reads Is number → number ≡ Some n → Is n

@@ -1,4 +1,4 @@
--- No two ends of the stages behind a source differ.
+-- Any two ends of the stages after a source are equal.
 use Rattle.std.proofs.Common.{◌≡◌, ℕ, List, Some, Ok, Err, refl, sym, ◌∙◌, ap}
 use Rattle.std.specs.Prelude.{slice_get, codes}
 use Rattle.std.proofs.lemmas.Option.{same_Some, none-some}

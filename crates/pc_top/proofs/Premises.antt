@@ -1,4 +1,4 @@
--- What the laws of the crates below say, which the laws of verdicts rest on.
+-- What the laws of the crates below state, on which the laws of verdicts rest.
 use Rattle.pc_choose.specs.Laws.{ListsAreOne}
 use Rattle.pc_check.specs.Laws.{NoneWithoutRule, NoneWithUnset, NoneWithFault, OneNode, OneConstructor, OneKindOfFault}
 use Rattle.pc_explain.specs.Laws.{AcceptedHasNone, ExplanationsAreOne}

@@ -18,15 +18,15 @@ use Rattle.pc_top.proofs.Begins.{Begins, begins_accepts, begins_exact, begins_ow
 use Rattle.pc_top.proofs.Premises.{Laws, Refusing}
 
 pub record Room (files : Files) (asked : Asked) : Type 0 where
-  -- where its files tell their bytes and no reading failed, it has one verdict
+  -- if the bytes of its files are known and no reading failed, it has one verdict
   pub one : Laws → NoneFailed files (files_of asked) → AllTold files.told (files_of asked) → (v w : Verdict) → IsVerdictOf files (Some asked) v → IsVerdictOf files (Some asked) w → v ≡ w
   -- whose status is that of no failure
   pub own : (v : Verdict) → IsVerdictOf files (Some asked) v → IsOwn v.status
-  -- an accepting one says that its source has a derivation, if it has to have one
+  -- an accepting one means that its source has a derivation, if it must have one
   pub accepts : (v : Verdict) → IsVerdictOf files (Some asked) v → IsAccepting v.status → OfSource IsDerivable files.told (Some asked)
   -- one with status 1, that it looks for a derivation and there is none
   pub refuses : Refusing → (v : Verdict) → IsVerdictOf files (Some asked) v → v.status ≡ 1 → HasNoDerivationOf files.told (Some asked)
-  -- and where there is none and it looks for one, that is its status
+  -- and if there is none and it looks for one, that is its status
   pub exact : SourceLaws → Refusing → (source bytes : Text) → source_of asked ≡ Some source → files.told source ≡ Some bytes → files.now source ≡ files.before source → HasNumber asked → IsTrue (infers asked)
       → (v : Verdict) → IsVerdictOf files (Some asked) v → IsUnderivable bytes → v.status ≡ 1
   -- what out got with an accepting one

@@ -1,4 +1,4 @@
--- What the shapes of verdicts give, whatever the last part of the command.
+-- What the shapes of verdicts imply, whatever the last part of the command.
 use Rattle.std.proofs.Common.{◌≡◌, ◌≤◌, ℕ, List, length, Ok, Err, inl, inr, ap, subst, arith}
 use Rattle.std.specs.Prelude.{◌⊎◌, IfSome, IsSome}
 use Rattle.pc_ann.specs.declared.annotation.Ann.{Ann}

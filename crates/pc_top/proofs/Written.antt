@@ -1,4 +1,4 @@
--- What `check` writes, `judge` accepts; and so is what `upgrade` writes.
+-- `judge` accepts what `check` writes, and what `upgrade` writes.
 use Rattle.std.proofs.Common.{◌≡◌, ◌≤◌, ℕ, length, Option, Some, Ok, inl, refl, sym, ap, subst}
 use Rattle.std.specs.Prelude.{IfSome}
 use Rattle.pc_ann.specs.declared.annotation.Ann.{Ann}

@@ -20,34 +20,34 @@ FailedIn files words name = FailedOf files (command_of words) name
 
 -- ---- what holds of the source
 
--- This holds of the text of the program that these words make.
+-- This holds of the text of the program that `make` generates from these words.
 abbrev pub OfMade : (Text → Type 0) → Text → Text → Type 0
 OfMade Holds seed size = (a b : ℕ) × IsSeed seed a × IsSize size b × Holds (made_text a b)
 
--- This holds of what a file tells, if a command has one whose core has to have a derivation.
+-- This holds of a file's bytes, if they are known and the command has a file whose core must have a derivation.
 abbrev pub OfFile : (Text → Type 0) → (Text → Option Text) → Option Text → Type 0
 OfFile Holds told None = Unit {0}
 OfFile Holds told (Some source) = IfSome (told source) Holds
 
--- This holds of the source of a command that has to have a derivation: of its file if its bytes are known, and of the program that
--- `make` makes.
+-- This holds of the source that must have a derivation: of the command's file, if its bytes are known, and of the
+-- program that `make` generates.
 abbrev pub OfSource : (Text → Type 0) → (Text → Option Text) → Option Asked → Type 0
 OfSource Holds told None = ⊥
 OfSource Holds told (Some asked) = OfFile Holds told (source_of asked) × ((seed size : Text) → asked ≡ make seed size → OfMade Holds seed size)
 
--- It has a core with a derivation.
+-- The source has a core with a derivation.
 abbrev pub Accepts : (Text → Option Text) → List Text → Type 0
 Accepts told words = OfSource IsDerivable told (command_of words)
 
--- It has a core that is safe.
+-- The source has a core that is safe.
 abbrev pub IsMadeSafe : (Text → Option Text) → List Text → Type 0
 IsMadeSafe told words = OfSource HasSafeCore told (command_of words)
 
--- It has a core whose waiting messages are isolated in depth.
+-- The source has a core whose waiting messages are isolated in depth.
 abbrev pub IsMadeIsolated : (Text → Option Text) → List Text → Type 0
 IsMadeIsolated told words = OfSource HasIsolatedCore told (command_of words)
 
--- The command looks for a derivation of it, and it has a core without one.
+-- The command looks for a derivation of the source, which has a core without one.
 abbrev pub HasNoDerivationOf : (Text → Option Text) → Option Asked → Type 0
 HasNoDerivationOf told None = ⊥
 HasNoDerivationOf told (Some asked) = IsTrue (infers asked) × OfSource IsUnderivable told (Some asked)
@@ -55,6 +55,6 @@ HasNoDerivationOf told (Some asked) = IsTrue (infers asked) × OfSource IsUnderi
 abbrev pub HasNoDerivation : (Text → Option Text) → List Text → Type 0
 HasNoDerivation told words = HasNoDerivationOf told (command_of words)
 
--- So it is at status 1.
+-- With status 1, this is the case.
 abbrev pub RefusedIsUnderivable : Type 0
 RefusedIsUnderivable = (files : Files) (words : List Text) (v : Verdict) → IsVerdict files words v → v.status ≡ 1 → HasNoDerivation files.told words

@@ -1,4 +1,4 @@
--- What each command is: a row of each table here, and a file with its definition.
+-- What each command does: a row of each table here, and a file with its definition.
 use Rattle.std.specs.Prelude.{ℕ, ◌≡◌, ◌⊎◌, Bool, true, false, List, [], ◌∷◌, Option, Some, None, IfSome}
 use Rattle.std.specs.Io.KnownBytes.{Appends}
 use Rattle.pc_lists.specs.Texts.{Text}
@@ -40,7 +40,7 @@ pub mod Swap
 pub mod Trace
 pub mod Upgrade
 
--- Its verdict. Words that the command line does not take are refused with status 2.
+-- A command's verdict. Words that the command line does not take are refused with status 2.
 abbrev pub IsVerdictOf : Files → Option Asked → Verdict → Type 0
 IsVerdictOf files None v = v ≡ refused 2 usage_line
 IsVerdictOf files (Some (check source)) v = IsCheck (named files source) v
@@ -59,8 +59,8 @@ IsVerdictOf files (Some (schedule_of source seed)) v = IsSchedule (named files s
 IsVerdictOf files (Some (play source seed)) v = IsPlay (named files source) seed v
 IsVerdictOf files (Some (outcomes source count)) v = IsOutcomes (named files source) count v
 
--- The file that it could not read: its failures rose. A later file is asked for only if the command came to it, so its failures are
--- no cause before.
+-- The file that the command could not read: its failures rose. A later file is only read if the command gets that far,
+-- so before that its failures are no cause.
 abbrev pub FailedOf : Files → Option Asked → Text → Type 0
 FailedOf files None name = ⊥
 FailedOf files (Some (check source)) name = FailedAt (named files source) name
@@ -97,7 +97,7 @@ files_of (schedule_of source seed) = source ∷ []
 files_of (play source seed) = source ∷ []
 files_of (outcomes source count) = source ∷ []
 
--- The file among them whose core has to have a derivation, where there is one. The program of `make` stands in none.
+-- The file among them whose core must have a derivation, if there is one. The program of `make` is in no file.
 abbrev pub source_of : Asked → Option Text
 source_of (check source) = Some source
 source_of (judge source derivation) = Some source
@@ -115,7 +115,7 @@ source_of (schedule_of source seed) = Some source
 source_of (play source seed) = Some source
 source_of (outcomes source count) = Some source
 
--- Whether the command looks for that derivation itself.
+-- Whether the command looks for this derivation itself.
 abbrev pub infers : Asked → Bool
 infers (check source) = true
 infers (judge source derivation) = false
@@ -133,7 +133,7 @@ infers (schedule_of source seed) = true
 infers (play source seed) = true
 infers (outcomes source count) = true
 
--- The number among the words is one that the command takes. Of `make` this is said where it is spoken of.
+-- The number among the words is one that the command takes. For `make`, the laws about it state this themselves.
 abbrev pub HasNumber : Asked → Type 0
 HasNumber (check source) = Unit {0}
 HasNumber (judge source derivation) = Unit {0}
@@ -151,8 +151,8 @@ HasNumber (places source) = Unit {0}
 HasNumber (explain source) = Unit {0}
 HasNumber (events source schedule) = Unit {0}
 
--- What stands on out where it went through all its stages, of files that tell their bytes. `swap` and `trace` write nothing where a
--- text ended the run.
+-- What is on out after a command has passed all its stages, if the bytes of its files are known. `swap`, `trace` and
+-- `events` write nothing if a text ended the run.
 abbrev pub OnOutOf : (Text → Option Text) → Option Asked → Change → Type 0
 OnOutOf told None out = ⊥
 OnOutOf told (Some (check source)) out = IfSome (told source) (WritesDerivation out)

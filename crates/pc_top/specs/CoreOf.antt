@@ -1,4 +1,4 @@
--- What sources say.
+-- What sources mean.
 use Rattle.std.specs.Prelude.{ℕ, ◌≤◌, List, length}
 use Rattle.pc_core.specs.CoreData.{CoreData}
 use Rattle.pc_grammar.specs.FileAnswers.{IsFileAnswer, spelled}
@@ -10,8 +10,8 @@ use Rattle.pc_token.specs.declared.kinds.Token.{Token}
 use Rattle.pc_tree.specs.Tree as t
 use Rattle.pc_refusals.specs.Source.{source_limit}
 
--- The core of a source: the one that stands for the file that its tokens spell. The source, the tokens and the file's levels
--- are within their limits.
+-- The core of a source: the one that represents the file that its tokens spell. The source, the tokens and the nesting
+-- of the file are within their limits.
 pub record CoreOf (bytes : List ℕ) (core : CoreData) : Type 0 where
   pub short : length bytes ≤ source_limit
   pub tokens : List Token
@@ -30,8 +30,8 @@ IsUnderivable bytes = (core : CoreData) × CoreOf bytes core × (Derivable core 
 
 -- ---- what a derivation is for
 
--- The source has a core, and the core is safe: after every list of actors, of every length, no two of them race, what waits
--- in messages is let alone, and no step lacks anything.
+-- The source has a core, and the core is safe: after every list of actors, of any length, no two of them race, what
+-- waits in messages is let alone, and no step lacks anything.
 abbrev pub HasSafeCore : List ℕ → Type 0
 HasSafeCore bytes = (core : CoreData) × CoreOf bytes core × Safe core
 

@@ -5,10 +5,10 @@ use Rattle.pc_core.specs.Formed.{Formed}
 use Rattle.pc_deriv.specs.Limits.{slot_limit, node_limit}
 use Rattle.pc_top.specs.CoreOf.{CoreOf}
 
--- The core is so small that its annotations have a text.
+-- The core is small enough for its annotations to have a text.
 abbrev pub IsSmall : CoreData → Type 0
 IsSmall core = (length core.slots ≤ slot_limit) × (length core.nodes ≤ node_limit)
 
--- The core of a source fits together, and is so small that its annotations have a text.
+-- The core of a source fits together, and is small enough for its annotations to have a text.
 abbrev pub CoresAreFormed : Type 0
 CoresAreFormed = (bytes : List ℕ) (core : CoreData) → CoreOf bytes core → Formed core × IsSmall core

@@ -1,4 +1,4 @@
--- What the statuses 0 and 1 say of a source, exactly.
+-- What the statuses 0 and 1 mean for a source, exactly.
 use Rattle.std.specs.Prelude.{ℕ, ◌≡◌, ◌↔◌, Some, List, [], ◌∷◌, IsTrue}
 use Rattle.pc_ann.specs.declared.annotation.Ann.{Ann}
 use Rattle.pc_core.specs.CoreData.{CoreData}
@@ -14,7 +14,8 @@ use Rattle.pc_top.specs.Commands.Make.{made_text}
 use Rattle.pc_refusals.specs.Named.{Files, NoneFailed}
 use Rattle.pc_refusals.specs.Verdict.{Verdict}
 
--- The words ask for this, and this verdict is theirs. The source of the command tells these bytes, and no reading of it failed.
+-- The words ask for this, and have this verdict. The bytes of the command's source are known, and no reading of it
+-- failed.
 pub record ReadsSource (files : Files) (words : List Text) (asked : Asked) (source bytes : Text) (v : Verdict) : Type 0 where
   pub asks : command_of words ≡ Some asked
   pub is_source : source_of asked ≡ Some source
@@ -23,8 +24,8 @@ pub record ReadsSource (files : Files) (words : List Text) (asked : Asked) (sour
   pub unfailed : files.now source ≡ files.before source
   pub verdict : IsVerdict files words v
 
--- `check` answers 0 exactly when the source has a core with a derivation. A command that looks for the derivation itself
--- answers 1 exactly when the source has a core without one, `make` where the program that it makes has.
+-- The status of `check` is 0 iff the source has a core with a derivation. If a command looks for the derivation itself,
+-- its status is 1 iff the source has a core without one; for `make`, the source is the program that it generates.
 pub record StatusesAreExact : Type 0 where
   pub accepted : (files : Files) (words : List Text) (source bytes : Text) (v : Verdict) → ReadsSource files words (check source) source bytes v
       → (v.status ≡ 0) ↔ IsDerivable bytes
@@ -39,7 +40,8 @@ pub record StatusesAreExact : Type 0 where
 abbrev pub IsDerivationOf : (source text : Text) → Type 0
 IsDerivationOf source text = (core : CoreData) × CoreOf source core × (ann : Ann) × IsText text ann × Valid core ann
 
--- The words ask for this, and this verdict is theirs. The two files of the command tell these bytes, and no reading of them failed.
+-- The words ask for this, and have this verdict. The bytes of the command's two files are known, and no reading of them
+-- failed.
 pub record ReadsBoth (files : Files) (words : List Text) (asked : Asked) (source derivation bytes text : Text) (v : Verdict) : Type 0 where
   pub asks : command_of words ≡ Some asked
   pub tells : files.told source ≡ Some bytes
@@ -47,7 +49,8 @@ pub record ReadsBoth (files : Files) (words : List Text) (asked : Asked) (source
   pub unfailed : NoneFailed files (source ∷ derivation ∷ [])
   pub verdict : IsVerdict files words v
 
--- `judge` and `upgrade` answer 0 exactly when the derivation is the text of a valid annotation of the source's core.
+-- The status of `judge` and of `upgrade` is 0 iff the derivation is the text of a valid annotation of the source's
+-- core.
 pub record JudgedAreExact : Type 0 where
   pub judged : (files : Files) (words : List Text) (source derivation bytes text : Text) (v : Verdict) → ReadsBoth files words (judge source derivation) source derivation bytes text v
       → (v.status ≡ 0) ↔ IsDerivationOf bytes text

@@ -4,12 +4,12 @@ use Rattle.pc_core.specs.CoreData.{CoreData}
 use Rattle.pc_isolation.specs.Laws.{AlwaysIsolated, AlwaysPassedWhole}
 use Rattle.pc_top.specs.CoreOf.{CoreOf, IsDerivable}
 
--- The source has a core, and after every list of actors, of every length, what waits in messages is isolated in depth: not only
--- the arguments themselves, but what fields lead to from them. And what a message brings stays as it is until it is taken, and is
--- then handed over as a whole.
+-- The source has a core, and after every list of actors, of any length, what waits in messages is isolated in depth:
+-- not only the arguments themselves, but also what fields lead to from them. And what a message carries is unchanged
+-- until it is taken, and is then handed over as a whole.
 abbrev pub HasIsolatedCore : List ℕ → Type 0
 HasIsolatedCore bytes = (core : CoreData) × CoreOf bytes core × AlwaysIsolated core × AlwaysPassedWhole core
 
--- In a source whose core has a derivation it is.
+-- A source whose core has a derivation is isolated in this way.
 abbrev pub DerivableIsIsolated : Type 0
 DerivableIsIsolated = (bytes : List ℕ) → IsDerivable bytes → HasIsolatedCore bytes

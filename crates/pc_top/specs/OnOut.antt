@@ -1,4 +1,4 @@
--- What stands on out where a command went through all its stages.
+-- What is on out after a command has passed all its stages.
 use Rattle.std.specs.Prelude.{ℕ, ◌≡◌, Option, Some, List, IfSome}
 use Rattle.pc_lists.specs.Texts.{Text}
 use Rattle.pc_args.specs.Asked.{check, judge, swap, trace, upgrade, command_of}
@@ -11,37 +11,39 @@ use Rattle.pc_top.specs.Commands.Judge.{accepted_text}
 use Rattle.pc_top.specs.Commands.Swap.{IsPlace, WritesSwap}
 use Rattle.pc_top.specs.Commands.Trace.{WritesTrace}
 
--- What the command of the words writes, if the bytes of its files are known: the source's derivation, `accepted`, the text of the
--- run or the printed tree; or why the source is refused; or the numbers of the program that it makes, and the text of its run; or
--- the schedule with two turns exchanged or why they stay, and nothing if a step before them would make a text that is too long;
--- or the accesses of the run with their clocks, and nothing if a step would make a text that is too long; or the lines of who
--- sends what, which are true of every run; or a derivation in version 2 of its text; or the schedule that a seed chooses, the text
--- of its run, or the table of the outcomes of the seeds below a count.
+-- What the command of the words writes, if the bytes of its files are known: the source's derivation, `accepted`, the
+-- text of the run or the printed tree; or why the source is refused; or the numbers of the program that it generates,
+-- and the text of its run; or the schedule with two turns exchanged or why they keep their order, and nothing if a step
+-- before them would make a text that is too long; or the accesses of the run with their clocks, and nothing if a step
+-- would make a text that is too long; or the lines of who sends what, which are right about every run; or a derivation
+-- in version 2 of its text; or the schedule that a seed chooses, the text of its run, or the table of the outcomes of
+-- the seeds below a count.
 abbrev pub OnOut : (Text → Option Text) → List Text → Change → Type 0
 OnOut told words out = OnOutOf told (command_of words) out
 
--- If `swap` is done, it reports on the turns at its place. Two that were exchanged lead where they led: all four steps move, and
--- both lists lead to one configuration.
+-- If `swap` is done, it reports on the turns at its place. If they were exchanged, they lead where they led before: all
+-- four steps move, and both lists lead to the same configuration.
 abbrev pub Swaps : (Text → Option Text) → List Text → Change → Type 0
 Swaps told words out = (source schedule place : Text) → command_of words ≡ Some (swap source schedule place)
     → IfSome (told source) (λ bytes. IfSome (told schedule) (λ text. (n : ℕ) × IsPlace place n × WritesSwap out bytes text n))
 
--- Where `trace` is done, all accesses of the run stand on out with their clocks, and those that conflict are ordered.
+-- If `trace` is done, all accesses of the run are on out with their clocks, and those that conflict are ordered.
 abbrev pub Traces : (Text → Option Text) → List Text → Change → Type 0
 Traces told words out = (source schedule : Text) → command_of words ≡ Some (trace source schedule)
     → IfSome (told source) (λ bytes. IfSome (told schedule) (WritesTrace out bytes))
 
--- ---- from one command to the other
+-- ---- from one command to another
 
--- What `check` is done with for a source, `judge` accepts for the same source, wherever it is read from. Which words ask for
--- `check`, and which for `judge`, plays no part.
+-- If `check` is done with a text for a source, `judge` accepts that text for the same source, wherever it is read from.
+-- Which words ask for `check` and for `judge` does not matter.
 abbrev pub WrittenIsAccepted : Type 0
 WrittenIsAccepted =
     (files later : Files) (words later_words : List Text) (source derivation text : Text) → command_of words ≡ Some (check source)
     → command_of later_words ≡ Some (judge source derivation) → later.told source ≡ files.told source → later.told derivation ≡ Some text
     → IsVerdict files words (done text) → IsVerdict later later_words (done accepted_text)
 
--- What `upgrade` is done with for a source, `judge` accepts for the same source, and `upgrade` is done with the same text again.
+-- If `upgrade` is done with a text for a source, `judge` accepts it for the same source, and `upgrade` is done with the
+-- same text again.
 pub record UpgradedIsAccepted : Type 0 where
   pub judged : (files later : Files) (words later_words : List Text) (source derivation other text : Text) → command_of words ≡ Some (upgrade source derivation)
       → command_of later_words ≡ Some (judge source other) → later.told source ≡ files.told source → later.told other ≡ Some text

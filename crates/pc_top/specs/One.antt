@@ -1,4 +1,4 @@
--- There is one verdict for the words and for what the files tell.
+-- There is at most one verdict for the words and the known bytes of the files.
 use Rattle.std.specs.Prelude.{◌≡◌, Option, Some, None, List}
 use Rattle.pc_lists.specs.Texts.{Text}
 use Rattle.pc_args.specs.Asked.{Asked, command_of}
@@ -7,7 +7,7 @@ use Rattle.pc_top.specs.Commands.{files_of}
 use Rattle.pc_refusals.specs.Named.{AllTold, Files, NoneFailed}
 use Rattle.pc_refusals.specs.Verdict.{Verdict}
 
--- The files that the words name tell their bytes.
+-- The bytes of the files that the words name are known.
 abbrev pub TellsOf : (Text → Option Text) → Option Asked → Type 0
 TellsOf told None = Unit {0}
 TellsOf told (Some asked) = AllTold told (files_of asked)
@@ -17,7 +17,7 @@ abbrev pub UnfailedOf : Files → Option Asked → Type 0
 UnfailedOf files None = Unit {0}
 UnfailedOf files (Some asked) = NoneFailed files (files_of asked)
 
--- Then no two verdicts differ.
+-- Then any two verdicts are equal.
 abbrev pub VerdictIsOne : Type 0
 VerdictIsOne = (files : Files) (words : List Text) (v w : Verdict) → UnfailedOf files (command_of words) → TellsOf files.told (command_of words)
     → IsVerdict files words v → IsVerdict files words w → v ≡ w

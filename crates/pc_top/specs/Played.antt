@@ -1,4 +1,4 @@
--- From what `schedule` writes to what `play` and `run` answer.
+-- From what `schedule` writes to what `play` and `run` do with it.
 use Rattle.std.specs.Prelude.{◌≡◌, Some, List}
 use Rattle.pc_lists.specs.Texts.{Text}
 use Rattle.pc_args.specs.Asked.{Asked, command_of, play, run, schedule_of}
@@ -7,15 +7,17 @@ use Rattle.pc_refusals.specs.Verdict.{Verdict, done}
 use Rattle.pc_top.specs.Asked.{IsVerdict}
 use Rattle.pc_top.specs.One.{UnfailedOf}
 
--- The words ask for this of a source that tells these bytes, this verdict is theirs, and no reading of the command's files failed.
+-- The words ask for this of a source whose bytes are known to be these, they have this verdict, and no reading of the
+-- command's files failed.
 pub record Answered (files : Files) (words : List Text) (asked : Asked) (source bytes : Text) (v : Verdict) : Type 0 where
   pub asks : command_of words ≡ Some asked
   pub tells : files.told source ≡ Some bytes
   pub unfailed : UnfailedOf files (Some asked)
   pub verdict : IsVerdict files words v
 
--- If `schedule` is done with a line for a source and a seed, then `play` of that source and that seed and `run` of that source by a file
--- that has this line have one status, and write one text on out. The three may read their files whenever and from wherever they do.
+-- If `schedule` is done with a line for a source and a seed, then `play` of that source and that seed, and `run` of
+-- that source by a file with this line, have the same status and write the same text on out. The three may read their
+-- files at any time and from anywhere.
 abbrev pub PlayedAsRun : Type 0
 PlayedAsRun =
     (chosen played ran : Files) (choosing playing running : List Text) (source bytes seed schedule line : Text) (v w : Verdict)

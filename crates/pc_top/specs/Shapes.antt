@@ -16,19 +16,19 @@ use Rattle.pc_refusals.specs.Verdict.{EndsAs, Verdict, refused}
 use Rattle.pc_refusals.specs.declared.source.Source.{Source}
 use Rattle.pc_refusals.specs.declared.typing.Accepted.{Accepted}
 
--- A source goes through every stage of one that is accepted, and then the last part looks at it.
+-- A source passes every stage of one that is accepted, and then comes the last part.
 abbrev pub OfAccepted : (Accepted → Verdict → Type 0) → Named → Verdict → Type 0
 OfAccepted Last source = FromFile source source_limit (AcceptedStage source.name) Last
 
--- What a last part says of a schedule's name, a core, and the turns of the schedule as one list.
+-- What a last part states about a schedule's name, a core, and the turns of the schedule as one list.
 abbrev pub LastOfTurns : Type 1
 LastOfTurns = Text → CoreData → List ℕ → Verdict → Type 0
 
--- A schedule goes through its stages, and the last part looks at its turns and at an accepted source.
+-- A schedule passes its stages, and then the last part takes its turns and an accepted source.
 abbrev pub OfTurns : LastOfTurns → Named → Accepted → Verdict → Type 0
 OfTurns Last schedule accepted = FromFile schedule schedule_limit (ScheduleStage schedule.name) (λ turns. Last schedule.name accepted.source.core (spread turns))
 
--- A source is accepted, and then a schedule is read. The schedule is not looked at where the source is refused.
+-- A source is accepted, and then a schedule is read. The schedule is not looked at if the source is refused.
 abbrev pub OfScheduled : LastOfTurns → Named → Named → Verdict → Type 0
 OfScheduled Last source schedule = OfAccepted (OfTurns Last schedule) source
 
@@ -36,12 +36,13 @@ OfScheduled Last source schedule = OfAccepted (OfTurns Last schedule) source
 abbrev pub UnreadScheduled : Named → Named → Text → Type 0
 UnreadScheduled source schedule name = FailedInTurn source source_limit (AcceptedStage source.name) schedule name
 
--- A derivation goes through its stages, and is judged for a source: where it is valid the command is done with this text of it.
+-- A derivation passes its stages, and is judged for a source: if it is valid, the command is done with this text for
+-- it.
 abbrev pub OfJudged : (Ann → Text) → Named → Named → Source → Verdict → Type 0
 OfJudged text source derivation s =
     FromFile derivation derivation_limit (DerivationStage derivation.name) (λ ann. EndsAs (λ _. text ann) (Judging source.name derivation.name s ann))
 
--- A source goes through its stages, and then a derivation of it is judged. The derivation is not looked at where the source is
+-- A source passes its stages, and then a derivation of it is judged. The derivation is not looked at if the source is
 -- refused.
 abbrev pub OfDerivation : (Ann → Text) → Named → Named → Verdict → Type 0
 OfDerivation text source derivation = FromFile source source_limit (SourceStage source.name) (OfJudged text source derivation)
@@ -50,12 +51,12 @@ OfDerivation text source derivation = FromFile source source_limit (SourceStage 
 abbrev pub UnreadDerivation : Named → Named → Text → Type 0
 UnreadDerivation source derivation name = FailedInTurn source source_limit (SourceStage source.name) derivation name
 
--- A number among the words: the verdict is that of the number that its word spells, or 2 if it spells none. The word is looked at before
--- any file is read.
+-- A number among the words: the verdict is the one for the number that its word denotes, or 2 if it denotes none. The
+-- word is looked at before any file is read.
 pub data ByNumber (Is : ℕ → Type 0) (Of : ℕ → Verdict → Type 0) (v : Verdict) : Type 0 where
   spelled : (n : ℕ) → Is n → Of n v → ByNumber Is Of v
   no_number : ((n : ℕ) → Is n → ⊥) → v ≡ refused 2 usage_line → ByNumber Is Of v
 
--- The source that could not be read, which is asked for only if the word spells a number.
+-- The source that could not be read, which is only read if the word denotes a number.
 abbrev pub UnreadNumbered : (ℕ → Type 0) → Named → Text → Type 0
 UnreadNumbered Is source name = ((n : ℕ) × Is n) × FailedAt source name

@@ -1,4 +1,4 @@
-//! Sources whose core has a derivation: the stages of `check` but for the text, which other commands go through too.
+//! Sources whose core has a derivation: the stages of `check` except for the text, which other commands go through too.
 ghost use Rattle.std.specs.Prelude.{◌≡◌, ◌≤◌, ℕ, List as Sequence};
 ghost use Rattle.pc_refusals.specs.Accepting.{AcceptedStage};
 ghost use Rattle.pc_refusals.specs.Inner.Stages.{PartEnds};
@@ -10,7 +10,7 @@ use pc_io::{Bytes, Files};
 use pc_refusals::{Accepted, Stop, type_source};
 use std::alloc::Global;
 
-/// Reads the source of this name and goes through its stages, and then looks for its core's annotation.
+/// Reads the source with this name, goes through its stages, and then looks for its core's annotation.
 pub fn accept_source<F: Files>(alloc: Global, files: &mut F, name: &str) -> Result<Accepted, Stop>
     ensures later { (n : Sequence ℕ) → F.faults files.old n ≤ F.faults files.new n }
     ensures same { (n : Sequence ℕ) → F.bytes files.new n ≡ F.bytes files.old n }
@@ -21,7 +21,7 @@ pub fn accept_source<F: Files>(alloc: Global, files: &mut F, name: &str) -> Resu
     type_source(alloc, name, source)
 }
 
-/// The same of a text that stands in no file, as the source of this name.
+/// The same for a text that is in no file, taken as the source with this name.
 pub fn accept_text(alloc: Global, name: &str, bytes: Bytes) -> Result<Accepted, Stop>
     ensures { PartEnds source_limit (AcceptedStage name.now) (text_as name.now bytes) result }
 {

@@ -47,8 +47,8 @@ use swap::swap_turns;
 use trace::trace_run;
 use upgrade::upgrade_derivation;
 
-/// Does what a command asks for. A command that answers a text is written here, by one call of `put` on out; `run`, `make` and
-/// `play` write as they go.
+/// Does what a command asks for. If the command returns a text, the text is written here, in one call of `put` on out;
+/// `run`, `make` and `play` write as they go.
 pub fn run_command<F: Files, O: Sink, R: Referee>(
     alloc: Global,
     command: Command,

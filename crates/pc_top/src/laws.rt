@@ -37,7 +37,7 @@ use pc_swap::kept_are_not_apart;
 use pc_text_order::tokens_are_in_order;
 use pc_types::accepted_never_lacks;
 
-/// The core of a source fits together, and is so small that its annotations have a text.
+/// The core of a source fits together, and is small enough for its annotations to have a text.
 pub fn cores_of_sources_are_formed()
     ensures { CoresAreFormed }
 {
@@ -45,7 +45,7 @@ pub fn cores_of_sources_are_formed()
     cores_are_formed();
 }
 
-/// There is one verdict for the words and for what the files tell.
+/// There is at most one verdict for the words and the known bytes of the files.
 pub fn verdict_is_one()
     ensures { VerdictIsOne }
 {
@@ -75,8 +75,8 @@ pub fn verdict_is_one()
     accepted_has_none();
 }
 
-/// `check` answers 0 exactly when the source has a core with a derivation, and what looks for a derivation answers 1
-/// exactly when the source has a core without one.
+/// The status of `check` is 0 iff the source has a core with a derivation, and the status of a command that looks for a
+/// derivation is 1 iff the source has a core without one.
 pub fn statuses_are_exact()
     ensures { StatusesAreExact }
 {
@@ -91,7 +91,8 @@ pub fn statuses_are_exact()
     nothing_is_derivable_with_a_declaration_that_fails();
 }
 
-/// `judge` and `upgrade` answer 0 exactly when the derivation is the text of a valid annotation of the source's core.
+/// The status of `judge` and of `upgrade` is 0 iff the derivation is the text of a valid annotation of the source's
+/// core.
 pub fn judged_statuses_are_exact()
     ensures { JudgedAreExact }
 {
@@ -123,14 +124,15 @@ pub fn no_verdict_is_a_failure()
     ensures { NoVerdictIsAFailure }
 {}
 
-/// What an answer of 9, 10 or 11 says of out and err: at 9 out is as it was and err has the line of the file, at 10 out or err
-/// got a part of what was to be written, and at 11 out may have a part of its text, and err nothing.
+/// What an answer of 9, 10 or 11 means for out and err: with 9, out is unchanged and err has the line of the file; with
+/// 10, out or err got a part of what was to be written; and with 11, out may have a part of its text, and err has
+/// nothing.
 pub fn failures_are_told()
     ensures { FailuresAreTold }
 {}
 
-/// A source whose core has a derivation is safe: over every schedule no two actors race, what waits in messages is let alone,
-/// and no step lacks anything.
+/// A source whose core has a derivation is safe: over every schedule, no two actors race, what waits in messages is let
+/// alone, and no step lacks anything.
 pub fn derivable_sources_are_safe()
     ensures { DerivableIsSafe }
 {
@@ -138,10 +140,11 @@ pub fn derivable_sources_are_safe()
     valid_is_safe();
 }
 
-/// A source whose core has a derivation is isolated in depth: over every schedule no step touches what is inside a waiting `iso`
-/// argument, or an object that leads there; none writes what is seen from a waiting `iso` or `val` argument; what is inside one
-/// argument is inside no other and seen from no other. Until its message is taken, the same objects are inside an argument
-/// and seen from it, and hold the same; and the step that takes the message hands its arguments over, and changes no object.
+/// A source whose core has a derivation is isolated in depth: over every schedule, no step touches what is inside a
+/// waiting `iso` argument, or an object that leads there; none writes what is seen from a waiting `iso` or `val`
+/// argument; and what is inside one argument is neither inside nor seen from any other. Until its message is taken, the
+/// same objects are inside an argument and seen from it, with the same contents; and the step that takes the message
+/// hands its arguments over, and changes no object.
 pub fn derivable_sources_are_isolated()
     ensures { DerivableIsIsolated }
 {
@@ -150,9 +153,9 @@ pub fn derivable_sources_are_isolated()
     valid_is_passed_whole();
 }
 
-/// What `sends` tells of a source is true of every run: over every schedule each frame is one of a method that may begin or be
-/// sent, each message that is sent has its row, and no message of a method that is never sent waits anywhere. And each entity and
-/// method that its lines name is there.
+/// What `sends` reports of a source is right about every run: over every schedule, each frame is of a method that may
+/// begin or be sent, each message that is sent has its row, and no message of a method that is never sent waits
+/// anywhere. And each entity and method that its lines name exists.
 pub fn tables_tell_of_every_run()
     ensures { TablesTell }
 {
@@ -161,8 +164,8 @@ pub fn tables_tell_of_every_run()
     held_covers();
 }
 
-/// If `schedule` is done with a line for a source and a seed, then `play` of that source and that seed and `run` of that source by a
-/// file that has this line have one status, and write one text on out.
+/// If `schedule` is done with a line for a source and a seed, then `play` of that source and that seed, and `run` of
+/// that source by a file with this line, have the same status and write the same text on out.
 pub fn plays_are_runs()
     ensures { PlayedAsRun }
 {

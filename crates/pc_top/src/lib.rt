@@ -1,15 +1,17 @@
-//! The top call: all that the program does, from its words, files and sinks to its exit status.
+//! The top call: everything that the program does, from its words, files and sinks to its exit status.
 //!
 //! Proved: the clauses of `rcap`, and the laws beside it.
-//! - There is at most one verdict (`verdict_is_one`), and none has the status of a failure (`no_verdict_is_a_failure`), at which
-//!   out and err got a part of what was to be written (`failures_are_told`).
-//! - The statuses of a known source are exact (`statuses_are_exact`), and so are those of a derivation
-//!   (`judged_statuses_are_exact`). A source that is refused with 1 has no derivation (`refused_sources_have_no_derivation`).
-//! - What `check` or `upgrade` writes, `judge` accepts (`written_derivations_are_accepted`, `upgraded_derivations_are_accepted`).
-//! - The core of a source is formed (`cores_of_sources_are_formed`). If it has a derivation it is safe
+//! - There is at most one verdict (`verdict_is_one`), and none has the status of a failure (`no_verdict_is_a_failure`),
+//!   with which out and err got a part of what was to be written (`failures_are_told`).
+//! - The statuses for a known source are exact (`statuses_are_exact`), and so are those for a derivation
+//!   (`judged_statuses_are_exact`). A source that is refused with 1 has no derivation
+//!   (`refused_sources_have_no_derivation`).
+//! - What `check` or `upgrade` writes, `judge` accepts (`written_derivations_are_accepted`,
+//!   `upgraded_derivations_are_accepted`).
+//! - The core of a source is formed (`cores_of_sources_are_formed`). If it has a derivation, it is safe
 //!   (`derivable_sources_are_safe`), and its waiting messages are isolated in depth (`derivable_sources_are_isolated`).
-//! - What `sends` reports is true of every run (`tables_tell_of_every_run`), and `play` answers what `run` does for the line that
-//!   `schedule` writes (`plays_are_runs`).
+//! - What `sends` reports is right about every run (`tables_tell_of_every_run`), and `play` does what `run` does for
+//!   the line that `schedule` writes (`plays_are_runs`).
 #![tactic(auto)]
 
 mod accepting;

@@ -1,4 +1,4 @@
-//! A number among the words, and then a source that has to be accepted.
+//! A number among the words, and then a source that must be accepted.
 ghost use Rattle.std.specs.Prelude.{◌≡◌, ◌≤◌};
 ghost use Rattle.pc_lists.specs.Texts.{Text};
 ghost use Rattle.pc_refusals.specs.Named.{files_change};
@@ -14,11 +14,11 @@ use std::alloc::Global;
 pub struct Numbered {
     /// The source, with its core and its annotation.
     pub accepted: Accepted,
-    /// The number that a word spells.
+    /// The number that a word denotes.
     pub number: u64,
 }
 
-/// Refuses words without a number, and then reads the source of this name, which has to be accepted.
+/// Refuses words without a number, and then reads the source with this name, which must be accepted.
 pub fn accept_numbered<F: Files>(
     alloc: Global,
     files: &mut F,

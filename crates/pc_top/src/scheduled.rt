@@ -1,4 +1,4 @@
-//! A source that has to be accepted, and then a schedule.
+//! A source that must be accepted, and then a schedule.
 ghost use Rattle.std.specs.Prelude.{◌≡◌, ◌≤◌};
 ghost use Rattle.pc_lists.specs.Texts.{Text};
 ghost use Rattle.pc_refusals.specs.Named.{files_change};
@@ -20,7 +20,7 @@ pub struct Scheduled {
     pub turns: List<Turn>,
 }
 
-/// Reads the source of this name, which has to be accepted, and then the schedule of this name.
+/// Reads the source with this name, which must be accepted, and then the schedule with this name.
 pub fn read_scheduled<F: Files>(
     alloc: Global,
     files: &mut F,

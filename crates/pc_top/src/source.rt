@@ -18,7 +18,7 @@ use pc_text_order::tokens_are_in_order;
 use pc_tree::File;
 use std::alloc::Global;
 
-/// Reads the source of this name and goes through its stages.
+/// Reads the source with this name and goes through its stages.
 pub fn read_source<F: Files>(alloc: Global, files: &mut F, name: &str) -> Result<Source, Stop>
     ensures later { (n : Sequence ℕ) → F.faults files.old n ≤ F.faults files.new n }
     ensures same { (n : Sequence ℕ) → F.bytes files.new n ≡ F.bytes files.old n }
@@ -30,7 +30,7 @@ pub fn read_source<F: Files>(alloc: Global, files: &mut F, name: &str) -> Result
     Ok(Source { bytes, core })
 }
 
-/// Takes a text that stands in no file as the source of this name, and goes through its stages.
+/// Takes a text that is in no file as the source with this name, and goes through its stages.
 pub fn take_source(alloc: Global, name: &str, bytes: Bytes) -> Result<Source, Stop>
     ensures { PartEnds source_limit (SourceStage name.now) (text_as name.now bytes) result }
 {
@@ -55,7 +55,7 @@ fn read_core(alloc: Global, name: &str, bytes: &[u8]) -> Result<Core, Stop>
     elaborate_tree(alloc, name, bytes, &file)
 }
 
-// The core of the source of this name with these bytes, whose tree this is.
+// The core of the source with this name, these bytes and this tree.
 fn elaborate_tree(alloc: Global, name: &str, bytes: &[u8], file: &File) -> Result<Core, Stop>
     requires { Spelled (file_view file.now) }
     ensures { StageEnds (Elaborating name.now bytes.now (file_view file.now)) result }

@@ -24,18 +24,19 @@ use pc_referee::Referee;
 use pc_refusals::{Stop, finish, refuse_words};
 use std::alloc::Global;
 
-/// Does what the words after the program's name ask for, and answers the exit status.
+/// Does what the words after the program's name ask for, and returns the exit status.
 ///
-/// The status is 0 where the command is done, with its text on out, and else that of the refusal, with its line on err. It is
-/// 12 where a run or a play comes to a text that is too long, with what was printed on out and the line on err; `swap` and
-/// `trace` write nothing then. It is 8 where `trace` comes to a step that would make the 65th actor, or the plays of `outcomes`
-/// pass a limit, and 15 where a schedule has no two turns at the place that is asked for. It is 9 where a file of the command could not be read, 10 where out or err
-/// failed, and 11 when memory ran out.
+/// The status is 0 if the command is done, with its text on out, and otherwise that of the refusal, with its line on
+/// err. It is 12 if a run or a play comes to a text that is too long, with what was printed on out and the line on err;
+/// `swap` and `trace` write nothing then. It is 8 if `trace` comes to a step that would make the 65th actor, or if the
+/// plays of `outcomes` pass a limit, and 15 if a schedule does not have two turns at the given place. It is 9 if a file
+/// of the command could not be read, 10 if out or err failed, and 11 if memory ran out.
 ///
-/// A derivation, `accepted`, a printed tree, each printed text of a run or a play and its numbers, the first line of a made
-/// program, what is told of two turns, all accesses of a run with their clocks, all that is told of who sends what, a schedule
-/// that a seed chooses, and a table of outcomes are one call of `put` each on out, and the line is one on err; after a failed call on out nothing more is written. `judge` asks the
-/// referee of each node of the derivation.
+/// The following are written in one call of `put` each on out: a derivation, `accepted`, a printed tree, each printed
+/// text of a run or a play and its numbers, the first line of a generated program, the report on two turns, all
+/// accesses of a run with their clocks, the whole table of who sends what, a schedule that a seed chooses, and a table
+/// of outcomes. The line on err is one call too; after a failed call on out, nothing more is written. `judge` asks the
+/// referee about each node of the derivation.
 pub fn rcap<F: Files, O: Sink, E: Sink, R: Referee>(
     alloc: Global,
     words: &[&str],
@@ -44,64 +45,66 @@ pub fn rcap<F: Files, O: Sink, E: Sink, R: Referee>(
     err: &mut E,
     referee: &mut R,
 ) -> u8
-    // The files tell what they told, and of no name, nor of out or err, failures were taken back.
+    // The known bytes of the files are unchanged, and the failures of a name, of out and of err are never taken back.
     ensures same { (n : Text) → F.bytes files.new n ≡ F.bytes files.old n }
     ensures later { (n : Text) → F.faults files.old n ≤ F.faults files.new n }
     ensures out_later { O.faults out.old ≤ O.faults out.new }
     ensures err_later { E.faults err.old ≤ E.faults err.new }
 
-    // The status, the text on out and the line on err are the verdict's, or the answer is a fault with its cause, or memory
-    // ran out.
+    // The status, the text on out and the line on err are those of the verdict, or the answer is a fault with its
+    // cause, or memory ran out.
     ensures answers { let files = files_change (F.bytes files.old) (F.faults files.old) (F.faults files.new) (F.taken files.new) in
         Answer (IsVerdict files (texts words.now)) (FailedIn files (texts words.now))
         (change (O.written out.old) (O.written out.new) (O.faults out.old) (O.faults out.new))
         (change (E.written err.old) (E.written err.new) (E.faults err.old) (E.faults err.new)) result }
 
-    // The source that is accepted, or the program that is made, has a core, and the core has a derivation. A source that is
-    // only shown is not asked for one.
+    // The source that is accepted, or the program that is generated, has a core, and the core has a derivation. A
+    // source that is only shown need not have one.
     ensures accepted { IsAccepting result → Accepts (F.bytes files.old) (texts words.now) }
 
-    // What the program is for. That core is safe: after every list of actors, of every length, no two actors' next steps
-    // touch one field unless both read, none lacks its value, slot, object, field or method, and none touches what waits as
-    // an `iso` argument of a message or writes what waits as a `val` argument.
+    // What the program is for. This core is safe: after every list of actors, of any length, no two actors' next steps
+    // touch the same field unless both read it, none lacks its value, slot, object, field or method, and none touches
+    // what waits as an `iso` argument of a message or writes what waits as a `val` argument.
     ensures safe { IsAccepting result → IsMadeSafe (F.bytes files.old) (texts words.now) }
 
-    // What waits is isolated in depth. After every list of actors, no actor's next step touches an object to which fields lead
-    // from a waiting `iso` argument (fields declared `iso`, `trn` or `ref`), or one that leads there; none writes an object that is
-    // seen from a waiting argument (from an `iso` or `val` one, by fields that are not `tag`); and what is inside one argument is
-    // inside no other and seen from no other. It stays so until the message is taken, which hands all of it over.
+    // What waits is isolated in depth. After every list of actors, no actor's next step touches an object to which
+    // fields lead from a waiting `iso` argument (fields declared `iso`, `trn` or `ref`), or one that leads there; none
+    // writes an object that is seen from a waiting argument (an `iso` or `val` one, through fields that are not `tag`);
+    // and what is inside one argument is neither inside nor seen from any other. It stays so until the message is
+    // taken, which hands all of it over.
     ensures isolated { IsAccepting result → IsMadeIsolated (F.bytes files.old) (texts words.now) }
 
-    // The source or the made program that is refused with status 1 has a core, and the core has no derivation.
+    // A source or a generated program that is refused with status 1 has a core, and the core has no derivation.
     ensures refused { result ≡ 1 → HasNoDerivation (F.bytes files.old) (texts words.now) }
 
-    // The derivation of the source, `accepted`, the text of the run, the printed tree, the made program's numbers and the
-    // text of its run, the exchanged schedule, the accesses of the run, the lines of who sends what, a valid derivation in
-    // version 2 of its text, the schedule that a seed chooses, the text of its run, or the table of the outcomes of some seeds
-    // are on out. What the lines of who sends what say is true of every run: over every list of actors,
-    // of every length, what an actor is about to send has its line, and no message of a method that is told as never sent
-    // waits anywhere.
+    // Depending on the command, this is on out: the derivation of the source, `accepted`, the text of the run, the
+    // printed tree, the generated program's numbers and the text of its run, the exchanged schedule, the accesses of
+    // the run, the lines of who sends what, a valid derivation in version 2 of its text, the schedule that a seed
+    // chooses, the text of its run, or the table of the outcomes of some seeds. The lines of who sends what are right
+    // about every run: over every list of actors, of any length, what an actor is about to send has its line, and no
+    // message of a method that is reported as never sent waits anywhere.
     ensures writes { IsAccepting result → OnOut (F.bytes files.old) (texts words.now)
         (change (O.written out.old) (O.written out.new) (O.faults out.old) (O.faults out.new)) }
 
-    // Two turns of a schedule that `swap` exchanges lead where they led: all four steps move, and the schedule that is on out
-    // leads to the configuration to which the other one leads.
+    // If `swap` exchanges two turns of a schedule, they lead where they led before: all four steps move, and the
+    // schedule on out leads to the same configuration as the other one.
     ensures swaps { result ≡ 0 → Swaps (F.bytes files.old) (texts words.now)
         (change (O.written out.old) (O.written out.new) (O.faults out.old) (O.faults out.new)) }
 
-    // Where `trace` is done, all accesses of the run stand on out with their clocks. Of every two events of different actors in
-    // the run that touch one field of one object, one of them writing, the earlier comes before the later.
+    // If `trace` is done, all accesses of the run are on out with their clocks. Of any two events of different actors
+    // in the run that touch the same field of the same object, where one of them writes it, the earlier comes before
+    // the later.
     ensures traces { result ≡ 0 → Traces (F.bytes files.old) (texts words.now)
         (change (O.written out.old) (O.written out.new) (O.faults out.old) (O.faults out.new)) }
 
-    // Where no file of the command and no sink failed, the answer is the verdict, or memory ran out.
+    // If no file of the command and no sink failed, the answer is the verdict, or memory ran out.
     ensures completes { let files = files_change (F.bytes files.old) (F.faults files.old) (F.faults files.new) (F.taken files.new) in
         Completes (IsVerdict files (texts words.now)) (FailedIn files (texts words.now))
         (change (O.written out.old) (O.written out.new) (O.faults out.old) (O.faults out.new))
         (change (E.written err.old) (E.written err.new) (E.faults err.old) (E.faults err.new)) result }
 
-    // If `judge` answers 0, what the referee was asked of grew by each node of the source's core, in order, with its note in the
-    // derivation. At any other command what it was asked of is as before.
+    // If the status of `judge` is 0, the list of what the referee was asked grew by each node of the source's core, in
+    // order, with its note in the derivation. Any other command leaves the list unchanged.
     ensures asks { Asks (F.bytes files.old) (command_of (texts words.now)) result (R.asked referee.old) (R.asked referee.new) }
 {
     refused_sources_have_no_derivation();

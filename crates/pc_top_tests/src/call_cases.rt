@@ -39,7 +39,7 @@ actor Main
 
 const COUNTER: &[u8] = b"class Counter\n  var _n: U64 = 0\n  fun ref add(";
 
-// An `iso` is called as a `ref` where all arguments may be sent.
+// An `iso` is called as a `ref` if all arguments may be sent.
 const COUNTED: &[Ending<'_>] = &[
     (
         b"\
@@ -86,7 +86,7 @@ actor Main
     x.me()
 ";
 
-// And then its result is used only where it may be sent.
+// And then its result is used only if it may be sent.
 const RESULTS: &[Ending<'_>] = &[
     (b"", 0, b""),
     (b"    let z: C tag = x.me()\n", 1, b"a.pony:7:5: no rule\n"),

@@ -77,7 +77,7 @@ const UNENDED: &[u8] = b"rcap-derivation 1 4 7\ns 6 ref\ns 7 ref\ns 4 val\ns 6 i
 n prim 0 val 1 0 1 0\nn seq 0 val 1 0 1 0\nn body - 1 0 1 0\nn new 6 iso^ 3 0 3 0\nn define - 3 0 7 0\n\
 n seq - 3 0 3 0\nn body - 3 0 3 0";
 
-/// `FIRST` with one line end more.
+/// `FIRST` with one more line end.
 const LONGER: &[u8] = b"rcap-derivation 1 4 7\ns 6 ref\ns 7 ref\ns 4 val\ns 6 iso\n\
 n prim 0 val 1 0 1 0\nn seq 0 val 1 0 1 0\nn body - 1 0 1 0\nn new 6 iso^ 3 0 3 0\nn define - 3 0 7 0\n\
 n seq - 3 0 3 0\nn body - 3 0 3 0\n\n";
@@ -134,7 +134,7 @@ const JUDGES: &[Failure<'_>] = &[
     (2, NONE, NONE, 9, b"", b"a.der: cannot be read\n"),
 ];
 
-// Where the source is refused, the derivation is not read.
+// If the source is refused, the derivation is not read.
 const JUDGES_OF_NOTHING: &[Failure<'_>] = &[(2, NONE, NONE, 3, b"", b"a.pony:1:1: unexpected\n")];
 
 #[test]
@@ -146,7 +146,7 @@ fn faults_have_their_status_and_line(rt: HostRuntime) {
     all_fail(&rt, alloc, JUDGE, (b"", b""), JUDGES_OF_NOTHING);
 }
 
-// Whether a source of the same byte so many times ends so.
+// Whether a source that repeats one byte this many times ends with this status and line.
 fn bytes_end(alloc: Global, byte: &[u8], times: usize, status: u8, err: &[u8]) -> bool {
     made_ends(alloc, repeated(alloc, b"", byte, times, b""), status, err)
 }
@@ -185,7 +185,7 @@ const WORDS: &[Spoken<'_>] = &[
     (&["check", "a.pony", "b"], 2, USAGE),
     (&["judge", "a.pony"], 2, USAGE),
     (&["judge", "a.pony", "a.der", "b"], 2, USAGE),
-    // A word that begins with `-` is an option, unless it stands behind `--`.
+    // A word that begins with `-` is an option, unless it comes after `--`.
     (&["check", "-x"], 2, USAGE),
     (&["check", "--help"], 2, USAGE),
     (&["check", "--", "-x"], 9, b"-x: cannot be read\n"),

@@ -26,10 +26,10 @@ actor Main
     A(env.out, \"b\")
 ";
 
-/// A seed or a count, a source, and what stands on out.
+/// A seed or a count, a source, and what is on out.
 type Chosen<'a> = (&'a str, &'a [u8], &'a [u8]);
 
-// This is told of each of these numbers and sources.
+// This is reported for each of these numbers and sources.
 fn all_chosen(rt: &impl Abort, alloc: Global, command: &str, rows: &[Chosen<'_>]) {
     for at in 0..rows.len() {
         let (number, source, out) = rows[at];
@@ -38,12 +38,12 @@ fn all_chosen(rt: &impl Abort, alloc: Global, command: &str, rows: &[Chosen<'_>]
     }
 }
 
-// Main of PRINTS has 10 steps, of which the ninth sends, and the stream one; Main of READERS has 43, each of its two readers 29,
-// of which the 28th sends, and the stream one for each text.
+// Main of PRINTS has 10 steps, of which the ninth sends, and the stream one; Main of READERS has 43, each of its two
+// readers 29, of which the 28th sends, and the stream one for each text.
 const SCHEDULED: &[Chosen<'_>] = &[
-    // A round begins with Main, who alone is able, and no higher one is in it; the next begins with the stream.
+    // A round begins with Main, the only able actor, and there is no higher one in it; the next begins with the stream.
     ("0", PRINTS, b"1*10 0\n"),
-    // The draws are place 0 and count 63, and place 0 and count 44, and each time one actor alone is able.
+    // The draws are place 0 and count 63, and place 0 and count 44, and each time only one actor is able.
     ("1", PRINTS, b"1*10 0\n"),
     // The count of the first turn is 58. The number has as many digits as a seed may have.
     ("18446744073709551615", PRINTS, b"1*10 0\n"),
@@ -76,7 +76,8 @@ const PLAYED: &[Chosen<'_>] = &[
         ENDLESS,
         b"steps 1000000 skipped 0 actors 2 objects 3 waiting 0\n",
     ),
-    // Main and 94,999 more have a turn of six steps each, in which they make an actor. The last one that is made has none.
+    // Main and 94,999 more each have a turn of six steps, in which they make an actor. The last one that is made has
+    // none.
     (
         "0",
         CHAIN,
@@ -100,7 +101,7 @@ fn a_play_ends_at_a_text_that_is_too_long(rt: HostRuntime) {
     assert!(rt; answers(rt.alloc(), &["play", "a.pony", "0"], DOUBLES, b"", TOO_LONG));
 }
 
-// Whether a run by the line that was written answers what was played.
+// Whether a run by the line that was written has the same result as the play.
 fn runs_as(alloc: Global, source: &[u8], line: &Done, played: &Done) -> bool {
     match run(
         alloc,
@@ -173,8 +174,8 @@ fn table_ends(alloc: Global, count: &str, end: &[u8]) -> bool {
     }
 }
 
-// By round robin Main comes first, and then the actors in the order in which they were made. Other seeds have them in the other
-// order, which is the last of the table.
+// By round robin Main comes first, and then the actors in the order in which they were made. Other seeds have them in
+// the opposite order, which is the last entry of the table.
 #[test]
 fn a_table_shows_both_outcomes(rt: HostRuntime) {
     let alloc = rt.alloc();

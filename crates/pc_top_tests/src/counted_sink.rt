@@ -1,10 +1,10 @@
-//! A sink that counts what is asked of it.
+//! A sink that counts its calls.
 ghost use Rattle.std.specs.Prelude.{Some};
 
 use pc_io::{MemSink, Sink, SinkFault};
 use std::alloc::{AllocError, Global};
 
-/// A sink in memory that counts the calls of `put`: also those with an empty piece, and those that fail.
+/// A sink in memory that counts the calls of `put`, including those with an empty piece and those that fail.
 #[derive(Drop)]
 pub(crate) struct CountedSink {
     sink: MemSink,
@@ -12,13 +12,13 @@ pub(crate) struct CountedSink {
 }
 
 impl CountedSink {
-    /// An empty sink, of which these calls fail, each after so many bytes of its piece.
+    /// An empty sink for which these calls fail, each after this many bytes of its piece.
     pub(crate) fn new(alloc: Global, fail: &[(u32, u32)]) -> Result<CountedSink, AllocError> {
         let sink = MemSink::new(alloc, fail)?;
         Ok(CountedSink { sink, calls: 0 })
     }
 
-    /// All bytes that were put so far.
+    /// All bytes that have been put so far.
     pub(crate) fn bytes(&self) -> &[u8] {
         self.sink.bytes()
     }

@@ -61,7 +61,7 @@ const RUNS: &[Told<'_>] = &[
     (HELLO, b"1*10 0", HELLO_TOLD),
     // Steps that are skipped have no line, and count in no clock.
     (HELLO, b"7*2 1*10 0", LATER_TOLD),
-    // What was sent and is not taken has the line of its sending alone.
+    // What was sent and not taken only has the line of its sending.
     (
         HELLO,
         b"1*9",

@@ -1,4 +1,5 @@
-//! `explain` on whole programs: what is said of a source that is refused, and which sources are refused here as well.
+//! `explain` on whole programs: what is reported of a source that is refused, and which sources are refused here as
+//! well.
 
 use crate::limit_cases::with_fields;
 use crate::rows::{CHECK, Failure, NONE, Refused, USAGE, all_fail, all_refused, refuses, tells};
@@ -12,7 +13,7 @@ const EXPLAIN: &[&str] = &["explain", "a.pony"];
 /// A program that is accepted.
 const FINE: &[u8] = b"class C\nactor Main\n  new create(env: Env) =>\n    let a: C iso = C\n";
 
-/// A node that meets no rule: an `iso` would have a second name.
+/// A node at which no rule holds: an `iso` would have a second name.
 const SECOND_NAME: &[u8] = b"\
 class C
 actor Main
@@ -112,7 +113,7 @@ const EXPLAINED: &[Explained<'_>] = &[
     (UNKNOWN, 4, UNKNOWN_LINE, UNKNOWN_LINES),
 ];
 
-// Whether the explanation of a source is a text that was made.
+// Whether the explanation of a source is a text that was built.
 fn tells_made(alloc: Global, source: &[u8], text: Result<Vec<u8>, AllocError>) -> bool {
     match text {
         Ok(text) => tells(alloc, EXPLAIN, source, b"", &text),
@@ -126,7 +127,7 @@ fn is_explained(alloc: Global, row: &Explained<'_>) -> bool {
         && tells_made(alloc, row.0, joined(alloc, &[row.2, row.3]))
 }
 
-// Each of these sources is explained so.
+// Each of these sources has its explanation.
 fn all_explained(rt: &impl Abort, alloc: Global, rows: &[Explained<'_>]) {
     for at in 0..rows.len() {
         assert!(rt; is_explained(alloc, &rows[at]), "row {at}");
@@ -143,7 +144,7 @@ const REFUSED: &[Refused<'_>] = &[
     (b"", b"", 3, b"a.pony:1:1: unexpected\n"),
 ];
 
-// Whether a source that was made is refused with 8 and this line, by `check` and here.
+// Whether a source that was built is refused with 8 and this line, by `check` and here.
 fn passes_limit(alloc: Global, source: Result<Vec<u8>, AllocError>, line: &[u8]) -> bool {
     match source {
         Ok(source) => {

@@ -1,4 +1,4 @@
-//! Commands of which one read or one write fails: what they answer, and what is written until then.
+//! Commands in which one read or one write fails: their answers, and what is written until then.
 
 use crate::rows::{CHECK, Failure, NONE, fails_with};
 use crate::running::stored;
@@ -11,23 +11,24 @@ const RUN_D: &[&str] = &["run", "d.pony", "s"];
 
 const CHECK_E: &[&str] = &["check", "e.pony"];
 
-// Whether a command on a source, in the file that its second word names, and on the schedule `s` does what a row says.
+// Whether a command on a source, in the file that its second word names, and on the schedule `s` does what a row
+// states.
 fn fails(alloc: Global, words: &[&str], source: &[u8], schedule: &[u8], row: &Failure<'_>) -> bool {
     let name = words.get(1).copied().unwrap_or("");
     let files = stored(alloc, (name, source), ("s", schedule), row.0);
     fails_with(alloc, words, files, row)
 }
 
-// The schedule is what is read second.
+// The schedule is read second.
 const UNREAD: Failure<'_> = (2, NONE, NONE, 9, b"", b"s: cannot be read\n");
 
-// The text was written whole, and of the numbers two bytes.
+// The text was written in full, and two bytes of the numbers.
 const NUMBERS: Failure<'_> = (0, (2, 2), NONE, 10, b"hi\nst", b"");
 
-// The line of the refusal is cut, and the status is not that of the refusal.
+// The line of the refusal is cut off, and the status is not that of the refusal.
 const LINE: Failure<'_> = (0, NONE, (1, 3), 10, b"", b"e.p");
 
-// The run is cut by a text that is too long, and then out fails: err does not get the line.
+// The run is cut off by a text that is too long, and then out fails: err does not get the line.
 const RUN_CUT: Failure<'_> = (0, (1, 1), NONE, 10, b"g", b"");
 
 const DERIVATION: Failure<'_> = (0, (1, 4), NONE, 10, b"rcap", b"");
@@ -38,7 +39,7 @@ fn one_read_or_one_write_fails(rt: HostRuntime) {
     assert!(rt; fails(alloc, RUN_HI, HELLO, b"1*10 0", &UNREAD));
     assert!(rt; fails(alloc, RUN_HI, HELLO, b"1*10 0", &NUMBERS));
     assert!(rt; fails(alloc, CHECK_E, b"", b"", &LINE));
-    // The text doubles until it is too long, behind the one that is printed.
+    // The text doubles until it is too long, after the one that is printed.
     assert!(rt; fails(alloc, RUN_D, DOUBLES, b"1*9 0 1*1000", &RUN_CUT));
     assert!(rt; fails(alloc, CHECK, ONE_OBJECT, b"", &DERIVATION));
 }

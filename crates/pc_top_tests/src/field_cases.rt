@@ -1,4 +1,4 @@
-//! `check` and `judge` on fields: what may be written, what a write gives, and that all are set.
+//! `check` and `judge` on fields: what may be written, what a write returns, and that all are set.
 
 use crate::rows::{Ending, all_end, all_end_within};
 

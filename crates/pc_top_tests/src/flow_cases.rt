@@ -6,7 +6,7 @@ use crate::running::{Done, is_done, run};
 use crate::texts::joined;
 use std::alloc::{AllocError, Global};
 
-/// A local that was consumed takes a new value.
+/// A local that was consumed gets a new value.
 const REFILLED: &[u8] = b"\
 class C
 actor Main
@@ -18,7 +18,7 @@ actor Main
 ";
 
 const FLOWS: &[Ending<'_>] = &[
-    // What one branch consumes is gone behind both.
+    // What one branch consumes is gone after both.
     (
         b"    let a: C iso = C\n    if true then let b: C iso = consume a end\n",
         0,
@@ -29,7 +29,7 @@ const FLOWS: &[Ending<'_>] = &[
         1,
         b"a.pony:6:20: no rule\n",
     ),
-    // A turn of a loop leaves what the next one needs.
+    // A round of a loop leaves what the next one needs.
     (
         b"    var a: C iso = C\n    while true do let b: C iso = consume a end\n",
         1,
@@ -40,7 +40,7 @@ const FLOWS: &[Ending<'_>] = &[
         0,
         b"",
     ),
-    // A `recover` reaches only what may be sent, and of `this` its `tag`.
+    // A `recover` only reaches what may be sent, and of `this` its `tag`.
     (
         b"    let a: C ref = C\n    let b: C iso = recover let d: C ref = a; d end\n",
         1,
@@ -60,7 +60,7 @@ fn flow_is_accepted_or_refused(rt: HostRuntime) {
     all_end_within(&rt, alloc, (OPEN, b""), FLOWS);
 }
 
-// A derivation with a definition in place of its first assignment; of one without an assignment, nothing.
+// A derivation with a definition instead of its first assignment; nothing if there is no assignment.
 fn with_definition(alloc: Global, derivation: &[u8]) -> Result<Vec<u8>, AllocError> {
     match std::str::from_utf8(derivation)
         .unwrap_or("")
@@ -73,7 +73,8 @@ fn with_definition(alloc: Global, derivation: &[u8]) -> Result<Vec<u8>, AllocErr
     }
 }
 
-// Whether a source was checked, and its derivation with a definition in place of its first assignment is refused so.
+// Whether a source was checked, and its derivation with a definition instead of its first assignment is refused with
+// this line.
 fn definition_is_refused(
     alloc: Global,
     source: &[u8],
@@ -91,7 +92,7 @@ fn definition_is_refused(
 
 #[test]
 fn another_rule_in_a_derivation_is_named(rt: HostRuntime) {
-    // Three nodes of the class's constructor and five of Main's stand before the assignment.
+    // Three nodes of the class's constructor and five of Main's come before the assignment.
     let checked = run(rt.alloc(), CHECK, REFILLED, b"");
     assert!(rt; definition_is_refused(rt.alloc(), REFILLED, checked, b"a.der: node 8\n"));
 }

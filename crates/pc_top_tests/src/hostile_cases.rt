@@ -23,13 +23,13 @@ const DERIVATIONS: &[Refused<'_>] = &[
     (ONE_OBJECT, b"rcap-derivation 1 0 0\n", 6, b"a.der: shape\n"),
 ];
 
-// Whether a derivation is refused so without its last two bytes.
+// Whether a derivation is refused with this line if its last two bytes are missing.
 fn shorter_is_refused(alloc: Global, derivation: &[u8], err: &[u8]) -> bool {
     let shorter = &derivation[..derivation.len().saturating_sub(2)];
     refuses(alloc, JUDGE, ONE_OBJECT, shorter, (5, err))
 }
 
-// Whether a derivation is refused with a line more, and without its last two bytes.
+// Whether a derivation is refused with one more line, and without its last two bytes.
 fn others_are_refused(alloc: Global, derivation: &[u8]) -> bool {
     let longer = joined(alloc, &[derivation, b"\n"]);
     refuses_made(
@@ -41,7 +41,7 @@ fn others_are_refused(alloc: Global, derivation: &[u8]) -> bool {
     ) && shorter_is_refused(alloc, derivation, b"a.der:12: bad line\n")
 }
 
-// Whether `ONE_OBJECT` was checked, and what was written is refused so.
+// Whether `ONE_OBJECT` was checked, and what was written is refused in this way.
 fn derived_is_refused(alloc: Global, checked: Result<Done, AllocError>) -> bool {
     match checked {
         Ok(done) => is_done(&done) && others_are_refused(alloc, done.out.bytes()),

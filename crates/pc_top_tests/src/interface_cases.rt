@@ -1,4 +1,4 @@
-//! `check`, `judge` and `run` where an entity is below an interface by its methods.
+//! `check`, `judge` and `run` if an entity is below an interface by its methods.
 
 use crate::programs::IDLE;
 use crate::rows::{Ending, RUN, all_end_within, ends, tells};
@@ -10,15 +10,15 @@ const MAIN: &[u8] = b"actor Main\n  new create(env: Env) =>\n    let n: Named = 
 const BELOW: &[Ending<'_>] = &[
     // The class has the method.
     (b"\n  fun name(): String => \"dog\"\n", 0, b""),
-    // It gives another entity.
+    // It returns another entity.
     (b"\n  fun name(): U64 => 1\n", 1, b"a.pony:7:5: no rule\n"),
-    // It asks for a receiver that may write.
+    // It requires a receiver that may write.
     (
         b"\n  fun ref name(): String => \"dog\"\n",
         1,
         b"a.pony:7:5: no rule\n",
     ),
-    // It takes a parameter more.
+    // It takes one more parameter.
     (
         b"\n  fun name(n: U64): String => \"dog\"\n",
         1,
@@ -30,13 +30,13 @@ const BELOW: &[Ending<'_>] = &[
         1,
         b"a.pony:7:5: no rule\n",
     ),
-    // It names the interface, and lacks its method.
+    // It names the interface, but lacks its method.
     (
         b" is Named\n  fun names(): String => \"dog\"\n",
         1,
         b"a.pony:3:7: method missing\n",
     ),
-    // It names the interface, and asks for a receiver that may write.
+    // It names the interface, but requires a receiver that may write.
     (
         b" is Named\n  fun ref name(): String => \"dog\"\n",
         1,

@@ -1,7 +1,7 @@
 //! Tests of the program's commands on whole texts, with files and sinks in memory.
 //!
-//! Only tested, and said by no contract: that memory is there; that each text and each line is one call of `put`, and that
-//! none follows a call that failed.
+//! Only tested, and stated by no contract: that memory suffices; that each text and each line is one call of `put`, and
+//! that none follows a call that failed.
 #![tactic(auto)]
 
 #[cfg(test)]

@@ -1,4 +1,4 @@
-//! Limits: the largest input that is taken, and the smallest that is not, each at its number and one past it.
+//! Limits: the largest input that is taken, and the smallest that is not, each at its limit and one past it.
 
 use crate::programs::IDLE;
 use crate::rows::{JUDGE, RUN, Refused, all_refused, made_ends, refuses, refuses_made, tells};
@@ -11,7 +11,7 @@ fn add_classes(alloc: Global, source: &mut Vec<u8>, count: usize) -> Result<(), 
     source.extend_from_slice(IDLE)
 }
 
-// So many classes, and a Main behind them.
+// This many classes, followed by a Main.
 fn with_classes(alloc: Global, count: usize) -> Result<Vec<u8>, AllocError> {
     let mut source: Vec<u8> = Vec::new(alloc);
     add_classes(alloc, &mut source, count)?;
@@ -26,7 +26,7 @@ fn a_file_may_have_so_many_entities(rt: HostRuntime) {
     assert!(rt; made_ends(alloc, with_classes(alloc, 1_000), 8, more));
 }
 
-// Adds an entity with so many methods.
+// Adds an entity with this many methods.
 fn add_entity(
     alloc: Global,
     source: &mut Vec<u8>,
@@ -52,8 +52,8 @@ fn add_97_classes(alloc: Global, source: &mut Vec<u8>) -> Result<(), AllocError>
     Ok(())
 }
 
-// Adds a trait of a hundred methods and one that takes them over, the classes, a class with so many methods, and a Main:
-// 9,902 methods and those of the last class.
+// Adds a trait of a hundred methods and one that takes them over, the classes, a class with this many methods, and a
+// Main: 9,902 methods and those of the last class.
 fn add_methods(alloc: Global, source: &mut Vec<u8>, last: usize) -> Result<(), AllocError> {
     add_entity(alloc, source, b"trait T\n", 100, b"()\n")?;
     source.extend_from_slice(b"trait U is T\n")?;
@@ -62,7 +62,7 @@ fn add_methods(alloc: Global, source: &mut Vec<u8>, last: usize) -> Result<(), A
     source.extend_from_slice(IDLE)
 }
 
-// A source of so many methods.
+// A source with this many methods.
 fn with_methods(alloc: Global, last: usize) -> Result<Vec<u8>, AllocError> {
     let mut source: Vec<u8> = Vec::new(alloc);
     add_methods(alloc, &mut source, last)?;
@@ -98,17 +98,17 @@ fn an_entity_may_have_so_many_fields(rt: HostRuntime) {
     assert!(rt; made_ends(alloc, with_fields(alloc, 65), 8, more));
 }
 
-// Adds a class whose 99 constructors have 2,000 nodes each: the 1,995 of the field's initial value, a sum of 998 ones, a write
-// of the field with its `this`, None, a sequence and a body. Its method has 1,997, of which 1,995 are such a sum. Behind the
-// class stands a Main whose body is a sequence with what is given; with the sequence and the body themselves that is two
-// nodes more.
+// Adds a class whose 99 constructors have 2,000 nodes each: the 1,995 of the field's initial value, a sum of 998 ones,
+// a write of the field with its `this`, None, a sequence and a body. Its method has 1,997, of which 1,995 are such a
+// sum. After the class comes a Main whose body is a sequence with what is given; with the sequence and the body
+// themselves that is two nodes more.
 fn add_nodes(alloc: Global, source: &mut Vec<u8>, main: &[u8]) -> Result<(), AllocError> {
     add_repeated(source, b"class C\n  var f: U64 = 1", b" + 1", 997, b"\n")?;
     add_numbered(alloc, source, b"  new c", 99, b"() => None\n")?;
     add_repeated(source, b"  fun sum(): U64 => 1", b" + 1", 997, main)
 }
 
-// A source of so many nodes.
+// A source with this many nodes.
 fn with_nodes(alloc: Global, main: &[u8]) -> Result<Vec<u8>, AllocError> {
     let mut source: Vec<u8> = Vec::new(alloc);
     add_nodes(alloc, &mut source, main)?;
@@ -194,13 +194,13 @@ fn a_schedule_may_have_so_many_turns(rt: HostRuntime) {
     assert!(rt; refuses(alloc, RUN, HELLO, b"1*1000001", (8, err)));
 }
 
-// A Main that prints a text of so many bytes with one more behind it.
+// A Main that prints a text of this many bytes joined with one more.
 fn with_joined(alloc: Global, size: usize) -> Result<Vec<u8>, AllocError> {
     let before = b"actor Main\n  new create(env: Env) => env.out.print(\"";
     repeated(alloc, before, b"x", size, b"\" + \"x\")\n")
 }
 
-// Whether a source that was made prints a text that was made.
+// Whether a source that was built prints a text that was built.
 fn prints(
     alloc: Global,
     source: Result<Vec<u8>, AllocError>,
@@ -212,7 +212,7 @@ fn prints(
     }
 }
 
-// Whether a source that was made ends with a text that is too long.
+// Whether a source that was built ends with a text that is too long.
 fn is_too_long(alloc: Global, source: Result<Vec<u8>, AllocError>) -> bool {
     let err = b"a.sched: text too long at step 8\n";
     match source {

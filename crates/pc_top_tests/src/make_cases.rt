@@ -16,7 +16,7 @@ const TWO: &[&str] = &["make", "0", "2"];
 const TWO_OUT: &[u8] =
     b"seed 0 size 2 nodes 47\n585\nsteps 93 skipped 1110 actors 4 objects 6 waiting 0\n";
 
-// Zeros may stand first, up to twenty digits and to three.
+// There may be leading zeros, up to twenty digits and to three.
 const ZEROS: &[&str] = &["make", "00000000000000000000", "001"];
 
 const LARGE: &[&str] = &["make", "2147483648", "1"];
@@ -64,7 +64,7 @@ const SEEDS: &[&str] = &[
     "0", "1", "2", "3", "4", "5", "6", "7", "8", "9", "10", "11", "12", "13", "14", "15",
 ];
 
-// Whether a program was made and run, with these first words on out, and each text that it sent was printed.
+// Whether a program was generated and run, with these first words on out, and each text that it sent was printed.
 fn is_made(done: Result<Done, AllocError>, words: Result<Vec<u8>, AllocError>) -> bool {
     match (done, words) {
         (Ok(done), Ok(words)) => {
@@ -76,7 +76,7 @@ fn is_made(done: Result<Done, AllocError>, words: Result<Vec<u8>, AllocError>) -
     }
 }
 
-// Whether the program of a seed and a size is made and run, where these are the files.
+// Whether the program for a seed and a size is generated and run, with these files.
 fn makes(alloc: Global, seed: &str, size: &str, files: Result<MemFiles, AllocError>) -> bool {
     let parts: [&[u8]; 5] = [
         b"seed ",

@@ -134,7 +134,7 @@ fn add_locals(alloc: Global, source: &mut Vec<u8>, count: usize) -> Result<(), A
     add_numbered(alloc, source, b"    let a", count, b": C tag = C\n")
 }
 
-// A Main whose body defines so many locals, each on a line of its own.
+// A Main whose body defines this many locals, each on a line of its own.
 fn with_locals(alloc: Global, count: usize) -> Result<Vec<u8>, AllocError> {
     let mut source: Vec<u8> = Vec::new(alloc);
     add_locals(alloc, &mut source, count)?;
@@ -149,7 +149,7 @@ fn a_method_may_have_so_many_slots(rt: HostRuntime) {
     assert!(rt; made_ends(alloc, with_locals(alloc, 63), 8, more));
 }
 
-// A Main that has a text of so many bytes as its body.
+// A Main with a text of this many bytes as its body.
 fn with_text(alloc: Global, size: usize) -> Result<Vec<u8>, AllocError> {
     let before = b"actor Main\n  new create(env: Env) => \"";
     repeated(alloc, before, b"x", size, b"\"\n")

@@ -48,8 +48,8 @@ n seq 2 0 69 103 7 10
 n body 2 0 45 51 11
 ";
 
-/// A class takes over a method from the second of two traits, of which the first one comes after it in the text. The bodies of the two
-/// have a local of one name. `check` refuses it, since a number is no text.
+/// A class takes over a method from the second of two traits, of which the first comes after it in the text. The bodies
+/// of the two have a local with the same name. `check` refuses it, since a number is not a text.
 const TAKEN: &[u8] = b"\
 trait Greets
   fun hello(): U64 => let /* no name */ x: U64 = 1
@@ -103,7 +103,7 @@ n body 4 0 121 127 11
 fn places_are_told(rt: HostRuntime) {
     let alloc = rt.alloc();
     assert!(rt; tells(alloc, PLACES, CELL, b"", CELL_PLACES));
-    // Names are those of the trait's text, also where they come after a comment.
+    // Names are those of the trait's text, even if they come after a comment.
     assert!(rt; tells(alloc, PLACES, TAKEN, b"", TAKEN_PLACES));
 }
 

@@ -13,10 +13,10 @@ n seq - 3 0 0 0\nn body - 3 0 0 0\n";
 /// A Main that does nothing.
 pub(crate) const IDLE: &[u8] = b"actor Main\n  new create(env: Env) => None\n";
 
-/// A class, and a Main whose items come behind.
+/// A class, and a Main whose items are to follow.
 pub(crate) const OPEN: &[u8] = b"class C\nactor Main\n  new create(env: Env) =>\n";
 
-/// Numbers that wrap, and a quotient by nothing.
+/// Numbers that wrap, and a quotient by zero.
 pub(crate) const NUMBERS: &[u8] = b"\
 actor Main
   new create(env: Env) =>

@@ -1,4 +1,4 @@
-//! How each command writes: what is one call of `put`, and what becomes of a command when one of its calls fails.
+//! How each command writes: what is one call of `put`, and what a command does if one of its calls fails.
 
 use crate::counted_sink::CountedSink;
 use crate::programs::{FIRST, SECOND};
@@ -12,8 +12,8 @@ use pc_top::rcap;
 use std::alloc::{AllocError, Global};
 use std::process::Abort;
 
-/// A command on the source `a.pony` and on what stands in `other`, and what it writes: its pieces on out, each by one call
-/// of `put`, and its line on err, which is empty where there is none.
+/// A command on the source `a.pony` and on the text in `other`, and what it writes: its pieces on out, each in one call
+/// of `put`, and its line on err, which is empty if there is none.
 #[derive(Clone, Copy)]
 struct Writing<'a> {
     words: &'a [&'a str],
@@ -24,7 +24,7 @@ struct Writing<'a> {
     line: &'a [u8],
 }
 
-/// What a command did: its status, what stands on out and err, and how often each was called.
+/// What a command did: its status, what is on out and err, and how many calls each had.
 #[derive(Drop)]
 struct Written {
     status: u8,
@@ -32,7 +32,7 @@ struct Written {
     err: CountedSink,
 }
 
-/// What stands on a sink, and how often it was called.
+/// What is on a sink, and how many calls it had.
 type Called<'a> = (&'a [u8], u32);
 
 const JUDGE: &[&str] = &["judge", "a.pony", "other"];
@@ -192,7 +192,7 @@ fn status_of(
     rcap(alloc, words, files, out, err, &mut Rules)
 }
 
-// Runs a command on these files, of which these calls of `put` fail.
+// Runs a command on these files, with these calls of `put` failing.
 fn write_on(
     alloc: Global,
     words: &[&str],
@@ -205,14 +205,14 @@ fn write_on(
     Ok(Written { status, out, err })
 }
 
-// Runs a command, of which these calls of `put` fail.
+// Runs a command, with these calls of `put` failing.
 fn write(alloc: Global, writing: &Writing<'_>, failing: Failing) -> Result<Written, AllocError> {
     let source = ("a.pony", writing.source);
     let mut files = stored(alloc, source, ("other", writing.other), 0)?;
     write_on(alloc, writing.words, &mut files, failing)
 }
 
-// Whether a sink has this text, and was called so often.
+// Whether a sink has this text, and had this many calls.
 fn is_called(sink: &CountedSink, called: Called<'_>) -> bool {
     sink.bytes() == called.0 && sink.calls() == called.1
 }
@@ -253,8 +253,8 @@ fn cut_at(alloc: Global, pieces: &[&[u8]], at: usize) -> Result<Vec<u8>, AllocEr
     Ok(text)
 }
 
-// Whether, where one call of `put` on out is not taken but for a byte, this text stands on out, nothing more is written there,
-// and nothing is written to err.
+// Whether, if one call of `put` on out only takes one byte, this text is on out, nothing more is written there, and
+// nothing is written to err.
 fn is_cut(
     alloc: Global,
     writing: &Writing<'_>,
@@ -271,13 +271,13 @@ fn is_cut(
     }
 }
 
-// Whether this is so of the call with the piece at a place, with the pieces before it.
+// Whether this holds for the call with the piece at a place, with the pieces before it.
 fn piece_fails(alloc: Global, writing: &Writing<'_>, at: usize) -> bool {
     let text = cut_at(alloc, writing.pieces, at);
     is_cut(alloc, writing, number_at(at), text)
 }
 
-// Whether this is so of each piece in turn.
+// Whether this holds for each piece in turn.
 fn pieces_fail(alloc: Global, writing: &Writing<'_>) -> bool {
     for at in 0..writing.pieces.len() {
         if !piece_fails(alloc, writing, at) {
@@ -287,14 +287,14 @@ fn pieces_fail(alloc: Global, writing: &Writing<'_>) -> bool {
     true
 }
 
-// Whether, where nothing fails, these pieces are on out, and the line is one call.
+// Whether, if nothing fails, these pieces are on out, and the line is one call.
 fn line_stands(alloc: Global, writing: &Writing<'_>, out: Called<'_>) -> bool {
     let calls = u32::from(!writing.line.is_empty());
     let written = write(alloc, writing, NOTHING);
     left(written, writing.status, out, (writing.line, calls))
 }
 
-// Whether, where the line is not taken but for two bytes, these pieces are on out, and the two bytes on err.
+// Whether, if only two bytes of the line are taken, these pieces are on out, and the two bytes on err.
 fn line_fails(alloc: Global, writing: &Writing<'_>, out: Called<'_>) -> bool {
     let failing = Failing {
         out: (0, 0),
@@ -304,7 +304,7 @@ fn line_fails(alloc: Global, writing: &Writing<'_>, out: Called<'_>) -> bool {
     left(write(alloc, writing, failing), 10, out, (part, 1))
 }
 
-// Whether, where no piece fails, this text is on out by so many calls, and the line, if there is one, is one call.
+// Whether, if no piece fails, this text is on out in this many calls, and the line, if there is one, is one call.
 fn text_stands(
     alloc: Global,
     writing: &Writing<'_>,
@@ -320,18 +320,18 @@ fn text_stands(
     }
 }
 
-// Whether each piece is one call, and the line.
+// Whether each piece and the line are one call each.
 fn whole_stands(alloc: Global, writing: &Writing<'_>) -> bool {
     let calls = u32::try_from(writing.pieces.len()).unwrap_or(u32::MAX);
     text_stands(alloc, writing, joined(alloc, writing.pieces), calls)
 }
 
-// Whether a command writes so.
+// Whether a command writes like this.
 fn writes(alloc: Global, writing: &Writing<'_>) -> bool {
     pieces_fail(alloc, writing) && whole_stands(alloc, writing)
 }
 
-// Each of these commands writes so.
+// Each of these commands writes like this.
 fn all_write(rt: &impl Abort, alloc: Global, cases: &[Writing<'_>]) {
     for at in 0..cases.len() {
         assert!(rt; writes(alloc, &cases[at]), "row {at}");

@@ -1,4 +1,4 @@
-//! What `judge` asks a referee that keeps what it was asked; other commands ask nothing.
+//! What `judge` asks a referee that records its questions; other commands ask nothing.
 
 use crate::rows::{CHECK, JUDGE, UPGRADE};
 use crate::running::files_of;
@@ -20,8 +20,8 @@ const RIGHT: &[u8] = b"n new 6 iso^ 3 0 3 0\n";
 
 const WRONG: &[u8] = b"n new 6 ref 3 0 3 0\n";
 
-/// The words of a command on `ONE_OBJECT` and its derivation, a line of the derivation, the status, and how many nodes the
-/// referee is asked of.
+/// The words of a command on `ONE_OBJECT` and its derivation, a line of the derivation, the status, and how many nodes
+/// the referee is asked about.
 type Asking = (&'static [&'static str], &'static [u8], u8, usize);
 
 const ASKED: &[Asking] = &[
@@ -56,7 +56,7 @@ fn ask(
     Ok(status_of(alloc, words, files, &mut out, &mut err, referee))
 }
 
-// Whether so many nodes were asked of, whose numbers count up from 0.
+// Whether this many nodes were asked about, with numbers that count up from 0.
 fn was_asked(referee: &ListReferee, count: usize) -> bool {
     let asked = referee.asked().as_slice();
     for at in 0..asked.len() {
@@ -67,14 +67,14 @@ fn was_asked(referee: &ListReferee, count: usize) -> bool {
     asked.len() == count
 }
 
-// Whether a command on these files has this status, and the referee was asked of so many nodes.
+// Whether a command on these files has this status, and the referee was asked about this many nodes.
 fn asks_on(alloc: Global, words: &[&str], files: &mut MemFiles, status: u8, count: usize) -> bool {
     let mut referee = ListReferee::new(alloc);
     let answer = ask(alloc, words, files, &mut referee);
     answer == Ok(status) && was_asked(&referee, count)
 }
 
-// The same, where these are the files.
+// The same with these files.
 fn asks_with(
     alloc: Global,
     words: &[&str],
@@ -88,7 +88,7 @@ fn asks_with(
     }
 }
 
-// The same, where this is the derivation.
+// The same with this derivation.
 fn asks_of(
     alloc: Global,
     words: &[&str],
@@ -105,7 +105,7 @@ fn asks_of(
     }
 }
 
-// Each of these commands asks so.
+// Each of these commands asks as stated.
 fn all_ask(rt: &impl Abort, alloc: Global, rows: &[Asking]) {
     for at in 0..rows.len() {
         let (words, line, status, count) = rows[at];

@@ -1,5 +1,5 @@
-//! Rows of tables: what is given to a command, and what it is to do. Where a row is answered otherwise, the test ends with the
-//! place of the first such row.
+//! Rows of tables: what is given to a command, and what it should do. If the result of a row differs, the test ends
+//! with the place of the first such row.
 
 use crate::running::{Done, Failing, Wanted, files_of, is_done, is_wanted, run, run_on};
 use crate::texts::joined;
@@ -22,27 +22,27 @@ pub(crate) const RUN: &[&str] = &["run", "a.pony", "a.sched"];
 /// The line of words that are refused.
 pub(crate) const USAGE: &[u8] = b"usage: rcap COMMAND ARGUMENT ...\n";
 
-/// A source, and the status and the line on err at which it ends. With status 0 it is checked, and what is written then is
-/// accepted; with another one it is refused when it is checked.
+/// A source, and the status and the line on err with which it ends. With status 0 it is checked, and what is written
+/// then is accepted; with any other status it is refused when it is checked.
 pub(crate) type Ending<'a> = (&'a [u8], u8, &'a [u8]);
 
-/// The words of a command, and the status and the line on err at which it ends.
+/// The words of a command, and the status and the line on err with which it ends.
 pub(crate) type Spoken<'a> = (&'a [&'a str], u8, &'a [u8]);
 
-/// A source, what stands in the other files, and what stands on out behind a command that is done.
+/// A source, the contents of the other files, and what is on out after a command that is done.
 pub(crate) type Told<'a> = (&'a [u8], &'a [u8], &'a [u8]);
 
-/// A source, what stands in the other files, and the status and the line on err at which a command is refused that writes
-/// nothing on out.
+/// A source, the contents of the other files, and the status and the line on err with which a command is refused that
+/// writes nothing on out.
 pub(crate) type Refused<'a> = (&'a [u8], &'a [u8], u8, &'a [u8]);
 
-/// The reading, the write on out and the write on err that fail, and the status, and what stands on out and on err.
+/// The read, the write on out and the write on err that fail, and the status, and what is on out and on err.
 pub(crate) type Failure<'a> = (u32, (u32, u32), (u32, u32), u8, &'a [u8], &'a [u8]);
 
 /// No write fails.
 pub(crate) const NONE: (u32, u32) = (0, 0);
 
-// Whether a command was run, and did what is wanted.
+// Whether a command was run, and did what it should.
 fn did(run: Result<Done, AllocError>, wanted: Wanted<'_>) -> bool {
     match run {
         Ok(done) => is_wanted(&done, wanted),
@@ -50,7 +50,7 @@ fn did(run: Result<Done, AllocError>, wanted: Wanted<'_>) -> bool {
     }
 }
 
-/// Whether a command on a source and the other text does what is wanted.
+/// Whether a command on a source and the other text does what it should.
 pub(crate) fn answers(
     alloc: Global,
     words: &[&str],
@@ -93,7 +93,7 @@ pub(crate) fn refuses(
     answers(alloc, words, source, other, wanted)
 }
 
-/// Whether a command on a source and a text that was made ends with this status and line, and writes nothing on out.
+/// Whether a command on a source and a text that was built ends with this status and line, and writes nothing on out.
 pub(crate) fn refuses_made(
     alloc: Global,
     words: &[&str],
@@ -117,7 +117,7 @@ fn is_accepted(alloc: Global, source: &[u8], checked: Result<Done, AllocError>) 
     }
 }
 
-/// Whether a source ends so.
+/// Whether a source ends with this status and line.
 pub(crate) fn ends(alloc: Global, source: &[u8], status: u8, err: &[u8]) -> bool {
     if status == 0 && err.is_empty() {
         is_accepted(alloc, source, run(alloc, CHECK, source, b""))
@@ -126,7 +126,7 @@ pub(crate) fn ends(alloc: Global, source: &[u8], status: u8, err: &[u8]) -> bool
     }
 }
 
-/// Whether a source that was made ends so.
+/// Whether a source that was built ends with this status and line.
 pub(crate) fn made_ends(
     alloc: Global,
     source: Result<Vec<u8>, AllocError>,
@@ -139,7 +139,7 @@ pub(crate) fn made_ends(
     }
 }
 
-/// Each of these sources ends so between what stands before and behind it.
+/// Each of these sources ends as stated, between the given beginning and end.
 pub(crate) fn all_end_within(
     rt: &impl Abort,
     alloc: Global,
@@ -153,12 +153,12 @@ pub(crate) fn all_end_within(
     }
 }
 
-/// Each of these sources ends so.
+/// Each of these sources ends as stated.
 pub(crate) fn all_end(rt: &impl Abort, alloc: Global, rows: &[Ending<'_>]) {
     all_end_within(rt, alloc, (b"", b""), rows);
 }
 
-/// Each of these commands on a source ends so, and writes nothing on out.
+/// Each of these commands on a source ends as stated, and writes nothing on out.
 pub(crate) fn all_words_end(rt: &impl Abort, alloc: Global, source: &[u8], rows: &[Spoken<'_>]) {
     for at in 0..rows.len() {
         let (words, status, err) = rows[at];
@@ -169,7 +169,7 @@ pub(crate) fn all_words_end(rt: &impl Abort, alloc: Global, source: &[u8], rows:
     }
 }
 
-/// A command writes this for each of these texts.
+/// A command writes what is stated for each of these texts.
 pub(crate) fn all_told(rt: &impl Abort, alloc: Global, words: &[&str], rows: &[Told<'_>]) {
     for at in 0..rows.len() {
         let (source, other, out) = rows[at];
@@ -177,7 +177,7 @@ pub(crate) fn all_told(rt: &impl Abort, alloc: Global, words: &[&str], rows: &[T
     }
 }
 
-/// A command is refused so for each of these texts.
+/// A command is refused as stated for each of these texts.
 pub(crate) fn all_refused(rt: &impl Abort, alloc: Global, words: &[&str], rows: &[Refused<'_>]) {
     for at in 0..rows.len() {
         let (source, other, status, err) = rows[at];
@@ -188,7 +188,7 @@ pub(crate) fn all_refused(rt: &impl Abort, alloc: Global, words: &[&str], rows: 
     }
 }
 
-// Whether a command on these files does what a row says, but for the reading that fails.
+// Whether a command on these files does what a row states, except for the read that fails.
 fn fails_on(alloc: Global, words: &[&str], files: &mut MemFiles, row: &Failure<'_>) -> bool {
     let failing = Failing {
         out: row.1,
@@ -202,7 +202,7 @@ fn fails_on(alloc: Global, words: &[&str], files: &mut MemFiles, row: &Failure<'
     did(run_on(alloc, words, files, failing), wanted)
 }
 
-/// Whether a command on files that were made does what a row says.
+/// Whether a command on files that were built does what a row states.
 pub(crate) fn fails_with(
     alloc: Global,
     words: &[&str],
@@ -215,7 +215,7 @@ pub(crate) fn fails_with(
     }
 }
 
-/// A command on a source and the other text does this behind each of these failures.
+/// A command on a source and the other text does what is stated after each of these failures.
 pub(crate) fn all_fail(
     rt: &impl Abort,
     alloc: Global,

@@ -1,4 +1,4 @@
-//! `check` and `judge` on the conditions of the rules: for each a source that meets it, or one that does not.
+//! `check` and `judge` on the conditions of the rules: for each, a source that meets it, or one that does not.
 
 use crate::programs::{IDLE, OPEN};
 use crate::rows::{Ending, all_end_within};
@@ -23,7 +23,7 @@ const TYPES: &[Ending<'_>] = &[
     (b"    if 1 then None end\n", 1, NO_RULE),
     (b"    while 1 do None end\n", 1, NO_RULE),
     (b"    let a: U64 = true\n", 1, NO_RULE),
-    // Without an `else` the branch that is not there gives None.
+    // Without an `else`, the missing branch gives None.
     (b"    let a: U64 = if true then 1 end\n", 1, NO_RULE),
     (b"    let a: U64 = if true then 1 else 2 end\n", 0, b""),
 ];
@@ -33,7 +33,7 @@ fn parts_have_the_types_that_are_asked(rt: HostRuntime) {
     all_end_within(&rt, rt.alloc(), (OPEN, b""), TYPES);
 }
 
-// A `let` has one value. What is `val` comes out of a `recover` as it is, and as nothing that may write.
+// A `let` has one value. What is `val` comes out of a `recover` unchanged, and as nothing that may write.
 const LOCALS: &[Ending<'_>] = &[
     (b"    var a: U64 = 1\n    a = 2\n", 0, b""),
     (
@@ -59,7 +59,7 @@ const FIELDS: &[u8] =
 
 const NO_FIELD: &[u8] = b"a.pony:7:5: no rule\n";
 
-// Through which capability a field is read and written; a `let` field is written by no one else.
+// Through which capability a field is read and written; a `let` field cannot be written from outside.
 const ORIGINS: &[Ending<'_>] = &[
     (b"    let d: D ref = D\n    d.m = 2\n", 0, b""),
     (b"    let d: D ref = D\n    d.n = 2\n", 1, NO_FIELD),
@@ -76,7 +76,7 @@ fn fields_are_read_and_written_through_what_may(rt: HostRuntime) {
 
 const UNSET: &[u8] = b"class D\n  var n: U64\n  let m: U64\n  new create() =>\n";
 
-// What an object that is not whole yet may be asked: its set fields, and who it is.
+// What can be done with an object that is not finished yet: its set fields can be read, and its identity used.
 const UNFINISHED: &[Ending<'_>] = &[
     (b"    n = 1\n    m = n\n", 0, b""),
     (b"    m = n\n    n = 1\n", 1, b"a.pony:5:9: no rule\n"),
@@ -126,7 +126,7 @@ const CALLING: &[u8] =
 
 const NO_CALL: &[u8] = b"a.pony:7:5: no rule\n";
 
-// A receiver that is `iso` is recovered for a call that asks for `ref`.
+// A receiver that is `iso` is recovered for a call that requires `ref`.
 const RECEIVERS: &[Ending<'_>] = &[
     (b"    let d: D box = D\n    d.f()\n", 0, b""),
     (b"    let d: D box = D\n    d.g()\n", 1, NO_CALL),

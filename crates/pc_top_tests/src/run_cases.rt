@@ -1,4 +1,4 @@
-//! `run` on whole programs: what is written by which schedule, and what is refused.
+//! `run` on whole programs: what is written under which schedule, and what is refused.
 
 use crate::programs::NUMBERS;
 use crate::rows::{
@@ -41,7 +41,7 @@ const RUNS: &[Told<'_>] = &[
         b"",
         b"steps 0 skipped 0 actors 2 objects 3 waiting 1\n",
     ),
-    // No other actor takes the turn of one that is not there.
+    // No other actor takes the turn of one that does not exist.
     (
         HELLO,
         b"7*5",
@@ -122,7 +122,7 @@ fn runs_are_refused(rt: HostRuntime) {
     assert!(rt; answers(alloc, RUN, DOUBLES, b"1*9 0 1*1000", TOO_LONG));
 }
 
-// Whether a schedule that was made moves nothing.
+// Whether a schedule that was built moves nothing.
 fn moves_nothing(alloc: Global, schedule: Result<Vec<u8>, AllocError>) -> bool {
     let out = b"steps 0 skipped 0 actors 2 objects 3 waiting 1\n";
     match schedule {
@@ -149,7 +149,7 @@ const FAILURES: &[Failure<'_>] = &[
     (2, NONE, NONE, 9, b"", b"a.sched: cannot be read\n"),
 ];
 
-// What was printed is there, and of the line a part.
+// What was printed is there, and part of the line.
 const PARTS: &[Failure<'_>] = &[(0, NONE, (1, 7), 10, b"go\n", b"a.sched")];
 
 #[test]

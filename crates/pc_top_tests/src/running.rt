@@ -1,12 +1,12 @@
-//! Commands on files and sinks in memory: what they do, and whether it is what is wanted.
+//! Commands on files and sinks in memory: what they do, and whether it is what they should.
 
 use pc_io::{MemFiles, MemSink};
 use pc_referee::Rules;
 use pc_top::rcap;
 use std::alloc::{AllocError, Global};
 
-/// A write on out and one on err that fail, each by its number and by how many bytes it takes before. Calls are counted
-/// from 1, so 0 is none.
+/// A write on out and one on err that fail, each by its number and by how many bytes it takes first. Calls are counted
+/// from 1, so 0 means none.
 #[derive(Clone, Copy)]
 pub(crate) struct Failing {
     pub out: (u32, u32),
@@ -19,7 +19,7 @@ pub(crate) const NOTHING: Failing = Failing {
     err: (0, 0),
 };
 
-/// The status, and what stands on out and err.
+/// The status, and what is on out and err.
 #[derive(Clone, Copy)]
 pub(crate) struct Wanted<'a> {
     pub status: u8,
@@ -27,7 +27,7 @@ pub(crate) struct Wanted<'a> {
     pub err: &'a [u8],
 }
 
-/// What a command did: its status, and what stands on out and err.
+/// What a command did: its status, and what is on out and err.
 #[derive(Drop)]
 pub(crate) struct Done {
     pub status: u8,
@@ -41,7 +41,7 @@ fn add_texts(files: &mut MemFiles, source: &[u8], other: &[u8]) -> Result<(), Al
     files.add("a.sched", other)
 }
 
-/// The source `a.pony`, and the other text in `a.der` and in `a.sched`, of which one reading fails.
+/// The source `a.pony`, and the other text in `a.der` and in `a.sched`, with one read failing.
 pub(crate) fn files_of(
     alloc: Global,
     source: &[u8],
@@ -61,7 +61,7 @@ fn add_two(files: &mut MemFiles, source: Stored<'_>, other: Stored<'_>) -> Resul
     files.add(other.0, other.1)
 }
 
-/// A source and another file, of which one reading fails.
+/// A source and another file, with one read failing.
 pub(crate) fn stored(
     alloc: Global,
     source: Stored<'_>,
@@ -84,7 +84,7 @@ fn status_of(
     rcap(alloc, words, files, out, err, &mut Rules)
 }
 
-/// Runs a command on these files, of which these writes fail.
+/// Runs a command on these files, with these writes failing.
 pub(crate) fn run_on(
     alloc: Global,
     words: &[&str],
@@ -97,7 +97,7 @@ pub(crate) fn run_on(
     Ok(Done { status, out, err })
 }
 
-/// Runs a command on a source and the other text, where nothing fails.
+/// Runs a command on a source and the other text, with nothing failing.
 pub(crate) fn run(
     alloc: Global,
     words: &[&str],
@@ -108,12 +108,12 @@ pub(crate) fn run(
     run_on(alloc, words, &mut files, NOTHING)
 }
 
-/// Whether what a command did is what is wanted.
+/// Whether a command did what it should.
 pub(crate) fn is_wanted(done: &Done, wanted: Wanted<'_>) -> bool {
     done.status == wanted.status && done.out.bytes() == wanted.out && done.err.bytes() == wanted.err
 }
 
-/// Whether the status is 0, and nothing stands on err.
+/// Whether the status is 0, and nothing is on err.
 pub(crate) fn is_done(done: &Done) -> bool {
     done.status == 0 && done.err.bytes().is_empty()
 }

@@ -16,7 +16,8 @@ actor Main
   new create(env: Env) => A().go()
 ";
 
-/// A call on an interface, and one on a trait: what conforms to them by its methods may be meant, a trait by its name or not.
+/// A call on an interface, and one on a trait: it may reach whatever conforms to them by its methods, whether it names
+/// the trait or not.
 const SHAPES: &[u8] = b"\
 interface tag Runs
   be go()
@@ -37,7 +38,7 @@ actor Main
   new other() => None
 ";
 
-/// A function that sends, of a class that is made; another of one that is not.
+/// A function that sends, of a class that is instantiated; and another of one that is not.
 const CLASSES: &[u8] = b"\
 class C
   fun say(out: OutStream) => out.print(\"c\")
@@ -83,7 +84,7 @@ Main sends Teller.deposit\nMain sends Teller.withdraw\nMain sends Teller.report\
 never B.create\nnever Main.other\n",
     ),
     (CLASSES, b"", b"C sends OutStream.print\n"),
-    // It is the entity that took the method over that sends; traits send nothing.
+    // The entity that took over the method is the one that sends; traits send nothing.
     (
         TAKEN,
         b"",
@@ -91,7 +92,7 @@ never B.create\nnever Main.other\n",
 never B.create\nnever B.beat\n",
     ),
     (HELLO, b"", b"Main sends OutStream.print\n"),
-    // Where nothing is sent, the text is empty.
+    // If nothing is sent, the text is empty.
     (b"actor Main\n  new create(env: Env) => None\n", b"", b""),
 ];
 
@@ -125,7 +126,7 @@ const FAILURES: &[Failure<'_>] = &[
     (1, NONE, NONE, 9, b"", b"a.pony: cannot be read\n"),
     (0, (1, 0), NONE, 10, b"", b""),
     (0, (1, 10), NONE, 10, b"Main sends", b""),
-    // There is no second call on out, of which a failure would be told.
+    // There is no second call on out whose failure would be reported.
     (
         0,
         (2, 0),

@@ -1,4 +1,4 @@
-//! `swap` on whole programs: which turns of a schedule change places, and which stay.
+//! `swap` on whole programs: which turns of a schedule are exchanged, and which keep their order.
 
 use crate::rows::{Failure, NONE, USAGE, all_fail, refuses, tells};
 use pc_test_inputs::programs::{DOUBLES, HELLO, READERS};
@@ -16,7 +16,7 @@ actor Main
     B().make()
 ";
 
-/// The place of a turn, a source, its schedule, and what stands on out.
+/// The place of a turn, a source, its schedule, and what is on out.
 type Swapped<'a> = (&'a str, &'a [u8], &'a [u8], &'a [u8]);
 
 const SWAPPED: &[Swapped<'_>] = &[
@@ -47,7 +47,7 @@ const SWAPPED: &[Swapped<'_>] = &[
     ("156", DOUBLES, b"1*155 0 1", b"kept: not moved\n"),
 ];
 
-// This is told of each of these turns.
+// This is reported for each of these turns.
 fn all_swapped(rt: &impl Abort, alloc: Global, rows: &[Swapped<'_>]) {
     for at in 0..rows.len() {
         let (place, source, schedule, out) = rows[at];
@@ -89,7 +89,7 @@ const UNSWAPPED: &[Unswapped<'_>] = &[
     ),
 ];
 
-// Each of these turns is refused so.
+// Each of these turns is refused as stated.
 fn all_unswapped(rt: &impl Abort, alloc: Global, rows: &[Unswapped<'_>]) {
     for at in 0..rows.len() {
         let (place, source, schedule, status, err) = rows[at];

@@ -1,8 +1,8 @@
-//! Texts that are made for the tests.
+//! Texts that are built for the tests.
 
 use std::alloc::{AllocError, Global};
 
-// Adds these parts, one behind the other.
+// Adds these parts, one after another.
 fn add_all(text: &mut Vec<u8>, parts: &[&[u8]]) -> Result<(), AllocError> {
     for part in parts {
         text.extend_from_slice(part)?;
@@ -10,14 +10,14 @@ fn add_all(text: &mut Vec<u8>, parts: &[&[u8]]) -> Result<(), AllocError> {
     Ok(())
 }
 
-/// These parts, one behind the other.
+/// These parts, one after another.
 pub(crate) fn joined(alloc: Global, parts: &[&[u8]]) -> Result<Vec<u8>, AllocError> {
     let mut text: Vec<u8> = Vec::new(alloc);
     add_all(&mut text, parts)?;
     Ok(text)
 }
 
-// Adds the same text so many times.
+// Adds the same text this many times.
 fn add_times(text: &mut Vec<u8>, part: &[u8], times: usize) -> Result<(), AllocError> {
     for _ in 0..times {
         text.extend_from_slice(part)?;
@@ -25,7 +25,7 @@ fn add_times(text: &mut Vec<u8>, part: &[u8], times: usize) -> Result<(), AllocE
     Ok(())
 }
 
-/// Adds the same text so many times between what stands before and behind it.
+/// Adds the same text this many times, between the given beginning and end.
 pub(crate) fn add_repeated(
     text: &mut Vec<u8>,
     before: &[u8],
@@ -38,7 +38,7 @@ pub(crate) fn add_repeated(
     text.extend_from_slice(behind)
 }
 
-/// The same text so many times between what stands before and behind it.
+/// The same text this many times, between the given beginning and end.
 pub(crate) fn repeated(
     alloc: Global,
     before: &[u8],
@@ -56,7 +56,7 @@ fn add_number(alloc: Global, text: &mut Vec<u8>, number: usize) -> Result<(), Al
     text.extend_from_slice(digits.as_bytes())
 }
 
-/// Adds so many texts, each with its number between two others.
+/// Adds this many texts, each with its number between two others.
 pub(crate) fn add_numbered(
     alloc: Global,
     text: &mut Vec<u8>,
@@ -72,7 +72,7 @@ pub(crate) fn add_numbered(
     Ok(())
 }
 
-/// So many spaces.
+/// This many spaces.
 pub(crate) fn spaces(alloc: Global, size: usize) -> Result<Vec<u8>, AllocError> {
     vec![in alloc; b' '; size]
 }

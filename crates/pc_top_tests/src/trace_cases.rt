@@ -5,7 +5,7 @@ use pc_test_inputs::programs::{DOUBLES, HELLO};
 
 const TRACE: &[&str] = &["trace", "a.pony", "a.sched"];
 
-/// Two actors would write one field, if the source were accepted.
+/// Two actors would write the same field if the source were accepted.
 const UNSENDABLE: &[u8] = b"\
 class C
   var n: U64 = 0
@@ -26,7 +26,7 @@ actor Main
     while true do A end
 ";
 
-/// A constructor that writes two fields, of which the second is read.
+/// A constructor that writes two fields, the second of which is read.
 const WRITES: &[u8] = b"\
 class C
   let a: U64 = 1
@@ -99,7 +99,7 @@ const FAILURES: &[Failure<'_>] = &[
     (2, NONE, NONE, 9, b"", b"a.sched: cannot be read\n"),
     (0, (1, 0), NONE, 10, b"", b""),
     (0, (1, 8), NONE, 10, b"8 1 read", b""),
-    // There is no second call on out, of which a failure would be told.
+    // There is no second call on out whose failure would be reported.
     (
         0,
         (2, 0),

@@ -26,13 +26,13 @@ fn a_class_runs_the_body_of_a_trait(rt: HostRuntime) {
     let alloc = rt.alloc();
     let out = b"hello\nsteps 22 skipped 0 actors 2 objects 4 waiting 0\n";
     assert!(rt; tells(alloc, RUN, GREETS, b"1*21 0", out));
-    // The name is looked up in the class, and stands in the trait.
+    // The name is looked up in the class, and is written in the trait.
     let err = b"a.pony:2:25: name unknown\n";
     assert!(rt; refuses(alloc, RUN, UNKNOWN, b"1*21 0", (4, err)));
 }
 
 const BODIES: &[Ending<'_>] = &[
-    // Nothing takes over a body with an unknown name, or of another type than the result.
+    // Nothing takes over a body with an unknown name, or with another type than the result.
     (b"trait T\n  fun f() => zz\n", 0, b""),
     (b"interface I\n  fun f(): U64 => true\n", 0, b""),
     // A class takes it over.
@@ -41,13 +41,13 @@ const BODIES: &[Ending<'_>] = &[
         1,
         b"a.pony:2:7: no rule\n",
     ),
-    // A field is seen from the body, of which the trait knows nothing.
+    // The body uses a field that the trait knows nothing about.
     (
         b"trait T\n  fun f(): U64 => n\nclass C is T\n  let n: U64 = 1\n",
         0,
         b"",
     ),
-    // A method without a body has to be written in the class, and a body stands for one.
+    // A method without a body must be written in the class, and a body can stand for one.
     (
         b"trait T\n  fun f(): U64\nclass C is T\n",
         1,
@@ -58,7 +58,7 @@ const BODIES: &[Ending<'_>] = &[
         0,
         b"",
     ),
-    // A behaviour with a body is in an actor, and no class has it.
+    // A behaviour with a body can be in an actor, but not in a class.
     (b"trait tag T\n  be b() => None\nactor A is T\n", 0, b""),
     (
         b"trait T\n  be b() => None\nclass C is T\n",

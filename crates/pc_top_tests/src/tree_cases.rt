@@ -15,7 +15,7 @@ actor Main
     let b: U64 = 1 + 2 * 3
 ";
 
-/// The same behind a number that is too large.
+/// The same after a number that is too large.
 const TOO_LARGE: &[u8] = b"\
 actor Main
   new create(env: Env) =>
@@ -95,7 +95,7 @@ fn is_named(out: &[u8], line: &[u8]) -> bool {
     out.is_empty() && line.starts_with(b"a.pony:") && line.ends_with(b"\n")
 }
 
-// Whether a derivation is on out and nothing on err, or the other way round a line.
+// Whether a derivation is on out and nothing on err, or a line on err and nothing on out.
 fn is_told(done: &Done) -> bool {
     let line = done.err.bytes();
     match done.status {
@@ -105,7 +105,8 @@ fn is_told(done: &Done) -> bool {
     }
 }
 
-// Whether a source was checked, and it ended in one of the statuses of its text, with what belongs to it.
+// Whether a source was checked, and the command ended with one of the statuses of its text, and with what belongs to
+// it.
 fn ended_told(checked: Result<Done, AllocError>) -> bool {
     match checked {
         Ok(done) => is_told(&done),
@@ -113,7 +114,7 @@ fn ended_told(checked: Result<Done, AllocError>) -> bool {
     }
 }
 
-// Each prefix of a source, by its length, ends so.
+// Each prefix of a source, by its length, ends in this way.
 fn all_prefixes_end(rt: &impl Abort, alloc: Global, source: &[u8]) {
     for length in 0..=source.len() {
         let checked = run(alloc, CHECK, &source[..length], b"");

@@ -1,4 +1,4 @@
-//! `upgrade`: a derivation written anew in version 2 of its text, and what is refused.
+//! `upgrade`: a derivation rewritten in version 2 of its text, and what is refused.
 
 use crate::programs::{FIRST, SECOND};
 use crate::rows::{
@@ -11,22 +11,22 @@ use pc_test_inputs::programs::{BANK, CHAIN, HELLO, ONE_OBJECT};
 use std::alloc::{AllocError, Global};
 use std::process::Abort;
 
-/// The derivation of `ONE_OBJECT` with a version that there is not.
+/// The derivation of `ONE_OBJECT` with a version that does not exist.
 const THIRD: &[u8] = b"rcap-derivation 3 4 7\ns 6 ref\ns 7 ref\ns 4 val\ns 6 iso\n\
 n prim 0 val 1 0 0 0\nn seq 0 val 1 0 0 0\nn body - 1 0 0 0\nn new 6 iso^ 3 0 0 0\nn define - 3 0 4 0\n\
 n seq - 3 0 0 0\nn body - 3 0 0 0\n";
 
-/// The same in version 2, but for the type of `env`.
+/// The same in version 2, except for the type of `env`.
 const WRONG_SLOT: &[u8] = b"rcap-derivation 2 4 7\ns 6 ref\ns 7 ref\ns 4 box\ns 6 iso\n\
 n prim 0 val 1 0 0 0\nn seq 0 val 1 0 0 0\nn body - 1 0 0 0\nn new 6 iso^ 3 0 0 0\nn define - 3 0 4 0\n\
 n seq - 3 0 0 0\nn body - 3 0 0 0\n";
 
-/// The masks of version 1 behind the first line of version 2.
+/// The masks of version 1 after the first line of version 2.
 const WRONG_NODE: &[u8] = b"rcap-derivation 2 4 7\ns 6 ref\ns 7 ref\ns 4 val\ns 6 iso\n\
 n prim 0 val 1 0 1 0\nn seq 0 val 1 0 1 0\nn body - 1 0 1 0\nn new 6 iso^ 3 0 3 0\nn define - 3 0 7 0\n\
 n seq - 3 0 3 0\nn body - 3 0 3 0\n";
 
-/// The bodies of a trait stand in a class and in an actor, with their own fields and methods.
+/// The bodies of a trait in a class and in an actor, with their own fields and methods.
 const TAKEN: &[u8] = b"\
 trait tag Names
   fun name(): String => _name + of()
@@ -39,7 +39,7 @@ actor Main is Names
   fun of(): String => \" of all\"
 ";
 
-/// A constructor that sets no field, and its derivation, of which each node meets its rule.
+/// A constructor that sets no field, and its derivation, in which each node meets its rule.
 const UNSET: &[u8] =
     b"class C\n  let f: U64\n  new create() => None\nactor Main\n  new create(env: Env) => None\n";
 
@@ -57,14 +57,14 @@ fn derivations_are_written_in_version_2(rt: HostRuntime) {
     assert!(rt; tells(alloc, JUDGE, ONE_OBJECT, SECOND, b"accepted\n"));
 }
 
-// Whether a derivation of a source is in version 2, is accepted, and is written anew as itself.
+// Whether a derivation of a source is in version 2, is accepted, and is rewritten as itself.
 fn stays(alloc: Global, source: &[u8], second: &[u8]) -> bool {
     second.starts_with(b"rcap-derivation 2 ")
         && tells(alloc, JUDGE, source, second, b"accepted\n")
         && tells(alloc, UPGRADE, source, second, second)
 }
 
-// Whether a derivation of a source was upgraded, and what was written stays.
+// Whether a derivation of a source was upgraded, and what was written stays the same.
 fn is_upgraded(alloc: Global, source: &[u8], upgraded: Result<Done, AllocError>) -> bool {
     match upgraded {
         Ok(done) => is_done(&done) && stays(alloc, source, done.out.bytes()),
@@ -72,7 +72,7 @@ fn is_upgraded(alloc: Global, source: &[u8], upgraded: Result<Done, AllocError>)
     }
 }
 
-// Whether a source was checked, its derivation is upgraded, and what is written then stays.
+// Whether a source was checked, its derivation is upgraded, and what is written then stays the same.
 fn is_derived(alloc: Global, source: &[u8], checked: Result<Done, AllocError>) -> bool {
     match checked {
         Ok(done) => {
@@ -83,7 +83,7 @@ fn is_derived(alloc: Global, source: &[u8], checked: Result<Done, AllocError>) -
     }
 }
 
-// Whether the derivation of a source is upgraded, and what is written then stays.
+// Whether the derivation of a source is upgraded, and what is written then stays the same.
 fn is_derived_and_upgraded(alloc: Global, source: &[u8]) -> bool {
     is_derived(alloc, source, run(alloc, CHECK, source, b""))
 }
@@ -96,13 +96,13 @@ fn what_is_written_is_accepted_and_stays(rt: HostRuntime) {
     assert!(rt; is_derived_and_upgraded(rt.alloc(), TAKEN));
 }
 
-// Whether `judge` and `upgrade` refuse this source with this derivation alike, and write nothing.
+// Whether `judge` and `upgrade` both refuse this source with this derivation, and write nothing.
 fn both_refuse(alloc: Global, source: &[u8], derivation: &[u8], refusal: (u8, &[u8])) -> bool {
     refuses(alloc, JUDGE, source, derivation, refusal)
         && refuses(alloc, UPGRADE, source, derivation, refusal)
 }
 
-// `judge` and `upgrade` are refused so for each of these texts.
+// `judge` and `upgrade` refuse each of these texts as stated.
 fn all_refused_by_both(rt: &impl Abort, alloc: Global, rows: &[Refused<'_>]) {
     all_refused(rt, alloc, JUDGE, rows);
     all_refused(rt, alloc, UPGRADE, rows);
@@ -124,7 +124,7 @@ const SOURCES: &[Refused<'_>] = &[
         4,
         b"a.pony:2:14: name unknown\n",
     ),
-    // A declaration is looked at with the annotation.
+    // A declaration is looked at together with the annotation.
     (UNSENDABLE, b"", 5, b"a.der:1: bad line\n"),
 ];
 
@@ -212,7 +212,7 @@ fn words_ask_for_upgrade(rt: HostRuntime) {
     all_words_end(&rt, rt.alloc(), ONE_OBJECT, WORDS);
 }
 
-// Whether a source that was made, with the first derivation, is refused so.
+// Whether a source that was built is refused in this way, with the first derivation.
 fn made_source_is_refused(
     alloc: Global,
     source: Result<Vec<u8>, AllocError>,
@@ -254,11 +254,11 @@ fn upgraded_files_may_have_so_many_bytes(rt: HostRuntime) {
 const FAILURES: &[Failure<'_>] = &[
     (1, NONE, NONE, 9, b"", b"a.pony: cannot be read\n"),
     (2, NONE, NONE, 9, b"", b"a.der: cannot be read\n"),
-    // The derivation is one reading.
+    // The derivation is one read.
     (3, NONE, NONE, 0, SECOND, b""),
     (0, (1, 0), NONE, 10, b"", b""),
     (0, (1, 17), NONE, 10, b"rcap-derivation 2", b""),
-    // There is no second call on out, of which a failure would be told.
+    // There is no second call on out whose failure would be reported.
     (0, (2, 0), NONE, 0, SECOND, b""),
 ];
 

@@ -1,4 +1,4 @@
--- The places of a field, one after the other, and what stands for all earlier accesses.
+-- The places of a field, one after another, and what represents all earlier accesses.
 use Rattle.std.specs.Prelude.{◌≡◌, ◌≢◌, ◌⊎◌, ◌<◌, ◌≤◌, ℕ, zero, suc, ◌+◌, max, true, false, List, [], ◌∷◌, ◌++◌, length, get_or, Option, Some, None, slice_get, refl}
 use Rattle.std.proofs.Common.{inl, inr, ap, sym, subst, ◌∙◌, arith}
 use Rattle.std.proofs.lemmas.Option.{same_Some}
@@ -238,7 +238,7 @@ module _ (touches : List Touch) (rises : Rises touches) (at : ℕ) (rows : RowLi
       apart : (b m n : ℕ) → suc b ≤ m → m ≤ n → n ≤ b → ⊥
       apart b m n x y z = omega (arith, x, y, z)
 
-  -- ---- behind the access
+  -- ---- after the access
 
   module _ (kept : List ℕ) (h : KeptOf touches row (length row) p kept) (next : RowList) (own : row_of next (spot_of p) ≡ kept ++ at ∷ []) (others : (s : Spot) → s ≢ spot_of p → row_of next s ≡ row_of rows s) where
     own_has : (m : ℕ) → Has kept m → Has (row_of next (spot_of p)) m

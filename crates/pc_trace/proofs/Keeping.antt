@@ -1,4 +1,4 @@
--- An event keeps what the clocks count.
+-- After an event, the clocks still count what they should.
 use Rattle.std.specs.Prelude.{◌≡◌, ◌≢◌, ◌<◌, ◌≤◌, ℕ, zero, suc, ◌+◌, true, false, List, [], ◌∷◌, ◌++◌, length, drop, Option, Some, slice_get, IfSome, refl}
 use Rattle.std.proofs.Common.{inl, inr, ap, sym, subst, ◌∙◌, arith}
 use Rattle.std.proofs.lemmas.Option.{same_Some, none-some}
@@ -22,7 +22,7 @@ use Rattle.pc_events.proofs.Pasts.{Taken, counts_same, counts_none, counts_event
 use Rattle.pc_trace.specs.Turns.{Acts, Receives, Posts, Born, Follows}
 use Rattle.pc_trace.specs.Keeps.{LetterKeeps, SeatKeeps, Keeps}
 
--- The kept clocks behind an event, and that of its actor.
+-- The kept clocks after an event, and the one of its actor.
 pub record Behind (core : CoreData) (list : List ℕ) (k i : ℕ) (seats : List Seat) : Type 0 where
   pub keeps : Keeps core list (suc k) seats
   pub width : length (clock_of seats i) ≡ length (at_place core list k).actors
@@ -122,7 +122,7 @@ module _ (core : CoreData) (list : List ℕ) (k i : ℕ) (live : Live core list 
   more_actors : length here.actors ≤ length next.actors
   more_actors = actors_by here next i kind moves.boxes
 
-  -- What two seats are that stand in one place, before and behind a change there.
+  -- How two seats at one place are related, before and after a change there.
   abbrev Pair : List Seat → List Seat → ℕ → (Seat → Seat → Type 0) → Type 0
   Pair old new r R = (s : Seat) × (t : Seat) × (slice_get old r ≡ Some s) × (slice_get new r ≡ Some t) × R s t
 

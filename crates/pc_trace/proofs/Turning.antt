@@ -1,4 +1,4 @@
--- A turn, by what its calls answer.
+-- A turn, by the results of its calls.
 use Rattle.std.specs.Prelude.{◌≡◌, ◌<◌, ◌≤◌, ℕ, ◌+◌, Bool, true, false, List, length, get_or, Option, Some, Ok, Err, slice_get}
 use Rattle.std.proofs.Common.{ap, sym, subst, ◌∙◌}
 use Rattle.pc_core.specs.CoreData.{CoreData}

@@ -93,7 +93,7 @@ module _ (core : CoreData) (list : List ℕ) (touches : List Touch) (noted : Not
   pub rises_told : (l : List Touch) → l ≡ touches → Rises l
   rises_told l is = subst Rises (sym is) rises
 
-  -- ---- what is told
+  -- ---- what is reported
 
   pub told : (l : List Touch) → l ≡ touches → (v : Verdict) → Judged l v → RanOn core list → RanOn core list × AllTouches core list touches × VerdictIs core list v
   told l is v judged ran = (ran, all_touches core list touches noted, verdict_is core list touches noted v (subst (λ (x : List Touch). Judged x v) is judged))

@@ -19,15 +19,15 @@ Known q p = number q.clock q.actor ≤ number p.clock q.actor
 abbrev pub Unknown : Touch → Touch → Type 0
 Unknown q p = Clash q p × (number p.clock q.actor < number q.clock q.actor)
 
--- Of these accesses all that clash with p and are after one place, and before another, are counted by the clock of p.
+-- The clock of p counts all of these accesses that clash with p, from one place on and before another.
 abbrev pub KnownBetween : List Touch → (from to : ℕ) → Touch → Type 0
 KnownBetween touches from to p = (m : ℕ) (q : Touch) → from ≤ m → m < to → slice_get touches m ≡ Some q → Clash q p → Known q p
 
--- All that clash with an access that is earlier than this place.
+-- Each access before this place counts all earlier ones that clash with it.
 abbrev pub KnownUpTo : List Touch → ℕ → Type 0
 KnownUpTo touches to = (n : ℕ) (p : Touch) → n < to → slice_get touches n ≡ Some p → KnownBetween touches 0 n p
 
--- The latest access before a place that clashes with p and is not counted.
+-- The latest access before a place that clashes with p and is not counted by it.
 pub record LatestUnknown (touches : List Touch) (to : ℕ) (p : Touch) (m : ℕ) : Type 0 where
   pub other : Touch
   pub below : m < to
@@ -35,12 +35,12 @@ pub record LatestUnknown (touches : List Touch) (to : ℕ) (p : Touch) (m : ℕ)
   pub unknown : Unknown other p
   pub later : KnownBetween touches (suc m) to p
 
--- What is found of the access at a place.
+-- What is found about the access at a place.
 abbrev pub Found : List Touch → ℕ → Option ℕ → Type 0
 Found touches at None = (p : Touch) → slice_get touches at ≡ Some p → KnownBetween touches 0 at p
 Found touches at (Some m) = (p : Touch) → slice_get touches at ≡ Some p → LatestUnknown touches at p m
 
--- The first access with one that it does not count, and the latest of these.
+-- The first access that does not count one it clashes with, and the latest of those.
 pub record FirstUnknown (touches : List Touch) (first second : ℕ) : Type 0 where
   pub at : ℕ
   pub from : ℕ

@@ -11,7 +11,8 @@ pub record LetterKeeps (core : CoreData) (list : List ℕ) (k a n : ℕ) (l : Li
   pub width : length l ≤ length (at_place core list k).actors
   pub post : Counts core list k (PostOf core list k a n) (number l)
 
--- The clock of actor a counts its own events and all that are before them; and for each message that waits there is a clock.
+-- The clock of actor a counts its own events and all that come before them; and there is a clock for each message that
+-- waits there.
 pub record SeatKeeps (core : CoreData) (list : List ℕ) (k a : ℕ) (s : Seat) : Type 0 where
   pub width : length s.clock ≤ length (at_place core list k).actors
   pub past : Counts core list k (PastOf core list k a) (number s.clock)
@@ -22,7 +23,7 @@ pub record Keeps (core : CoreData) (list : List ℕ) (k : ℕ) (seats : List Sea
   pub count : length seats ≡ length (at_place core list k).actors
   pub seat : (a : ℕ) (s : Seat) → slice_get seats a ≡ Some s → SeatKeeps core list k a s
 
--- ---- the start: nobody, or the stream and Main, for whom a message waits that no event sent
+-- ---- the start: no actors, or the stream and Main, for whom a message waits that no event sent
 
 abbrev pub first_seats : ℕ → List Seat
 first_seats zero = []

@@ -1,4 +1,4 @@
--- For each field some places in the list of accesses.
+-- Some places in the list of accesses for each field.
 use Rattle.std.specs.Prelude.{ℕ, Bool, ◌&&◌, nat_eq, List, [], Option, Some, None}
 use Rattle.std.specs.Map.{lookup}
 use Rattle.pc_trace.specs.declared.lasts.Spot.{Spot}

@@ -1,4 +1,4 @@
--- The accesses that were noted so far, and what their clocks count.
+-- The accesses that have been noted so far, and what their clocks count.
 use Rattle.std.specs.Prelude.{◌≡◌, ◌<◌, ℕ, suc, List, length, Some, slice_get}
 use Rattle.pc_core.specs.CoreData.{CoreData}
 use Rattle.pc_semantics.specs.declared.access.Access.{Access}
@@ -8,7 +8,7 @@ use Rattle.pc_events.specs.Before.{at_place, Event}
 use Rattle.pc_events.specs.Counting.{Counts, AtOrBefore}
 use Rattle.pc_trace.specs.declared.touch.Touch.{Touch}
 
--- The access of the event at place p. Its clock counts the events that are this one or before it.
+-- The access of the event at place p. Its clock counts this event and the events before it.
 pub record NotedAt (core : CoreData) (list : List ℕ) (p : ℕ) (t : Touch) : Type 0 where
   pub event : Event core list p t.actor
   pub touches : access core (at_place core list p) t.actor ≡ Some (record { address = t.address; field = t.field; write = t.write })

@@ -1,4 +1,4 @@
--- A run that is traced, under way.
+-- A run that is being traced.
 use Rattle.std.specs.Prelude.{◌≡◌, ◌≤◌, ◌+◌, ℕ, List, [], ◌∷◌, ◌++◌, length, Option, Some, None}
 use Rattle.std.specs.FinMap.{len}
 use Rattle.pc_core.specs.CoreData.{CoreData}

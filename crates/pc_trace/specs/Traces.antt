@@ -28,7 +28,7 @@ actor_limit = 64
 
 -- ---- accesses
 
--- The access is that of the event at place p, and the clock is the clock of this event.
+-- The access is the one of the event at place p, and the clock is the clock of this event.
 pub record TouchAt (core : CoreData) (list : List ℕ) (p : ℕ) (t : Touch) : Type 0 where
   pub event : Event core list p t.actor
   pub touches : access core (at_place core list p) t.actor ≡ Some (record { address = t.address; field = t.field; write = t.write })
@@ -42,21 +42,22 @@ pub record AllTouches (core : CoreData) (list : List ℕ) (touches : List Touch)
 
 -- ---- the verdict
 
--- The earlier event q conflicts with p, and is not before it.
+-- The earlier event q conflicts with p, and does not come before it.
 pub record Unordered (core : CoreData) (list : List ℕ) (q p : ℕ) : Type 0 where
   pub earlier : q < p
   pub conflict : Conflict core list q p
   pub not_before : Before core list q p → ⊥
 
--- Of the places in a list, before p and after q, all that conflict with p are before it.
+-- All events after q and earlier than p that conflict with p come before it.
 abbrev pub OrderedBetween : CoreData → List ℕ → (from to : ℕ) → Type 0
 OrderedBetween core list q p = (r : ℕ) → q < r → r < p → Conflict core list r p → Before core list r p
 
--- All events that conflict with one that is earlier than p.
+-- Conflicting events earlier than p are ordered.
 abbrev pub OrderedUpTo : CoreData → List ℕ → ℕ → Type 0
 OrderedUpTo core list p = (q r : ℕ) → q < r → r < p → Conflict core list q r → Before core list q r
 
--- Nothing is unordered; or p is the first event with an earlier one that is not ordered with it, and q the latest of these.
+-- Nothing is unordered; or p is the first event that is not ordered with some earlier one, and q is the latest of
+-- those.
 abbrev pub VerdictIs : CoreData → List ℕ → Verdict → Type 0
 VerdictIs core list verdict.Ordered = (q p : ℕ) → q < p → Conflict core list q p → Before core list q p
 VerdictIs core list (verdict.Conflict first second) =
@@ -64,7 +65,7 @@ VerdictIs core list (verdict.Conflict first second) =
 
 -- ---- the end of a trace
 
--- The run was not ended by a step, and made no more actors than a clock may speak of.
+-- No step ended the run, and it made no more actors than a clock may have numbers for.
 pub record RanOn (core : CoreData) (list : List ℕ) : Type 0 where
   pub goes_on : end_of (outcomes core list) ≡ None
   pub few : length (after core list).actors ≤ actor_limit
@@ -72,7 +73,7 @@ pub record RanOn (core : CoreData) (list : List ℕ) : Type 0 where
 abbrev pub IsTrace : CoreData → List ℕ → Trace → Type 0
 IsTrace core list t = RanOn core list × AllTouches core list t.touches × VerdictIs core list t.verdict
 
--- The step at this place makes an actor, and there are as many as there may be.
+-- The step at this place makes an actor, and there are as many actors as there may be.
 pub record TooManyAt (core : CoreData) (list : List ℕ) (n : ℕ) : Type 0 where
   pub p : ℕ
   pub i : ℕ

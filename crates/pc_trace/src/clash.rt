@@ -31,7 +31,7 @@ pub fn is_unknown(earlier: &Touch, later: &Touch) -> bool
         && count(&later.clock, earlier.actor) < count(&earlier.clock, earlier.actor)
 }
 
-// What is found of the access at a place, and the places that are kept after it.
+// What is found about the access at a place, and the places that are kept after it.
 fn look(
     alloc: Global,
     touches: &[Touch],

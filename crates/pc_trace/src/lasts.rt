@@ -28,7 +28,7 @@ pub fn field_spot(address: Address, field: u32) -> Spot
     }
 }
 
-/// For each field the places, in the list of accesses, of those that count.
+/// For each field, the places that matter in the list of accesses.
 #[derive(Drop)]
 pub struct Lasts {
     rows: HashMap<Spot, List<u32>>,
@@ -44,7 +44,7 @@ impl Model for Lasts {
 }
 
 impl Lasts {
-    /// No field was touched. It does not allocate.
+    /// No field has been touched. It does not allocate.
     pub fn new(alloc: Global) -> Lasts
         ensures { result ≡ [] }
     {
@@ -65,7 +65,7 @@ impl Lasts {
         }
     }
 
-    /// Other places for a field.
+    /// Replaces the places of a field.
     pub fn put(&mut self, spot: Spot, row: List<u32>) -> Result<(), AllocError>
         ensures row { OnOk result (row_of self.new spot ≡ row) }
         ensures others { OnOk result ((other : Spot) → other ≢ spot → row_of self.new other ≡ row_of self.old other) }

@@ -18,10 +18,10 @@ use pc_machine::{Machine, start};
 use pc_semantics::{Access, Ahead, Outcome};
 use std::alloc::{AllocError, Global};
 
-/// The greatest number of actors that a clock may have a number for. A run that would make one more is not traced to its end.
+/// The greatest number of actors in a clock. A run that would make one more is not traced to its end.
 pub const ACTOR_LIMIT: u32 = 64;
 
-// The clocks at the start of a program: nobody, or the stream and Main, for whom a message waits that no event sent.
+// The clocks at the start of a program: no actors, or the stream and Main, for whom a message waits that no event sent.
 fn first_seats(alloc: Global, actors: u32) -> Result<Seats, AllocError>
     ensures { IfOk result (λ seats. seats ≡ seats_at_start actors) }
 {
@@ -133,7 +133,7 @@ fn turn(
 /// The accesses of a run of a core, in order, with their clocks.
 ///
 /// # Errors
-/// - `TooLong` and `Lacks` iff a step of the list ends the run so, with its place, counted from 1.
+/// - `TooLong` and `Lacks` iff a step of the list ends the run in this way, with its place, counted from 1.
 /// - `TooMany` iff a step would make the 65th actor, with its place; the first of these three.
 /// - `Memory` if memory ran out.
 pub fn recorded(alloc: Global, core: &Core, list: &[u32]) -> Result<List<Touch>, TraceFault>

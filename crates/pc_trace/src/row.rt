@@ -10,7 +10,7 @@ use crate::touch::Touch;
 use pc_caps::List;
 use std::alloc::{AllocError, Global};
 
-// The later one of a place and the one that was found so far.
+// The later of a place and the one that was found so far.
 fn later(found: Option<usize>, place: usize) -> Option<usize>
     ensures { result ≡ further found place }
 {
@@ -50,14 +50,14 @@ pub fn latest_of(touches: &[Touch], row: &[u32], access: &Touch) -> Option<usize
     found
 }
 
-// Whether an access stands for an earlier one to the same field.
+// Whether an access represents an earlier one to the same field.
 fn replaces(access: &Touch, earlier: &Touch) -> bool
     ensures { Decides result (Replaces access.now earlier.now) }
 {
     access.actor == earlier.actor && (access.write || !earlier.write)
 }
 
-// One more place that stays, if the access does not stand for it.
+// One more place, which remains unless the access represents it.
 fn keep(
     touches: &[Touch],
     new: &mut List<u32>,
@@ -74,7 +74,7 @@ fn keep(
     }
 }
 
-/// The places that stay after an access.
+/// The places that remain after an access.
 pub fn kept_of(
     alloc: Global,
     touches: &[Touch],

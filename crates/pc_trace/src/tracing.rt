@@ -13,11 +13,11 @@ use pc_caps::List;
 use pc_core::Core;
 use std::alloc::Global;
 
-/// The accesses of a run of a core in order, each with its clock, and whether those that conflict are ordered. The core need not
-/// be safe. The list has at most 4,000,000 places.
+/// The accesses of a run of a core in order, each with its clock, and whether those that conflict are ordered. The core
+/// need not be safe. The list has at most 4,000,000 places.
 ///
 /// # Errors
-/// - `TooLong` and `Lacks` iff a step of the list ends the run so, with its place, counted from 1.
+/// - `TooLong` and `Lacks` iff a step of the list ends the run in this way, with its place, counted from 1.
 /// - `TooMany` iff a step would make the 65th actor, with its place. The first of these three counts.
 /// - `Memory` if memory ran out.
 pub fn trace(alloc: Global, core: &Core, list: &[u32]) -> Result<Trace, TraceFault>

@@ -41,13 +41,14 @@ const CONFLICT: Verdict = Verdict::Conflict {
     second: 40,
 };
 
-// The parameter of the constructor of `R`, which is method 2: `print` and the `create` added to `C` stand before it.
+// The parameter of the constructor of `R`, which is method 2, after `print` and the `create` added to `C`.
 const NOT_SENDABLE: DeclFault = DeclFault::NotSendable {
     method: 2,
     parameter: 0,
 };
 
-/// Main sends one object to two actors, which is not accepted: both write its field, and no message is between them.
+/// Main sends one object to two actors, which is not accepted: both write its field, and there is no message between
+/// them.
 #[test]
 fn two_writers_that_nothing_orders(rt: HostRuntime) {
     let verdict = verdict_of(rt.alloc(), WRITERS, &WRITERS_TURNS, &WRITERS_ROWS);
@@ -69,8 +70,8 @@ actor Main
     end
 ";
 
-/// Behind eight steps the loop takes 18 each time, and the ninth of them makes an actor. There are two at the start, so the
-/// 63rd time would make the 65th.
+/// After eight steps, each round of the loop takes 18, and the ninth of them makes an actor. There are two at the
+/// start, so the 63rd round would make the 65th.
 #[test]
 fn the_step_that_would_make_the_65th_actor_is_refused(rt: HostRuntime) {
     let fault = fault_of(rt.alloc(), MANY, &[(1, 2000)]);

@@ -12,14 +12,14 @@ use pc_test_inputs::core_of;
 use pc_trace::{AcceptedFault, Touch, Trace, TraceFault, Verdict, accepted_trace, trace};
 use std::alloc::Global;
 
-/// An actor, and how often it takes a turn.
+/// An actor, and how many turns it takes.
 pub type Turns = (u32, u32);
 
 /// An access to the first field of an object: its place in the run, its actor, the object's maker and serial, whether it
 /// writes, and its clock.
 pub type Row = (u64, u32, u32, u32, bool, &'static [u64]);
 
-// An actor takes so many turns more.
+// An actor takes this many more turns.
 fn push_turns(list: &mut Vec<u32>, actor: u32, times: u32) -> Option<()> {
     for _ in 0..times {
         list.push(actor).ok()?;
@@ -27,7 +27,7 @@ fn push_turns(list: &mut Vec<u32>, actor: u32, times: u32) -> Option<()> {
     Some(())
 }
 
-// The list of actors that turns are.
+// The list of actors for these turns.
 fn list_of(alloc: Global, turns: &[Turns]) -> Option<Vec<u32>> {
     let mut list = Vec::new(alloc);
     for (actor, times) in turns {
@@ -36,7 +36,7 @@ fn list_of(alloc: Global, turns: &[Turns]) -> Option<Vec<u32>> {
     Some(list)
 }
 
-// The trace of a program, whether it is accepted or not. What has no core is answered as want of memory.
+// The trace of a program, whether it is accepted or not. If it has no core, the answer is that memory ran out.
 fn trace_of(alloc: Global, program: &[u8], actors: &[u32]) -> Result<Trace, TraceFault> {
     if actors.len() > 4_000_000 {
         return Err(TraceFault::Memory);
@@ -84,7 +84,7 @@ pub fn refused_declaration(alloc: Global, program: &[u8]) -> Option<DeclFault> {
     declaration_in(alloc, &core)
 }
 
-// The accesses of a core, where it is accepted. What is not is answered as want of memory.
+// The accesses of a core, if it is accepted. If not, the answer is that memory ran out.
 fn touches_of(alloc: Global, core: &Core, actors: &[u32]) -> Result<List<Touch>, AcceptedFault> {
     if actors.len() > 4_000_000 {
         return Err(AcceptedFault::Memory);
@@ -95,7 +95,7 @@ fn touches_of(alloc: Global, core: &Core, actors: &[u32]) -> Result<List<Touch>,
     }
 }
 
-// The accesses of an accepted program. What is not accepted is answered as want of memory.
+// The accesses of an accepted program. If it is not accepted, the answer is that memory ran out.
 fn accepted_of(
     alloc: Global,
     program: &[u8],
@@ -119,7 +119,7 @@ fn is_told(touch: &Touch, row: &Row) -> bool {
         && touch.clock.as_slice() == clock
 }
 
-// Whether these are the accesses, and no others.
+// Whether these are the accesses, and there are no others.
 fn are_told(touches: &[Touch], rows: &[Row]) -> bool {
     for at in 0..rows.len() {
         match touches.get(at) {
@@ -137,13 +137,13 @@ fn verdict_on(alloc: Global, program: &[u8], actors: &[u32], rows: &[Row]) -> Op
     }
 }
 
-/// The verdict on a program's run, where it is traced with these accesses and no others.
+/// The verdict on a program's run, if its trace has exactly these accesses.
 pub fn verdict_of(alloc: Global, program: &[u8], turns: &[Turns], rows: &[Row]) -> Option<Verdict> {
     let list = list_of(alloc, turns)?;
     verdict_on(alloc, program, &list, rows)
 }
 
-/// Why a program's run is not traced, if it is not. Want of memory for the list itself is told as such.
+/// Why a program's run is not traced, if it is not. If memory runs out for the list itself, that is the answer.
 pub fn fault_of(alloc: Global, program: &[u8], turns: &[Turns]) -> Option<TraceFault> {
     match list_of(alloc, turns) {
         Some(list) => trace_of(alloc, program, &list).err(),
@@ -151,7 +151,7 @@ pub fn fault_of(alloc: Global, program: &[u8], turns: &[Turns]) -> Option<TraceF
     }
 }
 
-// Whether a run of a program is that of an accepted one, with these accesses and no others, or why it is not traced.
+// Whether a run of a program is that of an accepted one, with exactly these accesses, or why it is not traced.
 fn accepted_with(
     alloc: Global,
     program: &[u8],
@@ -164,8 +164,8 @@ fn accepted_with(
     }
 }
 
-/// Whether a program's run, as that of an accepted one, has these accesses and no others, or why it is not traced. There is
-/// no answer where there is no memory for the list.
+/// Whether a program's run, as that of an accepted one, has exactly these accesses, or why it is not traced. There is
+/// no answer if memory runs out for the list.
 pub fn is_accepted_with(
     alloc: Global,
     program: &[u8],

@@ -1,4 +1,4 @@
--- What follows from the table of what may stand in which kind of entity.
+-- What follows from the table of what each kind of entity may contain.
 use Rattle.std.proofs.Common.{◌≡◌, true, false, refl, sym, ◌∙◌, inl, inr}
 use Rattle.std.specs.Prelude.{◌⊎◌}
 use Rattle.pc_tree.specs.declared.kinds.EntityKind.{EntityKind}
@@ -10,7 +10,7 @@ use Rattle.pc_tree.specs.Kinds.{is_abstract, may_have_fields, may_stand}
 no : {A : Type 0} → false ≡ true → A
 no h = absurd (cc)
 
--- Constructors stand in classes and actors,
+-- Constructors are in classes and actors,
 pub created : (k : EntityKind) → may_stand k word.New ≡ true → (k ≡ kind.Class) ⊎ (k ≡ kind.Actor)
 created kind.Class h = inl refl
 created kind.Actor h = inr refl
@@ -26,7 +26,7 @@ concrete kind.Primitive h = refl
 concrete kind.Trait h = no h
 concrete kind.Interface h = no h
 
--- but neither in a trait or an interface.
+-- but not in traits and interfaces.
 pub no_fields : (k : EntityKind) → is_abstract k ≡ true → may_have_fields k ≡ false
 no_fields kind.Class h = no h
 no_fields kind.Actor h = no h
@@ -34,7 +34,7 @@ no_fields kind.Primitive h = no h
 no_fields kind.Trait h = refl
 no_fields kind.Interface h = refl
 
--- In traits and interfaces stand the same methods.
+-- Traits and interfaces may contain the same methods.
 in_trait : (k : EntityKind) (w : MethodWord) → is_abstract k ≡ true → may_stand k w ≡ may_stand kind.Trait w
 in_trait k word.Fun h = refl
 in_trait kind.Class w h = no h

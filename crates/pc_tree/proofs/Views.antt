@@ -1,4 +1,4 @@
--- What each value stands for, one variant after the other.
+-- What each value represents, variant by variant.
 use Rattle.std.proofs.Common.{◌≡◌, ℕ, Bool, List, Option, rules}
 use Rattle.std.specs.declared.boxed.Box.{Box}
 use Rattle.std.specs.declared.alloc.Global.{Global}

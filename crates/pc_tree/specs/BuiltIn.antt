@@ -1,4 +1,4 @@
--- The entities of the language, by their numbers. Those of a file come behind them.
+-- The entities of the language, by their numbers. Those of a file come after them.
 use Rattle.std.specs.Prelude.{ℕ}
 
 abbrev pub none_entity : ℕ
@@ -19,6 +19,6 @@ env_entity = 4
 abbrev pub out_stream_entity : ℕ
 out_stream_entity = 5
 
--- The number of the first entity of the file, and how many are built in.
+-- The number of the first entity of the file, which is the number of built-in ones.
 abbrev pub first_own : ℕ
 first_own = 6

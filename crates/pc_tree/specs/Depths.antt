@@ -2,8 +2,8 @@
 use Rattle.std.specs.Prelude.{ℕ, suc, max, List, [], ◌∷◌, Option, Some, None}
 use Rattle.pc_tree.specs.Tree as t
 
--- How many levels are opened, one in another: by `(` of a group or of arguments, also of none, by `if`, `while`,
--- `recover` and `not`, each for all that it holds, and by `=` between expressions for its right side.
+-- The number of nested levels: a level is opened by the `(` of a group or of arguments, even if there are none, by
+-- `if`, `while`, `recover` and `not`, each for everything in it, and by `=` between expressions for its right side.
 abbrev mutual
   pub depth : t.Expr → ℕ
   depth (t.number n s) = 0
@@ -56,7 +56,7 @@ abbrev mutual
   items_depth t.no_items = 0
   items_depth (t.item i is) = max (item_depth i) (items_depth is)
 
--- a field's value and a body stand at level 1
+-- a field's value and a body are at level 1
 abbrev pub value_depth : Option t.Expr → ℕ
 value_depth None = 0
 value_depth (Some e) = suc (depth e)

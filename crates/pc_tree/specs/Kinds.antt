@@ -1,4 +1,4 @@
--- What may stand in which kind of entity (the Pony tutorial):
+-- What each kind of entity may contain (the Pony tutorial):
 --
 --               a capability   fields   `fun`   `be`   `new`                  bodies
 --   class       yes            yes      yes     no     yes, with a capability  each method
@@ -14,7 +14,7 @@ use Rattle.pc_tree.specs.declared.kinds.MethodWord.{MethodWord}
 use Rattle.pc_tree.specs.declared.kinds.MethodWord.TheVariants as word
 use Rattle.pc_tree.specs.Tree as t
 
--- A trait or an interface: it only says which methods others have, and no object is of it.
+-- A trait or an interface: it only says which methods others have, and has no objects of its own.
 abbrev pub is_abstract : EntityKind → Bool
 is_abstract kind.Class = false
 is_abstract kind.Actor = false
@@ -22,7 +22,7 @@ is_abstract kind.Primitive = false
 is_abstract kind.Trait = true
 is_abstract kind.Interface = true
 
--- A capability may be written behind the word of the entity.
+-- A capability may be written after the keyword of the entity.
 abbrev pub may_have_cap : EntityKind → Bool
 may_have_cap kind.Class = true
 may_have_cap kind.Actor = false
@@ -37,7 +37,7 @@ may_have_fields kind.Primitive = false
 may_have_fields kind.Trait = false
 may_have_fields kind.Interface = false
 
--- Behaviours stand in actors, traits and interfaces, and constructors in classes and actors.
+-- Behaviours may be in actors, traits and interfaces, and constructors in classes and actors.
 abbrev pub may_stand : EntityKind → MethodWord → Bool
 may_stand e word.Fun = true
 may_stand kind.Class word.Be = false
@@ -51,7 +51,7 @@ may_stand kind.Primitive word.New = false
 may_stand kind.Trait word.New = false
 may_stand kind.Interface word.New = false
 
--- A capability may be written behind the word of the method.
+-- A capability may be written after the keyword of the method.
 abbrev pub may_have_method_cap : EntityKind → MethodWord → Bool
 may_have_method_cap e word.Fun = true
 may_have_method_cap e word.Be = false
@@ -61,9 +61,9 @@ may_have_method_cap kind.Primitive word.New = false
 may_have_method_cap kind.Trait word.New = false
 may_have_method_cap kind.Interface word.New = false
 
--- ---- the same of the parts of a tree
+-- ---- the same for the parts of a tree
 
--- The capability is written only where one may be.
+-- A capability is written only if one may be.
 abbrev pub CapIf : Bool → Option Cap → Type 0
 CapIf true c = Unit {0}
 CapIf false c = c ≡ None
@@ -75,7 +75,7 @@ FieldsIf false fs = fs ≡ []
 abbrev pub MayHaveFields : EntityKind → List t.Field → Type 0
 MayHaveFields e fs = FieldsIf (may_have_fields e) fs
 
--- There may be a body in a trait or an interface, and there is one elsewhere.
+-- A body is optional in a trait or an interface, and required elsewhere.
 abbrev pub BodyUnless : Bool → Option t.Seq → Type 0
 BodyUnless true b = Unit {0}
 BodyUnless false None = ⊥

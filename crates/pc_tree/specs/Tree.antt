@@ -1,4 +1,4 @@
--- The tree as plain data: no pointers, and each list of subtrees a type of its own.
+-- The tree as plain data: no pointers, and a separate type for each kind of list of subtrees.
 use Rattle.std.specs.Prelude.{ℕ, List, [], ◌∷◌, Bool, Option}
 use Rattle.pc_caps.specs.declared.span.Span.{Span}
 use Rattle.pc_caps.specs.declared.capability.Cap.{Cap}
@@ -39,7 +39,7 @@ mutual
     no_suffixes : Suffixes
     suffix : Suffix → Suffixes → Suffixes
 
-  -- a condition and what is done where it holds
+  -- a condition and what is done if it holds
   pub data Arm : Type 0 where
     arm_of : Seq → Seq → Span → Arm
 
@@ -47,7 +47,7 @@ mutual
     no_arms : Arms
     arm : Arm → Arms → Arms
 
-  -- what stands after `else`, if anything
+  -- what comes after `else`, if anything
   pub data Other : Type 0 where
     no_other : Other
     other : Seq → Other
@@ -104,7 +104,7 @@ abbrev pub items_of : List Item → Items
 items_of [] = no_items
 items_of (i ∷ is) = item i (items_of is)
 
--- where each part lies in the text
+-- the span of each part in the text
 abbrev pub span_of : Expr → Span
 span_of (number n s) = s
 span_of (truth b s) = s

@@ -1,4 +1,4 @@
--- The tree of `specs/Tree.antt` that a value of the types stands for.
+-- The tree of `specs/Tree.antt` that a value of the types represents.
 use Rattle.std.specs.Prelude.{List, map, Option, Some, None}
 use Rattle.std.specs.declared.boxed.Box.{Box}
 use Rattle.std.specs.declared.alloc.Global.{Global}
@@ -18,7 +18,7 @@ abbrev pub other_of : Option (Box t.Seq Global) → t.Other
 other_of None = t.no_other
 other_of (Some b) = t.other b.value
 
--- one level, with each part already seen
+-- one level, whose parts have been translated already
 abbrev pub expr_step : Expr-F t.Expr t.Item t.Suffix t.Arm t.Seq → t.Expr
 expr_step (Expr-F.Number n s) = t.number n s
 expr_step (Expr-F.Truth b s) = t.truth b s

@@ -21,7 +21,7 @@ pub enum Item {
         /// Whether the word is `let`: the local is never assigned again.
         fixed: bool,
         name: Name,
-        /// The type, where one is written.
+        /// The type, if one is written.
         ty: Option<TypeRef>,
         value: Expr,
         span: Span,
@@ -30,8 +30,8 @@ pub enum Item {
     Plain(Expr),
 }
 
-/// An expression (the Pony tutorial). An operator of one term, an atom without suffixes and an expression without `=` are
-/// the thing itself.
+/// An expression (the Pony tutorial). An operator with one term, an atom without suffixes and an expression without `=`
+/// are not wrapped.
 #[cycle(tree)]
 #[derive(Debug, Drop)]
 pub enum Expr {
@@ -46,14 +46,14 @@ pub enum Expr {
     },
     /// A text literal.
     Text {
-        /// The bytes that it stands for.
+        /// The bytes that it denotes.
         bytes: SharedList<u8>,
         span: Span,
     },
     Name(Name),
     TypeName(Name),
     This(Span),
-    /// `consume x`: the local's value, which leaves the local.
+    /// `consume x`: the value of the local, which is unset by it.
     Consume {
         name: Name,
         span: Span,
@@ -62,7 +62,7 @@ pub enum Expr {
         inner: Box<Expr>,
         span: Span,
     },
-    /// Two or more terms with one operator between them, which groups to the left.
+    /// Two or more terms with one operator between them, grouped to the left.
     Infix {
         op: Op,
         terms: List<Expr>,
@@ -74,7 +74,7 @@ pub enum Expr {
         suffixes: List<Suffix>,
         span: Span,
     },
-    /// A sequence in parentheses; the span has both of them.
+    /// A sequence in parentheses; the span includes them.
     Group {
         body: Box<Seq>,
         span: Span,
@@ -82,7 +82,7 @@ pub enum Expr {
     If {
         /// The `if` and each `elseif`.
         arms: List<Arm>,
-        /// What stands after `else`, where it is written.
+        /// What comes after `else`, if it is written.
         other: Option<Box<Seq>>,
         /// From `if` to `end`.
         span: Span,
@@ -93,7 +93,7 @@ pub enum Expr {
         span: Span,
     },
     Recover {
-        /// The capability, where one is written.
+        /// The capability, if one is written.
         cap: Option<Cap>,
         body: Box<Seq>,
         span: Span,
@@ -105,22 +105,22 @@ pub enum Expr {
     },
 }
 
-/// What may stand behind an atom.
+/// What may come after an atom.
 #[cycle(tree)]
 #[derive(Debug, Drop)]
 pub enum Suffix {
-    /// `.name`; the name alone has a span.
+    /// `.name`; the span is that of the name alone.
     Dot(Name),
-    /// Arguments in parentheses; the span has both of them.
+    /// Arguments in parentheses; the span includes them.
     Args { args: List<Expr>, span: Span },
 }
 
-/// A condition and what is done where it holds.
+/// A condition and what is done if it holds.
 #[cycle(tree)]
 #[derive(Debug, Drop)]
 pub struct Arm {
     pub cond: Seq,
     pub body: Seq,
-    /// From its word, `if` or `elseif`, to the end of its body.
+    /// From its keyword, `if` or `elseif`, to the end of its body.
     pub span: Span,
 }

@@ -14,7 +14,7 @@ pub struct File {
 #[derive(Debug, Drop)]
 pub struct Entity {
     pub kind: EntityKind,
-    /// The default capability, where one is written: only after `class`, `trait` and `interface`.
+    /// The default capability, if one is written: only after `class`, `trait` and `interface`.
     pub cap: Option<Cap>,
     pub name: Name,
     /// The type names after `is`.
@@ -26,11 +26,11 @@ pub struct Entity {
 /// A field.
 #[derive(Debug, Drop)]
 pub struct FieldDef {
-    /// Whether the word is `let`: the field is set once, by each constructor.
+    /// Whether the keyword is `let`: the field is set once, by each constructor.
     pub fixed: bool,
     pub name: Name,
     pub ty: TypeRef,
-    /// The initial value, where one is written.
+    /// The initial value, if one is written.
     pub value: Option<Expr>,
 }
 
@@ -45,12 +45,12 @@ pub struct ParamDef {
 #[derive(Debug, Drop)]
 pub struct MethodDef {
     pub word: MethodWord,
-    /// The capability after the word, where one is written: of the receiver after `fun`, of the new object after `new`.
+    /// The capability after the keyword, if one is written: of the receiver after `fun`, of the new object after `new`.
     pub cap: Option<Cap>,
     pub name: Name,
     pub params: List<ParamDef>,
-    /// The result's type, where one is written.
+    /// The type of the result, if one is written.
     pub result: Option<TypeRef>,
-    /// The body, where there is one.
+    /// The body, if there is one.
     pub body: Option<Seq>,
 }

@@ -2,19 +2,19 @@
 ghost use Rattle.std.specs.Prelude.{◌≡◌};
 ghost use Rattle.pc_tree.specs.Kinds as spec;
 
-/// The kind of an entity, by the word that begins it (the Pony tutorial).
+/// The kind of an entity, by its keyword (the Pony tutorial).
 #[derive(Clone, Copy, Debug, PartialEq, Eq)]
 pub enum EntityKind {
     Class,
     Actor,
     Primitive,
     Trait,
-    /// An interface: as a trait, but an entity is below it by its methods too.
+    /// An interface: like a trait, but other entities conform to it by their methods alone.
     Interface,
 }
 
 impl EntityKind {
-    /// Whether it is a trait or an interface, of which there are no objects.
+    /// Whether it is a trait or an interface, which have no objects of their own.
     pub fn is_abstract(self) -> bool
         ensures { result ≡ spec.is_abstract self }
     {
@@ -24,7 +24,7 @@ impl EntityKind {
         }
     }
 
-    /// Whether a capability may be written behind its word.
+    /// Whether a capability may be written after its keyword.
     pub fn may_have_cap(self) -> bool
         ensures { result ≡ spec.may_have_cap self }
     {
@@ -44,7 +44,7 @@ impl EntityKind {
         }
     }
 
-    /// Whether methods with this word may stand in it.
+    /// Whether it may contain methods with this keyword.
     pub fn may_hold(self, word: MethodWord) -> bool
         ensures { result ≡ spec.may_stand self word }
     {
@@ -61,7 +61,7 @@ impl EntityKind {
         }
     }
 
-    /// Whether a capability may be written behind the word of such a method in it.
+    /// Whether a capability may be written after the keyword of such a method in it.
     pub fn may_have_method_cap(self, word: MethodWord) -> bool
         ensures { result ≡ spec.may_have_method_cap self word }
     {
@@ -79,7 +79,7 @@ impl EntityKind {
     }
 }
 
-/// An infix operator. There is no precedence among them: different ones are kept apart by parentheses (the Pony
+/// An infix operator. There is no precedence among them: different operators must be separated by parentheses (the Pony
 /// tutorial).
 #[derive(Clone, Copy, Debug, PartialEq, Eq)]
 pub enum Op {
@@ -114,12 +114,12 @@ pub enum Op {
     Isnt,
 }
 
-/// The word that begins a method (the Pony tutorial).
+/// The keyword of a method (the Pony tutorial).
 #[derive(Clone, Copy, Debug, PartialEq, Eq)]
 pub enum MethodWord {
     /// `fun`: a function, which runs at once.
     Fun,
-    /// `be`: a behaviour, which runs later, as a message.
+    /// `be`: a behaviour, which runs later, when its message is taken.
     Be,
     /// `new`: a constructor.
     New,

@@ -1,9 +1,9 @@
-//! The trees of source texts: types, files, sequences and expressions; and the numbers of the entities that are built in.
+//! The trees of source texts: types, files, sequences and expressions; and the numbers of the built-in entities.
 //!
-//! Every list is a `List`, also the terms of an operator, the suffixes behind an atom and the arms of an `if`. So a tree
-//! is as deep as its brackets are, however long it is, and what goes through it goes no deeper.
+//! Every list is a `List`, including the terms of an operator, the suffixes of an atom and the arms of an `if`. So a
+//! tree is only as deep as its brackets, however long it is, and recursion over it is no deeper.
 //!
-//! Proved: what may stand in which kind of entity is one table, and the functions on kinds are that table.
+//! Proved: one table says what each kind of entity may contain, and the functions on kinds compute it.
 #![tactic(auto)]
 
 mod built_in;

@@ -1,4 +1,4 @@
-//! Names and written types, with their places.
+//! Names and written types, with their spans.
 use pc_caps::{Cap, List, Span};
 
 /// A name or a type name, as it is written.
@@ -13,8 +13,8 @@ pub struct Name {
 #[derive(Debug, Drop)]
 pub struct TypeRef {
     pub name: Name,
-    /// The capability, where one is written.
+    /// The capability, if one is written.
     pub cap: Option<Cap>,
-    /// Whether a `^` is written: the value has no name yet. Only a result has one.
+    /// Whether a `^` is written: the value has no name yet. Only a result type can have one.
     pub hat: bool,
 }

@@ -1,4 +1,4 @@
-//! Where expressions lie in the text.
+//! The spans of expressions in the text.
 ghost use Rattle.std.specs.Prelude.{◌≡◌};
 ghost use Rattle.pc_tree.specs.Tree as spec;
 ghost use Rattle.pc_tree.specs.View.{expr_view};
@@ -16,7 +16,7 @@ pub fn join(first: Span, second: Span) -> Span
     }
 }
 
-/// Where an expression lies.
+/// The span of an expression in the text.
 pub fn span_of(expression: &Expr) -> Span
     ensures { result ≡ spec.span_of (expr_view expression.now) }
 {

@@ -9,7 +9,7 @@ use pc_test_inputs::tokens_of;
 use pc_tree::File;
 use std::alloc::Global;
 
-/// The tokens of a text, and one end more, which begins at a byte.
+/// The tokens of a text, and one more end, which begins at a byte.
 #[tactic(auto, using(crate::proofs::LastToken::ends_with_last))]
 fn with_end(alloc: Global, text: &[u8], start: u32) -> Result<List<Token>, LexFault>
     ensures { IfOk result EndsWithEnd }
@@ -23,7 +23,7 @@ fn with_end(alloc: Global, text: &[u8], start: u32) -> Result<List<Token>, LexFa
     Ok(tokens)
 }
 
-/// The file of a text with two ends, of which the second begins at a byte.
+/// The file of a text with two ends, the second of which begins at a byte.
 pub fn file_with_end(alloc: Global, text: &[u8], start: u32) -> Result<File, ParseFault> {
     match with_end(alloc, text, start) {
         Ok(tokens) => file(alloc, tokens.as_slice()),

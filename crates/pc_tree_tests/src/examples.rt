@@ -1,9 +1,9 @@
-//! The sources that stand in `examples/`: the lines that are printed of each, and of these lines again.
+//! The sources in `examples/`: the lines that are printed for each, and for these lines again.
 use crate::printed::prints;
 use pc_test_inputs::programs::BANK;
 use std::alloc::Global;
 
-// Whether these lines are printed of a source, and of themselves.
+// Whether these lines are printed for a source, and for themselves.
 fn is_printed_so(alloc: Global, source: &[u8], lines: &[u8]) -> bool {
     prints(alloc, source, lines) && prints(alloc, lines, lines)
 }

@@ -1,4 +1,4 @@
-//! Whole files: what stands in them, and where they stop being one.
+//! Whole files: what they contain, and where a text stops being one.
 use crate::ends::file_with_end;
 use crate::showing::shown;
 use pc_parse::ParseFault;
@@ -95,7 +95,7 @@ fn the_bank(rt: HostRuntime) {
     assert!(rt; has_shape(rt.alloc(), BANK, BANK_SHAPE));
 }
 
-// Whether the token at a byte is the first with which no file goes on.
+// Whether the token at a byte is the first that cannot continue a file.
 fn stops_at(alloc: Global, text: &[u8], place: u32) -> bool {
     match tree_of(alloc, text) {
         Ok(_) => false,
@@ -103,7 +103,7 @@ fn stops_at(alloc: Global, text: &[u8], place: u32) -> bool {
     }
 }
 
-// Texts of no file, and the first byte of the first token with which none begins.
+// Texts that are not files, and the first byte of the first token that cannot continue one.
 const UNEXPECTED: [(&[u8], u32); 45] = [
     // Nothing at all.
     (b"", 0),
@@ -119,7 +119,7 @@ const UNEXPECTED: [(&[u8], u32); 45] = [
     (b"actor iso A", 6),
     // A capability of a primitive.
     (b"primitive ref P", 10),
-    // No type name behind is.
+    // No type name after is.
     (b"class C is", 10),
     // Nothing in the brackets.
     (b"class C is ()", 12),
@@ -163,7 +163,7 @@ const UNEXPECTED: [(&[u8], u32); 45] = [
     (b"class C fun f() fun g() => 1", 16),
     // An actor's method without a body.
     (b"actor A be b() be c() => 1", 15),
-    // A primitive's method without a body, behind a trait's.
+    // A primitive's method without a body, after a trait's.
     (b"trait T fun f() primitive P fun f() class C", 36),
     // A body of nothing in a trait.
     (b"trait T fun f() =>", 18),
@@ -185,13 +185,13 @@ const UNEXPECTED: [(&[u8], u32); 45] = [
     (b"class C fun f(): A^ iso => 1", 20),
     // A - that is first on its line.
     (b"class C fun f() => 1\n- 2 - 3", 21),
-    // A number behind a dot.
+    // A number after a dot.
     (b"class C fun f() => a.1", 21),
-    // Two docs of a file.
+    // Two docstrings of a file.
     (b"\"\"\"a\"\"\" \"\"\"b\"\"\" class C", 8),
-    // Two docs of an entity.
+    // Two docstrings of an entity.
     (b"class C \"\"\"a\"\"\" \"\"\"b\"\"\"", 16),
-    // A doc behind a body.
+    // A docstring after a body.
     (b"class C fun f() => 1 \"\"\"a\"\"\"", 21),
     // Two entities, and a name.
     (b"class C class D d", 16),
@@ -212,7 +212,7 @@ fn unexpected(rt: HostRuntime) {
     assert_eq!(rt; wrong_stop(rt.alloc(), &UNEXPECTED), None);
 }
 
-// The fault of a text with two ends, of which the second begins at a byte.
+// The fault of a text with two ends, the second of which begins at a byte.
 fn fault_with_end(alloc: Global, text: &[u8], start: u32) -> Option<ParseFault> {
     match file_with_end(alloc, text, start) {
         Ok(_) => None,
@@ -220,7 +220,7 @@ fn fault_with_end(alloc: Global, text: &[u8], start: u32) -> Option<ParseFault> 
     }
 }
 
-// A text that is a file, and a token behind its end.
+// A text that is a file, and a token after its end.
 #[test]
 fn behind_the_end(rt: HostRuntime) {
     let found = fault_with_end(rt.alloc(), b"class C", 9);

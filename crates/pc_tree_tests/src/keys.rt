@@ -1,11 +1,11 @@
-//! Which names of a file the key of its tables is made of.
+//! Which names of a file go into the key of its tables.
 use pc_keyed::keyed_by_names;
 use pc_test_inputs::tree_of;
 use std::alloc::{AllocError, Global};
 use std::hash::{BuildHasher, Hasher};
 
-/// Texts with a name of which the letter `?` is changed: one for each thing that is named, and then one for each place where an
-/// expression stands, in which a `.` and a name follow.
+/// Texts with a name whose letter `?` is changed: one for each thing that is named, and then one for each place of an
+/// expression, which is followed by a `.` and a name.
 const TEXTS: [&[u8]; 23] = [
     b"class C?",
     b"class C let f?: U64",
@@ -32,7 +32,7 @@ const TEXTS: [&[u8]; 23] = [
     b"class C fun m() => f = this.a?",
 ];
 
-// The text with this letter in place of `?`.
+// The text with this letter instead of `?`.
 fn with_letter(alloc: Global, text: &[u8], letter: u8) -> Result<Vec<u8>, AllocError> {
     let mut made = Vec::new(alloc);
     for byte in text {

@@ -4,7 +4,7 @@ use pc_parse::ParseFault;
 use pc_test_inputs::tree_of;
 use std::alloc::{AllocError, Global};
 
-// The same byte, so many times.
+// Appends the same byte this many times.
 fn push_times(text: &mut Vec<u8>, byte: u8, count: usize) -> Result<(), AllocError> {
     for _ in 0..count {
         text.push(byte)?;
@@ -12,7 +12,7 @@ fn push_times(text: &mut Vec<u8>, byte: u8, count: usize) -> Result<(), AllocErr
     Ok(())
 }
 
-/// A text, so many `(`, a number, and as many `)`.
+/// A text, this many `(`, a number, and as many `)`.
 fn nested(alloc: Global, begin: &[u8], count: usize) -> Result<Vec<u8>, AllocError> {
     let mut text = Vec::from_slice(alloc, begin)?;
     push_times(&mut text, b'(', count)?;
@@ -29,7 +29,7 @@ fn level_of(alloc: Global, begin: &[u8], count: usize) -> Result<u32, ParseFault
     }
 }
 
-// A body and a value stand at level 1, so that 199 more are opened.
+// A body and a value are at level 1, so that 199 more can be opened.
 #[test]
 fn levels(rt: HostRuntime) {
     let alloc = rt.alloc();

@@ -1,5 +1,5 @@
-//! Tests of trees: what is read of a text, where reading stops, levels, what is printed, made programs, and which names are in
-//! the key of a file's tables.
+//! Tests of trees: what is read from a text, where reading stops, levels, what is printed, generated programs, and
+//! which names are in the key of a file's tables.
 #![tactic(auto)]
 
 #[cfg(test)]

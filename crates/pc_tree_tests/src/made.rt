@@ -1,4 +1,4 @@
-//! The printed texts of made programs. The draws are worked out by hand.
+//! The printed texts of generated programs. The draws are worked out by hand.
 ghost use Rattle.std.specs.Prelude.{◌≤◌};
 
 use pc_caps::List;
@@ -19,7 +19,7 @@ const CELL: &[u8] =
 
 const MAIN: &[u8] = b"actor Main\n  new create(env: Env) =>\n    Work0(env.out, Cell)\n";
 
-// Whether the made program has these actors between its class and `Main`.
+// Whether the generated program has these actors between its class and `Main`.
 fn has_workers(alloc: Global, seed: u64, size: u32, workers: &[u8]) -> bool
     requires some { 1 ≤ size }
     requires few { size ≤ 900 }

@@ -12,7 +12,7 @@ fn has_rows(alloc: Global, text: &[u8], rows: &[Row]) -> bool {
     }
 }
 
-// Whole sequences, each part with its first byte and the byte behind its last.
+// Whole sequences, each part with its first byte and the byte after its last.
 const TREES: [(&[u8], &[Row]); 9] = [
     (
         b" a + b + 1 ",
@@ -146,10 +146,10 @@ fn trees(rt: HostRuntime) {
     assert_eq!(rt; wrong_tree(rt.alloc(), &TREES), None);
 }
 
-/// A part that is read of a text at a level, and how many tokens are read, or why none are.
+/// A part that is read from a text at a level, and how many tokens are read, or why none are.
 type Stop = (Part, &'static [u8], u16, Result<usize, ParseFault>);
 
-// How many tokens are read of a part of a text.
+// How many tokens are read for a part of a text.
 fn tokens_read(alloc: Global, part: Part, text: &[u8], level: u16) -> Result<usize, ParseFault> {
     let found = read(alloc, part, text, level)?;
     Ok(found.to)
@@ -274,7 +274,7 @@ fn length_read(alloc: Global, text: &[u8], level: u16) -> Result<usize, ParseFau
     Ok(to)
 }
 
-/// So many `(`, a name, and so many `)`.
+/// This many `(`, a name, and this many `)`.
 fn nested(alloc: Global, opened: usize, closed: usize) -> Result<Vec<u8>, AllocError> {
     let mut text = repeated(alloc, b"", b"(", opened, b"a")?;
     for _ in 0..closed {

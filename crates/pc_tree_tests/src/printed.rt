@@ -1,10 +1,10 @@
-//! Texts that are read, and what is printed of their trees.
+//! Texts that are read, and what is printed for their trees.
 use pc_caps::List;
 use pc_print::print;
 use pc_test_inputs::tree_of;
 use std::alloc::Global;
 
-/// What is printed of the tree of a source, where it has one.
+/// What is printed for the tree of a source, if it has one.
 pub fn printed(alloc: Global, source: &[u8]) -> Option<List<u8>> {
     match tree_of(alloc, source) {
         Ok(file) => print(alloc, &file).ok(),
@@ -12,7 +12,7 @@ pub fn printed(alloc: Global, source: &[u8]) -> Option<List<u8>> {
     }
 }
 
-/// Whether these lines are printed of the tree of a source.
+/// Whether these lines are printed for the tree of a source.
 pub fn prints(alloc: Global, source: &[u8], lines: &[u8]) -> bool {
     match printed(alloc, source) {
         Some(text) => text.as_slice() == lines,

@@ -16,7 +16,7 @@ pub struct Found {
     pub rows: Vec<Row>,
 }
 
-/// What is asked for.
+/// What is to be read.
 #[derive(Clone, Copy)]
 pub enum Part {
     Seq,
@@ -24,7 +24,7 @@ pub enum Part {
     Infix,
 }
 
-// What was found up to a place, or want of memory.
+// What was found up to a place, or that memory ran out.
 fn found_of(rows: Rows, to: usize) -> Result<Found, ParseFault> {
     if rows.is_short {
         return Err(ParseFault::Memory);
@@ -74,7 +74,7 @@ fn read_infix(alloc: Global, tokens: &[Token], level: u16) -> Result<Found, Pars
     expr_rows(alloc, &tree, to)
 }
 
-/// A part of a text from its beginning on, read at a level.
+/// A part of a text, from its beginning, read at a level.
 pub fn read(alloc: Global, part: Part, text: &[u8], level: u16) -> Result<Found, ParseFault> {
     let Ok(tokens) = tokens_of(alloc, text) else {
         return Err(ParseFault::Memory);

@@ -1,4 +1,4 @@
-//! A tree as a list of rows, each part before what stands in it.
+//! A tree as a list of rows, each part before what it contains.
 use pc_caps::Span;
 use pc_tree::{Arm, Expr, Item, Op, Seq, Suffix, span_of};
 use std::alloc::Global;
@@ -6,7 +6,7 @@ use std::alloc::Global;
 /// A part of a tree: what it is, and where it begins and ends.
 pub type Row = (&'static str, u32, u32);
 
-/// The rows of what was walked so far, and whether there was no memory for one.
+/// The rows of what has been walked so far, and whether memory ran out for one of them.
 #[derive(Drop)]
 pub struct Rows {
     pub found: Vec<Row>,

@@ -3,7 +3,7 @@ use pc_caps::Cap;
 use pc_tree::{Entity, EntityKind, FieldDef, File, MethodDef, MethodWord, Name, ParamDef, TypeRef};
 use std::alloc::Global;
 
-/// What was put so far, and whether there was no memory for a part.
+/// What has been put so far, and whether memory ran out for a part.
 #[derive(Drop)]
 struct Sheet {
     text: Vec<u8>,
@@ -127,7 +127,7 @@ fn put_entity(out: &mut Sheet, entity: &Entity) {
     put_methods(out, entity.methods.as_slice())
 }
 
-/// What a file has. There is no answer where memory ran out.
+/// What a file has. There is no answer if memory ran out.
 pub fn shown(alloc: Global, file: &File) -> Option<Vec<u8>> {
     let mut out = Sheet {
         text: Vec::new(alloc),

@@ -1,4 +1,4 @@
--- Each task keeps what it has to.
+-- Each task preserves what it has to.
 use Rattle.pc_semantics.specs.declared.frames.Task.{Task}
 use Rattle.pc_semantics.specs.declared.frames.Task.TheVariants as task
 use Rattle.pc_types.proofs.Steps.{Keeps}

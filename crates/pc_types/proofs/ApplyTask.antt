@@ -81,9 +81,9 @@ add_gives : (g : Frame) (o : Op) (a b : List ℕ) → is_add o ≡ true → of_t
 add_gives g op.Add a b h = refl
 add_gives g o a b h = absurd (false_true h)
 
--- ---- what the rules say
+-- ---- what the rules state
 
--- The operator, and the types of both sides, are what the rule asks for.
+-- The operator, and the types of both sides, are what the rule requires.
 record Asked (ann : Ann) (cs : List ℕ) (t : Note) (behind : Masks) (k : ℕ) (a : Bool) (test : Ty × Ty → Bool) : Type 0 where
   vs : Ty × Ty
   types : TwoTypes ann cs vs
@@ -115,7 +115,8 @@ applies_this k a h = false_true h
 -- ---- the task
 
 module _ (core : CoreData) (ann : Ann) (needs : Needs core ann) (around : Around) (f : Frame) (fs : List Frame) (r : Runs core ann around f fs) (n : ℕ) (e : FinishOk core ann f.method r.held.live r.held.set r.held.wants applies n (λ l s g. TasksOk core ann f.method f.tasks l s g))
-    -- what holds where a text is too long, and where what the operands leave below them gets the result, which is no object's address
+    -- what holds if a text is too long, and if the result, which is no object's address, is left above what the
+    -- operands leave
     (Holds : Move → Type 0) (long : Holds Overflows)
     (done : (us rest : List Value) (ty : Ty) (v : Value) → f.stack ≡ us ++ rest → length us ≡ length e.node.children → Says e.note (Some ty) e.behind → StackOk core around.objects r.held.this e.below rest → OfType core around.objects ty v → no_object v ≡ true → Holds (Goes (pushed (with_stack f rest) v))) where
   module _ (us rest : List Value) (at : f.stack ≡ us ++ rest) (all : length us ≡ length e.node.children) (ok : StackOk core around.objects r.held.this e.below rest) where

@@ -1,4 +1,4 @@
--- Masks and types, and what is kept where more slots are live and more fields are set.
+-- Masks and types, and what is preserved when more slots are live and more fields are set.
 use Rattle.std.specs.Prelude.{ℕ, Bool, List, [], ◌∷◌, Option, Some, None, refl}
 use Rattle.std.proofs.Common.{inl, inr}
 use Rattle.pc_heap.specs.Objects.{ObjectMap}

@@ -53,7 +53,7 @@ only_one [] c e = absurd (none-some c e)
 only_one (a ∷ []) c e = ap (λ (n : ℕ). n ∷ []) (same_Some a c e)
 only_one (a ∷ b ∷ cs) c e = absurd (none-some c e)
 
--- What the rule of a body says.
+-- What the rule of a body states.
 pub record BodyRule (core : CoreData) (ann : Ann) (x : Node) (t : Note) : Type 0 where
   pub own : Method
   pub is_own : slice_get core.methods x.method ≡ Some own

@@ -48,9 +48,9 @@ use Rattle.pc_types.proofs.Growth.{class_is}
 use Rattle.pc_types.proofs.Heaps.{get_here}
 use Rattle.pc_types.proofs.Running.{fewer_slots, fewer_set, frame_in}
 
--- ---- masks behind a call
+-- ---- masks after a call
 
--- What a note leaves is there where what its children leave is.
+-- What a note leaves is there if what its children leave is.
 pub left_within : (o : Option Masks) (b c : Masks) (live set l s : Mask) → o ≡ Some b → o ≡ Some c → live ≡ c.0 → set ≡ c.1 → Within b.0 l → Within b.1 s → Within live l × Within set s
 left_within o b c live set l s e g is_live is_set wl ws =
     let same : b ≡ c = same_Some b c (sym e ∙ g) in (
@@ -64,7 +64,7 @@ left_within o b c live set l s e g is_live is_set wl ws =
 pub counts : (core : CoreData) (objects : ObjectMap) (vs : List Value) (ps : List ParamInfo) → ArgumentsOk core objects vs ps → nat_eq (length vs) (length ps) ≡ true
 counts core objects vs ps k = eq-eqb (length vs) (length ps) (arguments_length core objects vs ps k)
 
--- A class's constructor stands in a class, an actor's in an actor, and a behaviour in an actor, a trait or an interface.
+-- A class's constructor is in a class, an actor's in an actor, and a behaviour in an actor, a trait or an interface.
 pub class_of_new : (m : MethodKind) (k : EntityKind) → m ≡ method.New → StandsIn m k → k ≡ kind.Class
 class_of_new m k e h = by h.0 h.1 (h.2 ∙ e)
   where

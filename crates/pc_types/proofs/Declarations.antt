@@ -1,4 +1,4 @@
--- Of the order of entities, of what an entity is under, and of what it has for the methods of those.
+-- The order of entities, what an entity is under, and what it has for the methods of those entities.
 use Rattle.std.specs.Prelude.{◌≡◌, ℕ, ◌+◌, ◌-◌, ◌<◌, ◌≤◌, ◌++◌, true, false, length, map, Option, Some, None, slice_get, refl}
 use Rattle.std.proofs.Common.{inl, inr, ap, sym, subst, ◌∙◌, arith}
 use Rattle.std.proofs.lemmas.Option.{same_Some}
@@ -123,7 +123,7 @@ pub found_is : (core : CoreData) (d name m : ℕ) (x : EntityDef) → Formed cor
 found_is core d name m x formed at is None e = absurd (method_missed core d name formed e m (get_below core.methods m is.0 is.1) is)
 found_is core d name m x formed at is (Some n) e = ap Some (one_method core d name n m x formed at (method_found core d name n formed e) is)
 
--- A method that is found stands among its entity's.
+-- A method that is found is among its entity's methods.
 among_own : (core : CoreData) (e name k : ℕ) (f : Method) → method_named core e name ≡ Some k → slice_get core.methods k ≡ Some f → (x : EntityDef) × (slice_get core.entities e ≡ Some x) × Has (own_methods core x) f × (f.name ≡ name)
 among_own core e name k f found at =
     let a = bind_some (slice_get core.entities e) (λ (z : EntityDef). place_of method_name name (own_methods core z) z.first_method) k found in
@@ -133,7 +133,7 @@ among_own core e name k f found at =
     let is : p.1 ≡ f = same_Some p.1 f (sym g ∙ ap (slice_get core.methods) (sym p.2) ∙ at) in
     (x, a.1, (p.0, p.3 ∙ ap Some is), ap method_name (sym is) ∙ p.4)
 
--- A method of the name stands among its entity's.
+-- A method with the name is among its entity's methods.
 own_method : (core : CoreData) (d name m : ℕ) → Formed core → (is : IsMethod core d name m) → (x : EntityDef) × (slice_get core.entities d ≡ Some x) × Has (own_methods core x) is.0
 own_method core d name m formed is =
     let y = is.0 in

@@ -1,4 +1,4 @@
--- Children that are evaluated, one after the other, and what they leave.
+-- Children that are evaluated, one after another, and what they leave.
 use Rattle.std.specs.Prelude.{◌≡◌, ℕ, suc, ◌-◌, true, List, [], ◌∷◌, ◌++◌, length, Option, Some, None, slice_get, refl}
 use Rattle.std.proofs.Common.{inl, ap, sym, subst, ◌∙◌, arith}
 use Rattle.std.proofs.lemmas.Option.{same_Some, none-some}
@@ -31,7 +31,7 @@ use Rattle.pc_types.proofs.Basic.{within_same, within_trans, same_lower}
 pub within_is : (a b : Mask) → a ≡ b → Within a b
 within_is a b e i h = subst (λ (m : Mask). IsIn m i) e h
 
--- What is live behind a sequence is live behind its last item.
+-- What is live after a sequence is live after its last item.
 definition_less : (k : NodeKind) (l : Mask) → Within (without_definition k l) l
 definition_less (nodes.Define s) l i h = ((without_number_bits l s i).0 h).1
 definition_less k l i h = h
@@ -44,7 +44,7 @@ pub items_less : (core : CoreData) (cs : List ℕ) (l : Mask) → Within (withou
 items_less core [] l i h = h
 items_less core (c ∷ cs) l i h = item_less (slice_get core.nodes c) l i (items_less core cs (without_item (slice_get core.nodes c) l) i h)
 
--- ---- one node behind the other
+-- ---- one node after another
 
 -- A first node starts from the masks, and the others follow it.
 pub record First (ann : Ann) (c : ℕ) (cs : List ℕ) (m n : Masks) : Type 0 where

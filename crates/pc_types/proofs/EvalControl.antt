@@ -1,5 +1,5 @@
--- Eval at nodes that look at what they evaluate: `and`, `or`, `if`, `while`, sequences, recover and bodies; and at those of
--- which all children are evaluated first.
+-- Eval at nodes that look at what they evaluate: `and`, `or`, `if`, `while`, sequences, recover and bodies; and at
+-- nodes whose children are all evaluated first.
 use Rattle.std.specs.Prelude.{◌≡◌, ℕ, Bool, true, false, cond, List, [], ◌∷◌, ◌++◌, Option, Some, None, slice_get, refl}
 use Rattle.std.proofs.Common.{inl, ap, sym, subst, ◌∙◌, append_assoc}
 use Rattle.std.proofs.lemmas.Option.{same_Some}

@@ -29,11 +29,11 @@ use Rattle.pc_types.proofs.EvalControl.{not_own, strict_ok, lazy_ok, if_ok, whil
 
 module _ (core : CoreData) (ann : Ann) (needs : Needs core ann) (around : Around) (f : Frame) (fs : List Frame) (r : Runs core ann around f fs) where
   module _ (n : ℕ) (e : EvalOk core ann f.method r.held.live r.held.set r.held.wants n (λ l s g. TasksOk core ann f.method f.tasks l s g)) where
-    -- The children of a node of this kind are evaluated one after the other.
+    -- The children of a node of this kind are evaluated one after another.
     threaded_at : (k : NodeKind) → e.node.kind ≡ k → is_branch k ≡ false → says core ann e.node (before e.note) e.note.rule k ≡ Some (said_by e.note) → Threaded ann e.node.children (before e.note)
     threaded_at k is other q = children_threaded core ann needs n e.node e.note e.is_node k is other q
 
-    -- What the task behind the children needs.
+    -- What the task after the children needs.
     finish_at : (does : NodeKind → Bool) (k : NodeKind) → e.node.kind ≡ k → does k ≡ true → (behind : Masks) → through ann e.node.children (before e.note) ≡ Some behind
         → FinishOk core ann f.method behind.0 behind.1 (stacked core ann e.node.children r.held.wants) does n (λ l s g. TasksOk core ann f.method f.tasks l s g)
     finish_at does k is h behind masks = record {

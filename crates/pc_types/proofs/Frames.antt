@@ -1,5 +1,6 @@
--- When the frames of an actor can go on: what their slots and stacks hold is of its type, their tasks can be done, and each
--- frame but the top waits for what the one above it leaves. An idle actor's object has all its fields.
+-- When the frames of an actor can go on: the contents of their slots and stacks have the right types, their tasks can
+-- be done, and each frame except the top waits for what the one above it leaves. An idle actor's object has all its
+-- fields.
 use Rattle.std.specs.Prelude.{◌≡◌, ℕ, ◌+◌, ◌<◌, Bool, true, false, List, [], ◌∷◌, ◌++◌, length, Option, Some, slice_get}
 use Rattle.std.specs.FinMap.{get}
 use Rattle.pc_heap.specs.Objects.{ObjectMap}

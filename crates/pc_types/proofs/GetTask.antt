@@ -45,7 +45,7 @@ use Rattle.pc_types.proofs.Inverse.{Says, said_type}
 use Rattle.pc_types.proofs.Origins.{FieldAt, field_at, Origin, origin_of, origin_at, value_there, set_value, OwnOrigin, own_origin}
 use Rattle.pc_types.proofs.Finish.{one_top, done_ok, own_is, rule_is, at_this, typed_at, at_top}
 
--- ---- what the rules say
+-- ---- what the rules state
 
 -- A field of the origin's entity.
 pub record GetRule (core : CoreData) (ann : Ann) (x : Node) (t : Note) (behind : Masks) (name : ℕ) : Type 0 where
@@ -134,7 +134,7 @@ module _ (core : CoreData) (ann : Ann) (needs : Needs core ann) (around : Around
     (own : (name : ℕ) → e.node.kind ≡ nodes.Field name → (q : OwnGetRule core ann e.node e.note e.behind name) (v z : Value) (rest : List Value) (o : Origin core around.objects r.held.own.entity name q.index q.field v) → v ≡ r.held.this → f.stack ≡ v ∷ rest → StackOk core around.objects r.held.this e.below rest
     → slice_get o.object.fields q.index ≡ Some (Some z) → OfType core around.objects (q.field.entity, q.seen) z → Holds (Goes (pushed (with_stack f rest) z)))
   where
-    -- What is done where the field has a value.
+    -- What is done if the field has a value.
     reads_ok : (g : Frame) (d name i : ℕ) (x : FieldInfo) (v w : Value) (o : Origin core around.objects d name i x v) → slice_get o.object.fields i ≡ Some (Some w) → Holds (Goes (pushed g w)) → Holds (get_from core around name v g)
     reads_ok g d name i x v w o is k =
         subst (λ (u : Value). Holds (get_from core around name u g)) (sym o.is)

@@ -1,4 +1,4 @@
--- What stays where objects are added, and fields are set.
+-- What is preserved when objects are added, and fields are set.
 use Rattle.std.specs.Prelude.{◌≡◌, ℕ, ◌<◌, List, [], ◌∷◌, length, Option, Some, None, slice_get, refl}
 use Rattle.std.proofs.Common.{inl, inr, ap, subst, ◌∙◌}
 use Rattle.std.proofs.lemmas.Option.{same_Some, none-some}
@@ -31,7 +31,7 @@ pub record Grown (o p : Object) : Type 0 where
   pub room : length p.fields ≡ length o.fields
   pub set : (i : ℕ) (v : Value) → slice_get o.fields i ≡ Some (Some v) → (w : Value) × (slice_get p.fields i ≡ Some (Some w))
 
--- Each object stands, and has grown.
+-- Each object remains, and has grown.
 pub record Extends (old new : ObjectMap) : Type 0 where
   pub each : (a : Address) (o : Object) → get old a ≡ Some o → (p : Object) × (get new a ≡ Some p) × Grown o p
 

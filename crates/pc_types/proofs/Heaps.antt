@@ -31,7 +31,7 @@ get_after h a o q = get-insert addresses_total h a o q
 pub get_here : (h : ObjectMap) (a : Address) (o : Object) → get (insert h a o) a ≡ Some o
 get_here h a o = get_own addresses_total h a o
 
--- What stands is what was put there, or stood before.
+-- What is there was put there, or was there before.
 pub put_or_before : (h : ObjectMap) (a : Address) (o : Object) (q : Address) (x : Object) → get (insert h a o) q ≡ Some x → ((q ≡ a) × (x ≡ o)) ⊎ (get h q ≡ Some x)
 put_or_before h a o q x e =
     elim (address_cases q a) [
@@ -39,7 +39,7 @@ put_or_before h a o q x e =
       | inr n ↦ inr (sym (ap (λ b. cond b (Some o) (get h q)) n) ∙ sym (get_after h a o q) ∙ e)
     ]
 
--- Where something stood, something stands.
+-- If something was there, something is there.
 pub put_stays : (h : ObjectMap) (a : Address) (o : Object) (q : Address) → (x : Object) × (get h q ≡ Some x) → (x : Object) × (get (insert h a o) q ≡ Some x)
 put_stays h a o q x =
     elim (address_cases q a) [
@@ -47,7 +47,7 @@ put_stays h a o q x =
       | inr n ↦ (x.0, get_after h a o q ∙ ap (λ b. cond b (Some o) (get h q)) n ∙ x.1)
     ]
 
--- What stood there stands, and has grown, where what is put has grown from what stood there.
+-- What was there is still there, and has grown, if what is put has grown from what was there.
 pub put_extends : (h : ObjectMap) (a : Address) (o : Object) → ((x : Object) → get h a ≡ Some x → Grown x o) → Extends h (insert h a o)
 put_extends h a o grown = record {
   each = λ q x e.

@@ -1,4 +1,4 @@
--- What a note says that meets its rule, by the kind of its node: values, slots and control.
+-- What a note states that meets its rule, by the kind of its node: values, slots and control.
 use Rattle.std.specs.Prelude.{◌≡◌, ℕ, true, ◌&&◌, List, [], ◌∷◌, Option, Some, None, nat_eq, slice_get, refl}
 use Rattle.std.proofs.Common.{ap, sym, subst, ◌∙◌}
 use Rattle.std.proofs.lemmas.Option.{same_Some, none-some}
@@ -69,7 +69,7 @@ types_are ann cs vs e =
 
 -- ---- notes
 
--- The note says this type and these masks.
+-- The note has this type and these masks.
 pub record Says (t : Note) (v : Option Ty) (n : Masks) : Type 0 where
   pub ty : t.ty ≡ v
   pub live : t.live_after ≡ n.0
@@ -219,7 +219,7 @@ module _ (core : CoreData) (ann : Ann) (x : Node) (t : Note) where
   or_rule rule.Lazy e = lazy_is e
   or_rule r e = absurd (none-some (said_by t) e)
 
-  -- A condition, and two branches that both start behind it.
+  -- A condition, and two branches that both start after it.
   pub record IfRule : Type 0 where
     pub condition : ℕ
     pub then_branch : ℕ
@@ -315,7 +315,7 @@ module _ (core : CoreData) (ann : Ann) (x : Node) (t : Note) where
   while_rule rule.While e = while_is e
   while_rule r e = absurd (none-some (said_by t) e)
 
-  -- Items, one after the other.
+  -- Items, one after another.
   pub record SeqRule : Type 0 where
     pub last : ℕ
     pub is_last : last_child x.children ≡ Some last
@@ -360,7 +360,7 @@ module _ (core : CoreData) (ann : Ann) (x : Node) (t : Note) where
   recover_rule rule.Recover k e = recover_is k e
   recover_rule r k e = absurd (none-some (said_by t) e)
 
--- ---- types that are asked for
+-- ---- types that are required
 
 pub read_is : (n : ℕ) (v : Ty) → reads_as n v ≡ true → (v.0 ≡ n) × (readable v.1 ≡ true)
 read_is n v e = let p = and_parts (nat_eq v.0 n) (readable v.1) e in (eqb-true v.0 n p.0, p.1)

@@ -1,4 +1,4 @@
--- What the rules of constructors, calls and messages say, part by part.
+-- What the rules of constructors, calls and messages state, part by part.
 use Rattle.std.specs.Prelude.{◌≡◌, ◌⊎◌, ℕ, Bool, true, false, cond, ◌&&◌, not, List, [], ◌∷◌, Option, Some, None, nat_eq, slice_get, codes, refl}
 use Rattle.std.proofs.Common.{inl, inr, ap, sym, subst, ◌∙◌}
 use Rattle.std.proofs.lemmas.Option.{same_Some, none-some}
@@ -42,7 +42,7 @@ spawn_rule : (core : CoreData) (ann : Ann) (x : Node) (m : Masks) (r : Rule) (k 
 spawn_rule core ann x m rule.Spawn k q e = e
 spawn_rule core ann x m r k q e = absurd (none-some q e)
 
--- One of the four rules says this.
+-- One of the four rules states this.
 abbrev pub CallSays : CoreData → Ann → Node → ℕ → Masks → Said → Type 0
 CallSays core ann x name m q =
     (call_says core ann x name m ≡ Some q) ⊎ ((callrecover_says core ann x name m ≡ Some q) ⊎ ((send_says core ann x name m ≡ Some q) ⊎ (builtin_says core ann x name m ≡ Some q)))
@@ -115,7 +115,7 @@ pub record CalledRule (core : CoreData) (ann : Ann) (x : Node) (name : ℕ) (t :
   pub live : t.live_after ≡ behind.0
   pub set : t.set_after ≡ behind.1
 
--- It is a function: the receiver sees where the method does, and the value is its result, or there is none.
+-- It is a function: the receiver sees from where the method does, and the value is its result, or there is none.
 pub record FunctionRule (core : CoreData) (ann : Ann) (x : Node) (name : ℕ) (t : Note) : Type 0 where
   pub by : CalledRule core ann x name t
   pub kind : by.own.kind ≡ method.Fun

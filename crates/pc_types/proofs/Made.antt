@@ -1,4 +1,4 @@
--- A move that keeps what it has to leaves a well-typed configuration, and lacks nothing.
+-- A move that preserves what it has to leaves a well-typed configuration, and lacks nothing.
 use Rattle.std.specs.Prelude.{◌≡◌, ◌≢◌, ℕ, zero, suc, ◌+◌, ◌<◌, ◌≤◌, true, List, [], ◌∷◌, ◌++◌, length, replicate, Option, Some, None, slice_get, slice_set, refl}
 use Rattle.std.proofs.Common.{inl, inr, ap, sym, subst, ◌∙◌, arith, length-set, length-append}
 use Rattle.std.proofs.lemmas.Option.{same_Some, none-some}
@@ -42,7 +42,7 @@ StepOk core ann r = WellTyped core ann r.1 × ((l : Lack) → r.0 ≢ Lacks l)
 -- ---- objects
 
 module _ (core : CoreData) where
-  -- Where an object stands, where there are no fewer actors and objects.
+  -- The address of an object, when there are no fewer actors and objects.
   place_kept : (old new : ObjectMap) (n k : ℕ) (a : Address) (e : ℕ) → n ≤ k → made_by old a.maker ≤ made_by new a.maker → PlaceOk core old n a e → PlaceOk core new k a e
   place_kept old new n k a e l m p =
       let first = p.maker in

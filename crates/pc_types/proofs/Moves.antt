@@ -1,5 +1,5 @@
--- What a move of a running actor has to keep, so that the configuration stays well typed when the move is made. A move that
--- lacks something keeps nothing.
+-- What a move of a running actor has to preserve, so that the configuration stays well typed when the move is made. A
+-- move that lacks something preserves nothing.
 use Rattle.std.specs.Prelude.{◌≡◌, ◌≢◌, ℕ, ◌<◌, List, ◌∷◌, Some, slice_get}
 use Rattle.std.specs.FinMap.{get, insert}
 use Rattle.pc_heap.specs.Objects.{ObjectMap, with_value, next_address}
@@ -32,7 +32,7 @@ pub record WriteOk (core : CoreData) (ann : Ann) (objects : ObjectMap) (i : ℕ)
   pub fits : OfType core objects (field_type field) v
   pub frames : FramesOk core ann (with_value objects a k v) i fs
 
--- A new object of a class stands at the next address of actor i.
+-- A new object of a class is at the next address of actor i.
 pub record MakeOk (core : CoreData) (ann : Ann) (objects : ObjectMap) (i : ℕ) (fs : List Frame) (a : Address) (o : Object) : Type 0 where
   pub address : a ≡ next_address objects i
   pub number : ℕ

@@ -1,4 +1,4 @@
--- A core that fits together and a valid annotation give all that the proof uses.
+-- A core that fits together and a valid annotation give everything that the proof uses.
 use Rattle.std.specs.Prelude.{◌≡◌, ◌≢◌, ℕ, zero, suc, ◌+◌, ◌-◌, ◌<◌, ◌≤◌, true, false, List, [], ◌∷◌, ◌++◌, length, map, Option, Some, None, IsSome, slice_get, refl}
 use Rattle.std.proofs.Common.{inl, inr, ap, sym, subst, ◌∙◌, arith, length-append}
 use Rattle.std.proofs.lemmas.Option.{same_Some, none-some}
@@ -39,7 +39,7 @@ after_next a n rest l b i c e =
       | inr h ↦ let s = h.1 in omega (arith, l, s)
     ]
 
--- They come behind the first node of the method.
+-- They come after the first node of the method.
 children_behind : (a n : ℕ) (xs : List Node) (waiting last : List ℕ) → PostOrder n xs waiting last → a ≤ n → Each (λ i c. a ≤ c) waiting → Each (λ i x. Each (λ k c. a ≤ c) x.children) xs
 children_behind a n [] waiting last p l b i x e = absurd (none-some x e)
 children_behind a n (y ∷ ys) waiting last p l b zero x e = λ k c h.

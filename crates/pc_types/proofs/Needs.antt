@@ -1,4 +1,4 @@
--- What the proof uses of a core that fits together and of a valid annotation, besides what stands in them word by word.
+-- What the proof uses of a core that fits together and of a valid annotation, besides what they state literally.
 use Rattle.std.specs.Prelude.{◌≡◌, ◌≢◌, ℕ, suc, ◌+◌, ◌≤◌, false, length, Some, slice_get}
 use Rattle.pc_caps.specs.declared.capability.Cap.{Cap}
 use Rattle.pc_tree.specs.Kinds.{is_abstract}

@@ -1,4 +1,4 @@
--- The note of a node meets its rule, and what was read of a node or a method is what stands there.
+-- The note of a node meets its rule, and what was read of a node or a method is what is there.
 use Rattle.std.specs.Prelude.{◌≡◌, ℕ, ◌+◌, true, Some, nat_eq, slice_get, false, length}
 use Rattle.std.specs.Int.{bit_at}
 use Rattle.std.proofs.Common.{ap, sym, subst, ◌∙◌}
@@ -39,14 +39,14 @@ module _ (core : CoreData) (ann : Ann) (needs : Needs core ann) where
       let is : r.0 ≡ t = same_Some r.0 t (sym r.1 ∙ g) in
       subst (λ (u : Note). IsSaid core ann x u) is r.2
 
--- What a node names is there, and it has as many children as its kind asks for.
+-- What a node names exists, and it has as many children as its kind requires.
 pub names_fit : (core : CoreData) (ann : Ann) → Needs core ann → (n : ℕ) (x : Node) → slice_get core.nodes n ≡ Some x → (k : NodeKind) → x.kind ≡ k → NamesFit core x.method k
 names_fit core ann needs n x at k is = subst (NamesFit core x.method) is (needs.formed.nodes n x at).names
 
 pub arity_fits : (core : CoreData) (ann : Ann) → Needs core ann → (n : ℕ) (x : Node) → slice_get core.nodes n ≡ Some x → (k : NodeKind) → x.kind ≡ k → HasArity k (length x.children)
 arity_fits core ann needs n x at k is = subst (λ (j : NodeKind). HasArity j (length x.children)) is (needs.formed.nodes n x at).arity
 
--- The children of a node of this kind are evaluated one after the other.
+-- The children of a node of this kind are evaluated one after another.
 pub children_threaded : (core : CoreData) (ann : Ann) → Needs core ann → (n : ℕ) (x : Node) (t : Note) → slice_get core.nodes n ≡ Some x → (k : NodeKind) → x.kind ≡ k → is_branch k ≡ false
     → says core ann x (before t) t.rule k ≡ Some (said_by t) → Threaded ann x.children (before t)
 children_threaded core ann needs n x t at k is other q = threads core ann x (before t) (said_by t) t.rule k other (arity_fits core ann needs n x at k is) q

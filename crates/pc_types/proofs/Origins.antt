@@ -1,4 +1,4 @@
--- The object whose field a node reads or writes, and what the rules say of that field.
+-- The object whose field a node reads or writes, and what the rules state about that field.
 use Rattle.std.specs.Prelude.{◌≡◌, ℕ, ◌<◌, true, ◌&&◌, List, [], length, Option, Some, None, nat_eq, slice_get, refl}
 use Rattle.std.proofs.Common.{inl, inr, ap, sym, subst, ◌∙◌, arith}
 use Rattle.std.proofs.lemmas.Option.{same_Some, none-some}

@@ -50,7 +50,7 @@ front_length (c ∷ cs) (suc n) l = let k : length cs ≡ suc n = omega (arith, 
 pub arguments_count : (cs : List ℕ) (r : ℕ) → last_child cs ≡ Some r → length (arguments cs) ≡ length cs - 1
 arguments_count cs r e = front_length cs (length cs - 1) (some_last cs r e)
 
--- ---- the stack behind the children
+-- ---- the stack after the children
 
 pub stacked_last : (core : CoreData) (ann : Ann) (cs : List ℕ) (r : ℕ) (below : List Want) → stacked core ann (cs ++ r ∷ []) below ≡ want_of core ann r ∷ stacked core ann cs below
 stacked_last core ann [] r below = refl
@@ -62,7 +62,7 @@ popped_more zero vs more a b v e = let p = some_pair_parts more a vs (v ∷ b) e
 popped_more (suc k) [] more a b v e = absurd (none-some (a, v ∷ b) e)
 popped_more (suc k) (x ∷ vs) more a b v e = popped_more k vs (x ∷ more) a b v e
 
--- The arguments of so many, and what is below them.
+-- The arguments, this many, and what is below them.
 pub record Popped (core : CoreData) (objects : ObjectMap) (this : Value) (below : List Want) (vs : List Value) (k : ℕ) (ps : List ParamInfo) : Type 0 where
   pub values : List Value
   pub rest : List Value

@@ -56,7 +56,7 @@ use Rattle.pc_types.proofs.Origins.{FieldAt, field_at, Origin, origin_of, origin
 use Rattle.pc_types.proofs.Finish.{two_tops, own_is, rule_is, at_this, typed_at, at_tops}
 use Rattle.pc_types.proofs.Places.{goes_lower}
 
--- ---- what the rules say
+-- ---- what the rules state
 
 -- A field of the origin's entity, to which the value goes.
 pub record PutRule (core : CoreData) (ann : Ann) (x : Node) (t : Note) (behind : Masks) (name : ℕ) : Type 0 where
@@ -76,7 +76,7 @@ pub record PutRule (core : CoreData) (ann : Ann) (x : Node) (t : Note) (behind :
   pub is_old : taken origin_ty.1 field.cap ≡ Some old
   pub says : Says t (Some (field.entity, old)) behind
 
--- The old value of an own field, where it is set.
+-- The old value of an own field, if it is set.
 abbrev pub OldOwn : ℕ → FieldInfo → Mask → Option Ty → Type 0
 OldOwn i g s old = (old ≡ None) ⊎ ((has s i ≡ true) × (f : Form) × (taken form.Ref g.cap ≡ Some f) × (old ≡ Some (g.entity, f)))
 
@@ -191,7 +191,7 @@ module _ (core : CoreData) (ann : Ann) (needs : Needs core ann) (around : Around
     (own : (name : ℕ) → e.node.kind ≡ nodes.SetField name → (q : OwnPutRule core ann e.node e.note e.behind name) (v w : Value) (old : Option Value) (rest : List Value) (o : Origin core around.objects r.held.own.entity name q.index q.field v) → v ≡ r.held.this → f.stack ≡ v ∷ w ∷ rest → StackOk core around.objects r.held.this e.below rest
     → slice_get o.object.fields q.index ≡ Some old → HasFields around.objects r.held.set v → OfType core around.objects (typed.field_type q.field) w → Holds (Writes o.address q.index w (pushed (with_stack f rest) (or_none old))))
   where
-    -- What is done where the object has the field.
+    -- What is done if the object has the field.
     writes_ok : (g : Frame) (d name i : ℕ) (x : FieldInfo) (v w : Value) (old : Option Value) (o : Origin core around.objects d name i x v) → slice_get o.object.fields i ≡ Some old → Holds (Writes o.address i w (pushed g (or_none old))) → Holds (put_into core around name v w g)
     writes_ok g d name i x v w old o is k =
         subst (λ (u : Value). Holds (put_into core around name u w g)) (sym o.is)
@@ -316,7 +316,7 @@ module _ (core : CoreData) (ann : Ann) (needs : Needs core ann) (around : Around
       (this_kept around.objects (new q.origin_ty.0 name q.index q.field v w o fits) (extends q.origin_ty.0 name q.index q.field v w o fits) core r.held.own e.follows.set r.held.this (fewer_set core around.objects r.held.own r.held.set e.follows.set r.held.this less r.held.this_ok))
       ok (subst (λ (y : Option Ty). OfSome core around.objects y z) (sym q.says.ty) old) (λ h. false_true (ap is_this (sym is) ∙ h))
 
-  -- The old value of an own field, where it is set.
+  -- The old value of an own field, if it is set.
   pub own_old_ok : (d name i : ℕ) (x : FieldInfo) (v : Value) (old : Option Value) (ty : Option Ty) (o : Origin core around.objects d name i x v) → slice_get o.object.fields i ≡ Some old → HasFields around.objects r.held.set v → OldOwn i x e.behind.1 ty → OfSome core around.objects ty (or_none old)
   own_old_ok d name i x v old ty o is has_them (inl none) = subst (λ (y : Option Ty). OfSome core around.objects y (or_none old)) (sym none) tt
   own_old_ok d name i x v old ty o is has_them (inr set) =

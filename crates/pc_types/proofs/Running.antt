@@ -60,7 +60,7 @@ module _ (core : CoreData) (ann : Ann) (needs : Needs core ann) (around : Around
     tasks,
   )
 
-  -- It runs on among these objects, where the frames below wait as before.
+  -- It runs on among these objects, if the frames below wait as before.
   pub go_in : (objects : ObjectMap) (l s : Mask) (g : List Want) (slots : List (Option Value)) (vs : List Value) (ts : List Task) → length slots ≡ length f.slots → slice_get slots 0 ≡ slice_get f.slots 0
       → ThisOk core objects r.held.own s r.held.this → SlotsOk core ann objects r.held.own l slots → StackOk core objects r.held.this g vs → TasksOk core ann f.method ts l s g → WaitOk core ann objects around.actor f.method r.held.this fs
       → FramesOk core ann objects around.actor (record { method = f.method; slots = slots; stack = vs; tasks = ts } ∷ fs)

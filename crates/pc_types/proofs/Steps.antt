@@ -1,4 +1,4 @@
--- From what each task keeps to every schedule.
+-- From what each task preserves to every schedule.
 use Rattle.std.specs.Prelude.{◌≡◌, ◌⊎◌, ℕ, ◌<◌, List, [], ◌∷◌, length, Option, Some, None, slice_get, refl}
 use Rattle.std.proofs.Common.{inl, inr, sym, subst, ◌∙◌}
 use Rattle.pc_lists.proofs.Gets.{get_below}
@@ -34,7 +34,7 @@ Keeps t =
     (core : CoreData) (ann : Ann) → Needs core ann → (around : Around) (f : Frame) (fs : List Frame) (r : Runs core ann around f fs)
     → TasksOk core ann f.method (t ∷ f.tasks) r.held.live r.held.set r.held.wants → MoveOk core ann around fs (task_move core around f t)
 
--- An idle actor takes its first message: its constructor's, or a behaviour's where its object has all its fields.
+-- An idle actor takes its first message: its constructor's, or a behaviour's if its object has all its fields.
 abbrev pub Takes : Type 0
 Takes =
     (core : CoreData) (ann : Ann) → Needs core ann → (c : Configuration) → WellTyped core ann c → (i : ℕ) → i < length c.actors

@@ -50,9 +50,9 @@ use Rattle.pc_types.proofs.EvalValue.{not_zero}
 use Rattle.pc_types.proofs.Places.{goes_lower, taken_lower}
 use Rattle.pc_types.proofs.Finish.{one_top, own_is, rule_is, at_this, typed_at, at_top}
 
--- ---- what the rules say
+-- ---- what the rules state
 
--- The slot gets a value of its type, and the old value is of it too, where there is one.
+-- The slot gets a value of its type, and the old value, if there is one, is of that type too.
 pub record StoreRule (core : CoreData) (ann : Ann) (x : Node) (t : Note) (behind : Masks) (s : ℕ) : Type 0 where
   pub child : ℕ
   pub children : x.children ≡ child ∷ []
@@ -131,7 +131,7 @@ module _ (core : CoreData) (ann : Ann) (needs : Needs core ann) (around : Around
         let is : names.1.0 ≡ r.held.own = same_Some names.1.0 r.held.own (sym names.1.1 ∙ own_is core ann needs around f fs r stores n e) in
         subst (λ (k : ℕ). s < k) (sym r.held.room) (subst (λ (x : Method). s < x.slots) is names.1.2)
 
-    -- The old value is of the type that the note says.
+    -- The old value is of the type that the note states.
     pub old_ok : OfSome core around.objects q.old (or_none (held (slice_get f.slots s)))
     old_ok = elim q.is_old [
       | inl none ↦ subst (λ (o : Option Ty). OfSome core around.objects o (or_none (held (slice_get f.slots s)))) (sym none) tt
@@ -142,7 +142,7 @@ module _ (core : CoreData) (ann : Ann) (needs : Needs core ann) (around : Around
           (subst (λ (o : Option (Option Value)). OfType core around.objects (q.slot.1.0, unalias q.slot.1.1) (or_none (held o))) (sym y.2) typed)
     ]
 
-    -- The slot holds the value, and the others what they did.
+    -- The slot holds the value, and the other slots are unchanged.
     stored_ok : (v : Value) → OfType core around.objects (held_in q.slot.1) v → (live : Mask) → Within live (with_number e.behind.0 s) → SlotsOk core ann around.objects r.held.own live (slice_set f.slots s (Some v))
     stored_ok v typed live w i l b = elim (eqb_tells i s) [
       | inl p ↦ (v, q.slot.1, ap (slice_get (slice_set f.slots s (Some v))) p.1 ∙ get_set_same f.slots s (Some v) room, ap (λ (k : ℕ). slice_get ann.slots (r.held.own.first_slot + k)) p.1 ∙ slot_type, typed)

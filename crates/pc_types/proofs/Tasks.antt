@@ -1,5 +1,5 @@
--- When a frame's tasks can be done: with at least these slots live and these fields of its object set, and with a stack that
--- holds at least this. Each task says what it leaves, and what follows it can be done from there.
+-- When a frame's tasks can be done: with at least these slots live and these fields of its object set, and with a stack
+-- that holds at least this. Each task determines what it leaves, and what follows can be done from there.
 use Rattle.std.specs.Prelude.{◌≡◌, ◌⊎◌, ℕ, Bool, true, false, List, [], ◌∷◌, Option, Some, None, slice_get}
 use Rattle.pc_caps.specs.declared.capability.Form.{Form}
 use Rattle.pc_caps.specs.declared.capability.Form.TheVariants as form
@@ -36,14 +36,14 @@ gives_this (Some x) = is_this x.kind
 abbrev pub want_of : CoreData → Ann → ℕ → Want
 want_of core ann n = record { ty = type_of ann n; own = gives_this (slice_get core.nodes n) }
 
--- The stack behind these nodes, evaluated one after the other.
+-- The stack after these nodes, evaluated one after another.
 abbrev pub stacked : CoreData → Ann → List ℕ → List Want → List Want
 stacked core ann [] below = below
 stacked core ann (c ∷ cs) below = stacked core ann cs (want_of core ann c ∷ below)
 
 -- ---- what follows a node
 
--- What follows node x counts on no more than the note says behind it, and takes its value for what it is, or for less.
+-- What follows node x relies on no more than the note states after it, and takes its value for what it is, or for less.
 pub record Follows (core : CoreData) (x : Node) (t : Note) (below : List Want) (go : Mask → Mask → List Want → Type 0) : Type 0 where
   pub live : Mask
   pub set : Mask
@@ -171,7 +171,8 @@ pub record DiscardOk (g : List Want) (go : List Want → Type 0) : Type 0 where
   pub stack : g ≡ top ∷ below
   pub next : go below
 
--- The body of node n can be evaluated, and behind it the whole again; and what follows the node, after the condition.
+-- The body of node n can be evaluated, and after it the whole loop again; and what follows the node, after the
+-- condition.
 pub record LoopOk (core : CoreData) (ann : Ann) (m : ℕ) (l s : Mask) (g : List Want) (n : ℕ) (go : Mask → Mask → List Want → Type 0) : Type 0 where
   pub node : Node
   pub is_node : slice_get core.nodes n ≡ Some node

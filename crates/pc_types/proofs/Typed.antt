@@ -1,5 +1,5 @@
--- When a configuration is well typed: each object holds values of its fields' types, each actor's frames can go on, and the
--- messages that wait for it are behaviours of its entity, behind its constructor where that has not begun.
+-- When a configuration is well typed: each object holds values of its fields' types, each actor's frames can go on, and
+-- the messages that wait for it are behaviours of its entity, after its constructor if that has not begun.
 use Rattle.std.specs.Prelude.{◌≡◌, ◌⊎◌, ℕ, ◌<◌, true, List, [], ◌∷◌, length, Some, slice_get}
 use Rattle.std.specs.FinMap.{get}
 use Rattle.pc_heap.specs.Objects.{ObjectMap, class_at, made_by}
@@ -37,7 +37,7 @@ pub record ObjectOk (core : CoreData) (objects : ObjectMap) (o : Object) : Type 
   pub room : length o.fields ≡ length entity.fields
   pub fields : (i : ℕ) (f : FieldInfo) (v : Value) → slice_get entity.fields i ≡ Some f → slice_get o.fields i ≡ Some (Some v) → OfType core objects (field_type f) v
 
--- Where an object of entity e stands, where there are `count` actors: its maker is one of them and has made it before, an
+-- The address of an object of entity e, with `count` actors: its maker is one of them and has made it before, an
 -- actor's object is the first of its maker, and the stream's is that of actor 0.
 pub record PlaceOk (core : CoreData) (objects : ObjectMap) (count : ℕ) (a : Address) (e : ℕ) : Type 0 where
   pub maker : a.maker < count

@@ -1,5 +1,5 @@
--- When a value is of a type: its own entity is that of the type or conforms to it, and unless the form is `tag` all fields of its object
--- have values. A type above another asks no more of a value than that one.
+-- When a value is of a type: its own entity is that of the type or conforms to it, and unless the form is `tag`, all
+-- fields of its object have values. A type above another requires no more of a value than that one.
 use Rattle.std.specs.Prelude.{◌≡◌, ℕ, ◌<◌, Bool, true, false, List, [], ◌∷◌, length, Option, Some, None, slice_get}
 use Rattle.std.specs.FinMap.{get}
 use Rattle.pc_heap.specs.Objects.{ObjectMap}
@@ -30,13 +30,13 @@ sees f = true
 abbrev pub AllSet : Object → Type 0
 AllSet o = (i : ℕ) → i < length o.fields → (v : Value) × (slice_get o.fields i ≡ Some (Some v))
 
--- The value is no object of which a field has no value.
+-- The value is not an object with a field that has no value.
 abbrev pub Finished : ObjectMap → Value → Type 0
 Finished objects (At a) = (o : Object) × (get objects a ≡ Some o) × AllSet o
 Finished objects v = Unit {0}
 
--- The value is written as one of entity d is: an object's address where d is a class or an actor, and a primitive that is
--- None or one of the file.
+-- The value is written as one of entity d is: as an object's address if d is a class or an actor, and as a primitive if
+-- d is None or one of the file.
 abbrev pub OfKind : CoreData → ℕ → Value → Type 0
 OfKind core d (Prim e) = NamesPrimitive core e
 OfKind core d (At a) = (x : EntityDef) × (slice_get core.entities d ≡ Some x) × (may_have_fields x.kind ≡ true)
@@ -49,7 +49,7 @@ pub record OfType (core : CoreData) (objects : ObjectMap) (t : Ty) (v : Value) :
   pub kind : OfKind core entity v
   pub finished : sees t.1 ≡ true → Finished objects v
 
--- Where there is no type, any value will do.
+-- If there is no type, any value will do.
 abbrev pub OfSome : CoreData → ObjectMap → Option Ty → Value → Type 0
 OfSome core objects None v = Unit {0}
 OfSome core objects (Some t) v = OfType core objects t v
@@ -80,7 +80,8 @@ Lower core (Some a) (Some b) = LowerType core a b
 
 -- ---- what is on a stack
 
--- What a place of the stack holds: a value of this type, if there is one; and, where `own` is true, the object of the frame.
+-- What a place of the stack holds: a value of this type, if there is one; and, if `own` is true, the object of the
+-- frame.
 pub record Want : Type 0 where
   pub ty : Option Ty
   pub own : Bool

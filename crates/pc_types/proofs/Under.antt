@@ -1,10 +1,10 @@
--- What is known of a value's own entity where an entity is asked for.
+-- What is known of a value's own entity if an entity is required.
 use Rattle.std.specs.Prelude.{◌≡◌, ◌⊎◌, ℕ}
 use Rattle.pc_core.specs.CoreData.{CoreData}
 use Rattle.pc_core.specs.Entities.{IsAbstract}
 use Rattle.pc_core.specs.Conforms.{Conforms}
 
--- It is that entity, or conforms to it, which is a trait or an interface. Other than the order on entities this is
--- transitive; and where the declarations fit, what is below an entity is so.
+-- It is that entity, or conforms to it, which is then a trait or an interface. Unlike the order on entities, this is
+-- transitive; and if the declarations fit, it holds of whatever is below an entity.
 abbrev pub Under : CoreData → ℕ → ℕ → Type 0
 Under core d e = (d ≡ e) ⊎ (IsAbstract core e × Conforms core d e)

@@ -33,7 +33,7 @@ pub top_is : (core : CoreData) (objects : ObjectMap) (this : Value) (w : Want) (
 top_is core objects this w ws [] k = absurd k
 top_is core objects this w ws (v ∷ vs) k = record { top = v; below = vs; is = refl; answers = k.0; ok = k.1 }
 
--- ---- values of entities that are no traits or interfaces
+-- ---- values of entities that are neither traits nor interfaces
 
 primitive_entity : (core : CoreData) (d : ℕ) (x y : EntityDef) → slice_get core.entities d ≡ Some x → x.kind ≡ entity.Primitive → slice_get core.entities d ≡ Some y → may_have_fields y.kind ≡ true → ⊥
 primitive_entity core d x y e p g h = false_true (ap may_have_fields (sym p) ∙ ap (λ (z : EntityDef). may_have_fields z.kind) (same_Some x y (sym e ∙ g)) ∙ h)
@@ -42,7 +42,7 @@ no_trait : (k : EntityKind) → k ≡ entity.Primitive → is_abstract k ≡ fal
 no_trait k p = ap is_abstract p
 
 module _ (core : CoreData) (ann : Ann) (needs : Needs core ann) (objects : ObjectMap) where
-  -- A value's own entity, where its type's is a primitive.
+  -- A value's own entity, if its type's is a primitive.
   pub own_primitive : (k : ℕ) (f : Form) (x : EntityDef) (v : Value) → slice_get core.entities k ≡ Some x → x.kind ≡ entity.Primitive → (t : OfType core objects (k, f) v) → t.entity ≡ k
   own_primitive k f x v e p t = needs.only_traits t.entity k x t.below e (no_trait x.kind p)
 
@@ -92,7 +92,7 @@ module _ (core : CoreData) (ann : Ann) (needs : Needs core ann) (objects : Objec
   is_address d x (Text s) k e g h = absurd (primitive_entity core d _ x (ap (slice_get core.entities) (sym (same_Some 3 d e)) ∙ needs.formed.built_in.texts) refl g h)
   is_address d x (Prim p) k e g h = absurd (primitive_name p x k (ap (slice_get core.entities) (same_Some p d e) ∙ g) h)
 
-  -- A value's own entity is no trait or interface.
+  -- A value's own entity is neither a trait nor an interface.
   pub own_no_trait : (d : ℕ) (x : EntityDef) (v : Value) → OfKind core d v → entity_of objects v ≡ Some d → slice_get core.entities d ≡ Some x → is_abstract x.kind ≡ false
   own_no_trait d x (At a) k e g = sym (ap (λ (z : EntityDef). is_abstract z.kind) (same_Some k.0 x (sym k.1 ∙ g))) ∙ concrete k.0.kind k.2
   own_no_trait d x (Num n) k e g = no_trait x.kind (ap (λ (z : EntityDef). z.kind) (same_Some x _ (sym g ∙ ap (slice_get core.entities) (sym (same_Some 1 d e)) ∙ needs.formed.built_in.numbers)))

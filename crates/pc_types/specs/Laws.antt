@@ -1,5 +1,5 @@
--- What is proved of every program with a valid annotation, in words of the machine alone: how it begins, and that no step lacks
--- anything.
+-- What is proved of every program with a valid annotation, in terms of the machine alone: how it begins, and that no
+-- step lacks anything.
 use Rattle.std.specs.Prelude.{◌≡◌, ℕ, List, length}
 use Rattle.pc_core.specs.CoreData.{CoreData}
 use Rattle.pc_core.specs.Formed.{Formed}
@@ -13,7 +13,7 @@ use Rattle.pc_semantics.specs.Safety.{LacksNothing}
 abbrev pub StartHasTwoActors : Type 0
 StartHasTwoActors = (core : CoreData) → Formed core → length (start core).actors ≡ 2
 
--- What has a valid annotation never lacks anything: over every list of actors, no actor's next step lacks its value, slot,
--- object, field or method.
+-- A program with a valid annotation never lacks anything: over every list of actors, no actor's next step lacks its
+-- value, slot, object, field or method.
 abbrev pub AcceptedNeverLacks : Type 0
 AcceptedNeverLacks = (core : CoreData) (ann : Ann) → Formed core → Valid core ann → (list : List ℕ) → LacksNothing core (after core list)

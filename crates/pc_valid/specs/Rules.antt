@@ -1,6 +1,7 @@
--- The typing rules. Each record says of one rule when the note of a node meets it: its condition, the type, and the masks.
--- `own` is the note of the node, and `notes` are those of its children, in order. A type is that of the node's value, and
--- none if the value cannot be used.
+-- The typing rules. Each record states when the note of a node satisfies one rule: its condition, the type, and the
+-- masks.
+-- `own` is the note of the node, and `notes` are those of its children, in order. A type is that of the node's value,
+-- or none if the value can't be used.
 use Rattle.std.specs.Prelude.{◌≡◌, ◌⊎◌, ◌↔◌, ℕ, ◌+◌, true, false, List, [], ◌∷◌, ◌++◌, length, codes, Option, Some, None, slice_get}
 use Rattle.pc_caps.specs.Tables.{view, taken, enters, plain, unalias, sendable_form}
 use Rattle.pc_caps.specs.declared.capability.Cap.{Cap}
@@ -47,7 +48,7 @@ pub record Local (core : CoreData) (slots : Slots) (own : Note) (node : Node) (s
   pub type : own.ty ≡ Some (of.entity, plain of.cap)
   pub masks : after own ≡ before own
 
--- `consume`: the same, and the value comes without its alias. After it the slot is live no more.
+-- `consume`: the same, and the value comes without its alias. After it the slot is no longer live.
 pub record Consume (core : CoreData) (slots : Slots) (own : Note) (node : Node) (slot : ℕ) : Type 0 where
   pub of : SlotOf core slots node slot
   pub live : IsIn own.live_before slot
@@ -87,7 +88,7 @@ pub record Assign (core : CoreData) (slots : Slots) (own : Note) (notes : List N
 
 -- ---- fields
 
--- A field is read: its form is what the origin sees of it.
+-- Reading a field: the form is the one seen from the origin.
 pub record Get (core : CoreData) (own : Note) (notes : List Note) (node : Node) (name : ℕ) : Type 0 where
   pub complete : Incomplete core notes node → ⊥
   pub child : Note
@@ -100,7 +101,7 @@ pub record Get (core : CoreData) (own : Note) (notes : List Note) (node : Node) 
   pub type : own.ty ≡ Some (of.field.entity, seen)
   pub masks : OneAfterOther notes (before own) (after own)
 
--- A field of `this` is read before all fields are set: it is set, and seen as by `ref`.
+-- Reading a field of `this` before all fields are set: it is set, and seen as from `ref`.
 pub record GetOwn (core : CoreData) (own : Note) (notes : List Note) (node : Node) (name : ℕ) : Type 0 where
   pub incomplete : Incomplete core notes node
   pub of : FieldOf core incomplete.home.entity name
@@ -110,7 +111,7 @@ pub record GetOwn (core : CoreData) (own : Note) (notes : List Note) (node : Nod
   pub type : own.ty ≡ Some (of.field.entity, seen)
   pub masks : OneAfterOther notes (before own) (after own)
 
--- A field is written: it is a `var`, the value goes to it, and the origin takes such a value in. The node's value is the
+-- Writing a field: it is a `var`, the value goes to it, and the origin accepts such a value. The node's value is the
 -- old one, in the form in which the origin gives it up.
 pub record Put (core : CoreData) (own : Note) (notes : List Note) (node : Node) (name : ℕ) : Type 0 where
   pub complete : Incomplete core notes node → ⊥
@@ -130,7 +131,7 @@ pub record Put (core : CoreData) (own : Note) (notes : List Note) (node : Node) 
   pub type : own.ty ≡ Some (of.field.entity, old)
   pub masks : OneAfterOther notes (before own) (after own)
 
--- A field of `this` is written before all fields are set: it is a `var` or not set yet, and after it the field is set.
+-- Writing a field of `this` before all fields are set: it is a `var` or not set yet, and afterwards it is set.
 pub record PutOwn (core : CoreData) (own : Note) (notes : List Note) (node : Node) (name : ℕ) : Type 0 where
   pub incomplete : Incomplete core notes node
   pub of : FieldOf core incomplete.home.entity name
@@ -264,7 +265,7 @@ pub record Identity (own : Note) (notes : List Note) : Type 0 where
 
 -- ---- control
 
--- A sequence has the type of its last item. After it the locals that its items define are live no more.
+-- A sequence has the type of its last item. After it the locals that its items define are no longer live.
 pub record Seq (core : CoreData) (own : Note) (notes : List Note) (node : Node) : Type 0 where
   pub front : List Note
   pub last : Note
@@ -288,7 +289,7 @@ pub record If (core : CoreData) (own : Note) (notes : List Note) : Type 0 where
   pub second_starts : before second ≡ after condition
   pub masks : after own ≡ on_both_ways (after first) (after second)
 
--- `while`: after the body all is live that was so before the loop, and the same fields are set.
+-- `while`: after the body everything is live that was live before the loop, and the same fields are set.
 pub record While (own : Note) (notes : List Note) : Type 0 where
   pub condition : Note
   pub body : Note
@@ -326,7 +327,7 @@ pub record Body (core : CoreData) (own : Note) (notes : List Note) (node : Node)
 
 -- ---- every rule
 
--- The note meets this rule of a node of this kind.
+-- The note satisfies this rule for a node of this kind.
 abbrev pub Means : CoreData → Slots → Note → List Note → Node → Rule → NodeKind → Type 0
 Means core slots own notes node rule.Number (node_kind.Number value) = Literal own u64_entity
 Means core slots own notes node rule.Truth (node_kind.Truth value) = Literal own bool_entity

@@ -1,4 +1,4 @@
--- What a derivation is: when an annotation is valid, and what shows that none is.
+-- Derivations: when an annotation is valid, and what shows that none is.
 use Rattle.std.specs.Prelude.{◌≡◌, ℕ, suc, ◌+◌, ◌<◌, ◌≤◌, List, [], ◌∷◌, length, Some, None, slice_get}
 use Rattle.pc_sub.specs.Declarations.{DeclOk}
 use Rattle.pc_core.specs.declared.declarations.Method.{Method}
@@ -22,19 +22,19 @@ AreNotes all [] [] = Unit {0}
 AreNotes all (node ∷ nodes) (note ∷ notes) = (slice_get all node ≡ Some note) × AreNotes all nodes notes
 AreNotes all nodes notes = ⊥
 
--- The note of a node meets its rule, by the types of the slots and by the notes of the node's children, found among all
--- notes.
+-- The note of a node satisfies its rule, by the types of the slots and by the notes of the node's children, found among
+-- all notes.
 abbrev pub Meets : CoreData → Slots → List Note → Node → Note → Type 0
 Meets core slots all node own = (notes : List Note) × AreNotes all node.children notes × Means core slots own notes node own.rule node.kind
 
--- The node of this number has a note, which meets its rule.
+-- The node with this number has a note, which satisfies its rule.
 abbrev pub MeetsRule : CoreData → Ann → ℕ → Type 0
 MeetsRule core ann number =
     (node : Node) × (own : Note) × (slice_get core.nodes number ≡ Some node) × (slice_get ann.notes number ≡ Some own)
     × Meets core ann.slots ann.notes node own
 
--- This note of the node of this number meets its rule, by the types of the slots and by the notes of the node's children,
--- in order.
+-- This note of the node with this number satisfies its rule, by the types of the slots and by the notes of the node's
+-- children, in order.
 abbrev pub Holds : CoreData → Slots → Note → List Note → ℕ → Type 0
 Holds core slots own notes number = (node : Node) × (slice_get core.nodes number ≡ Some node) × Means core slots own notes node own.rule node.kind
 
@@ -79,9 +79,9 @@ pub data Reaches (core : CoreData) (ann : Ann) : ℕ → Masks → Type 0 where
       → (node.kind ≡ node_kind.If → index ≡ 1 → ⊥) → slice_get node.children (suc index) ≡ Some number → slice_get node.children index ≡ Some child
       → slice_get ann.notes child ≡ Some note → Reaches core ann number (after note)
 
--- ---- that none is valid
+-- ---- that no annotation is valid
 
--- The node of this number has a note that meets its rule, and the masks before it are those that reach the node.
+-- The node with this number has a note that satisfies its rule, and the masks before it are those that reach the node.
 abbrev pub MeetsReached : CoreData → Ann → ℕ → Type 0
 MeetsReached core ann number =
     (node : Node) × (own : Note) × (slice_get core.nodes number ≡ Some node) × (slice_get ann.notes number ≡ Some own)
@@ -93,12 +93,12 @@ Infers core node number =
     (own : ℕ) × (home : Method) × (slot : Slot) × (node.kind ≡ node_kind.Define own) × (slice_get core.methods node.method ≡ Some home)
     × (number ≡ home.first_slot + own) × (slice_get core.slots number ≡ Some slot) × (slot.written ≡ None)
 
--- The types of the slots differ at most at the slot that the node defines without a written type.
+-- The types of the slots differ at most for the slot that the node defines without a written type.
 abbrev pub DifferAt : CoreData → Node → Slots → Slots → Type 0
 DifferAt core node old new = (length new ≡ length old) × ((number : ℕ) → (Infers core node number → ⊥) → slice_get new number ≡ slice_get old number)
 
--- Up to this node all goes well, and no note with the masks that reach it meets a rule, whatever type the slot has that the
--- node defines.
+-- Up to this node there is no fault, and no note with the masks that reach it satisfies a rule, whatever the type of
+-- the slot that the node defines.
 pub record NoRule (core : CoreData) (ann : Ann) (number : ℕ) : Type 0 where
   pub declarations : DeclOk core
   pub slots : length ann.slots ≡ length core.slots
@@ -111,7 +111,7 @@ pub record NoRule (core : CoreData) (ann : Ann) (number : ℕ) : Type 0 where
   pub reaches : Reaches core ann number masks
   pub none : (own : Note) (slots : Slots) → DifferAt core at ann.slots slots → before own ≡ masks → Meets core slots ann.notes at own → ⊥
 
--- After the body of this constructor a field is not set, and all goes well before it.
+-- After the body of this constructor some field is not set, and there is no fault before it.
 pub record Unset (core : CoreData) (ann : Ann) (number : ℕ) : Type 0 where
   pub declarations : DeclOk core
   pub slots : length ann.slots ≡ length core.slots

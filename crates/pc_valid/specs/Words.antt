@@ -1,5 +1,5 @@
--- Words of the typing rules: types, places and masks, slots, fields and methods by their names, and when a value may go
--- where another is wanted.
+-- The vocabulary of the typing rules: types, places and masks, slots, fields and methods by their names, and when a
+-- value may be used for another.
 use Rattle.std.specs.Prelude.{◌≡◌, ◌⊎◌, ℕ, true, ◌+◌, ◌<◌, ◌-◌, List, [], ◌∷◌, ◌++◌, length, Option, Some, None, slice_get}
 use Rattle.pc_caps.specs.Order.{IsBelow}
 use Rattle.pc_caps.specs.Tables.{unalias, stored, lift, sendable, sendable_form}
@@ -36,7 +36,7 @@ Place = ℕ × Cap
 abbrev pub Fits : Form → Cap → Type 0
 Fits given wanted = IsBelow given (unalias wanted)
 
--- A value of the first type may be used where one of the second is wanted.
+-- A value of the first type may be used wherever one of the second is expected.
 abbrev pub IsLower : CoreData → Ty → Ty → Type 0
 IsLower core given wanted = Sub core given.0 wanted.0 × IsBelow given.1 wanted.1
 
@@ -48,8 +48,8 @@ GoesTo core given place = Sub core given.0 place.0 × Fits given.1 place.1
 abbrev pub Reads : ℕ → Option Ty → Type 0
 Reads entity ty = (seen : Form) × (ty ≡ Some (entity, seen)) × IsBelow seen form.Box
 
--- The type of two branches: the higher one if one is below the other, and else none. If each is below the other it is that
--- of the second branch.
+-- The type of two branches: the higher one if one is below the other, and otherwise none. If each is below the other it
+-- is that of the second branch.
 pub data Joined (core : CoreData) : (first second both : Option Ty) → Type 0 where
   to_second : {left right : Ty} → IsLower core left right → Joined core (Some left) (Some right) (Some right)
   to_first : {left right : Ty} → (IsLower core left right → ⊥) → IsLower core right left → Joined core (Some left) (Some right) (Some left)
@@ -75,7 +75,7 @@ before note = (note.live_before, note.set_before)
 abbrev pub after : Note → Masks
 after note = (note.live_after, note.set_after)
 
--- What is live and set after either of two ways.
+-- What is live and set after both of two paths.
 abbrev pub on_both_ways : Masks → Masks → Masks
 on_both_ways one other = (meet one.0 other.0, meet one.1 other.1)
 
@@ -93,7 +93,7 @@ IsConstructor kind = (kind ≡ method.New) ⊎ (kind ≡ method.Spawn)
 abbrev pub AllSet : CoreData → ℕ → Mask → Type 0
 AllSet core entity set = (owner : EntityDef) → slice_get core.entities entity ≡ Some owner → (number : ℕ) → number < length owner.fields → IsIn set number
 
--- The mask of the fields that are set where a method starts: none in a constructor, and all of them elsewhere.
+-- The mask of the fields that are set when a method starts: none in a constructor, and all of them elsewhere.
 abbrev pub StartsSet : CoreData → Method → Mask → Type 0
 StartsSet core home set =
     (IsConstructor home.kind → set ≡ empty)
@@ -103,7 +103,7 @@ StartsSet core home set =
 abbrev pub Slots : Type 0
 Slots = List Place
 
--- The slot of this number among those of the node's method, with what it holds.
+-- The slot with this number among those of the node's method, with what it holds.
 pub record SlotOf (core : CoreData) (slots : Slots) (node : Node) (number : ℕ) : Type 0 where
   pub home : Method
   pub is_home : slice_get core.methods node.method ≡ Some home
@@ -113,21 +113,21 @@ pub record SlotOf (core : CoreData) (slots : Slots) (node : Node) (number : ℕ)
   pub cap : Cap
   pub holds : slice_get slots (home.first_slot + number) ≡ Some (entity, cap)
 
--- The node may use a slot: no `recover` stands between the two, or the slot holds what may be sent.
+-- The node may use a slot: there is no `recover` between the two, or the slot holds something that may be sent.
 abbrev pub Reachable : Node → Slot → Cap → Type 0
 Reachable node slot held = (slot.depth ≡ node.depth) ⊎ (sendable held ≡ true)
 
--- What a slot holds from its definition on: what is written there, or else what an alias of the value is.
+-- What a slot holds from its definition on: what is written there, or else an alias of the value.
 abbrev pub DefinedAs : Option Place → Ty → Place → Type 0
 DefinedAs written value place = (written ≡ Some place) ⊎ ((written ≡ None) × (place ≡ (value.0, stored value.1)))
 
--- One of these nodes defines the slot of this number.
+-- One of these nodes defines the slot with this number.
 abbrev pub Defines : CoreData → List ℕ → ℕ → Type 0
 Defines core items number = (item : ℕ) × (node : Node) × Has items item × (slice_get core.nodes item ≡ Some node) × (node.kind ≡ node_kind.Define number)
 
 -- ---- fields and methods by name
 
--- The field of this name of an entity, with its number among the fields there.
+-- The field with this name of an entity, with its number among the fields there.
 pub record FieldOf (core : CoreData) (entity name : ℕ) : Type 0 where
   pub owner : EntityDef
   pub is_owner : slice_get core.entities entity ≡ Some owner
@@ -140,7 +140,7 @@ pub record FieldOf (core : CoreData) (entity name : ℕ) : Type 0 where
 abbrev pub place : FieldInfo → Place
 place field = (field.entity, field.cap)
 
--- A call: the notes of its arguments, and after them that of the receiver, whose entity has a method of this name.
+-- A call: the notes of its arguments, and after them that of the receiver, whose entity has a method with this name.
 pub record Called (core : CoreData) (notes : List Note) (name : ℕ) : Type 0 where
   pub arguments : List Note
   pub receiver : Note
@@ -159,7 +159,7 @@ Go core [] [] = Unit {0}
 Go core (note ∷ notes) (param ∷ params) = ((value : Ty) × (note.ty ≡ Some value) × GoesTo core value (param.entity, param.cap)) × Go core notes params
 Go core notes params = ⊥
 
--- Each argument is a value that may be sent, or goes to a parameter that holds what may be sent.
+-- Each argument is a value that may be sent, or goes to a parameter that holds something that may be sent.
 abbrev pub Sendable : List Note → List ParamInfo → Type 0
 Sendable [] [] = Unit {0}
 Sendable (note ∷ notes) (param ∷ params) =
@@ -172,8 +172,8 @@ Sendable notes params = ⊥
 abbrev pub last : {A : Type 0} → List A → Option A
 last elements = slice_get elements (length elements - 1)
 
--- The node reads or writes a field of `this` while the object is not complete: it stands in a constructor, in no `recover`,
--- its last child is `this`, and before that child a field is not set.
+-- The node reads or writes a field of `this` while the object is not complete: it is in a constructor and in no
+-- `recover`, its last child is `this`, and before that child some field is not set.
 pub record Incomplete (core : CoreData) (notes : List Note) (node : Node) : Type 0 where
   pub home : Method
   pub is_home : slice_get core.methods node.method ≡ Some home

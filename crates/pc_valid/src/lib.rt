@@ -1,6 +1,6 @@
-//! What a derivation is: the 31 typing rules as records of their condition, their type and their masks, over subtyping as a
-//! relation, and when an annotation of a core is valid. It has no code, and nothing here is computed: the crates above prove
-//! that what they compute is this.
+//! Derivations: the 31 typing rules as records of their condition, their type and their masks, over subtyping as a
+//! relation, and when an annotation of a core is valid. This crate has no code, and nothing here is computed: the
+//! crates above prove that what they compute is this.
 //!
 //! - `specs/Words.antt`: types, places and masks; slots, fields and methods by their names; when a value may go where another
 //!   is wanted.

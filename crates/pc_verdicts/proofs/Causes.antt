@@ -1,4 +1,4 @@
--- No fault of a file's names or of its members is that memory ran out.
+-- A fault of a file's names or of its members never means that memory ran out.
 use Rattle.std.proofs.Common.{◌≡◌, ◌+◌, ℕ, List, [], ◌∷◌, ◌++◌, Bool, true, false, length, Option, Some, None, Ok, Err, refl, ap, ◌∙◌, subst, if◌then◌else◌}
 use Rattle.std.specs.Prelude.{Result, codes, drop, slice_get}
 use Rattle.std.specs.Str.{bytes_eq}

@@ -1,4 +1,5 @@
--- Whether a chain leads from a number to another can be told, if single links can and all numbers are below some number.
+-- Whether a chain leads from one number to another is decidable, if single links are and all numbers are below some
+-- number.
 use Rattle.std.proofs.Common.{◌≡◌, ◌<◌, ◌+◌, ℕ, zero, suc, List, [], ◌∷◌, length, Option, Some, None, refl, sym, ap, ◌∙◌, subst, arith}
 use Rattle.std.specs.Prelude.{slice_get}
 use Rattle.std.proofs.lemmas.Option.{same_Some}

@@ -1,4 +1,4 @@
--- A play comes to the entries of others. This is as in pc_outcomes, which does not export it.
+-- A play is added to the entries of others. This is as in pc_outcomes, which does not export it.
 use Rattle.std.proofs.Common.{◌≡◌, ℕ, zero, suc, ◌+◌, ◌<◌, ◌≤◌, Bool, true, false, cond, List, [], ◌∷◌, ◌++◌, length, take, Option, Some, None, refl, sym, ap, ◌∙◌, arith}
 use Rattle.std.specs.Prelude.{◌&&◌, ◌||◌, IsSomeAnd, slice_get}
 use Rattle.std.specs.List.{AllByRecursion, count_by, list_any}

@@ -1,4 +1,4 @@
--- What rules say is small enough for a derivation's text: entities are below 2^32, and masks below 2^64.
+-- What rules state is small enough for a derivation's text: entities are below 2^32, and masks below 2^64.
 use Rattle.std.proofs.Common.{◌≡◌, ◌<◌, ◌≤◌, ◌+◌, ◌-◌, ◌^◌, ℕ, zero, suc, min, Bool, true, false, ◌&&◌, List, [], ◌∷◌, ◌++◌, map, length, Option, Some, None, inl, inr, refl, sym, ap, ◌∙◌, subst, arith, if◌then◌else◌}
 use Rattle.std.specs.Prelude.{bit_or, nat_lt, slice_get, slice_set}
 use Rattle.std.specs.List.{AllByRecursion}
@@ -161,7 +161,7 @@ typed_small t v f e = type_small v (subst TypeFits e f.0)
 one_small : (ns : List Note) (v : Ty) → NotesFit ns → one_type ns ≡ Some v → Small v.0
 one_small ns v f e = let a = bind_some (one_note ns) (λ t. t.ty) v e in typed_small a.0 v (one_fits ns a.0 f a.1) a.2
 
--- ---- what a rule says
+-- ---- what a rule states
 
 abbrev pub SaidFits : Said → Type 0
 SaidFits q = TypeFits q.ty × BothFit (q.live, q.set)

@@ -45,7 +45,7 @@ sources_formed ascend formed name r s h = passed_formed ascend formed h
 pub source_formed : SourcesAreFormed → {name : Text} {r : Reading} {s : Source} → SourceStage name r (Ok s) → Formed s.core × IsSmall s.core
 source_formed law {name = name} {r = r} {s = s} h = law name r s h
 
--- A source whose tree alone is asked for was read whole, and its tokens spell this file.
+-- A source of which only the tree is needed was read whole, and its tokens spell this file.
 pub file_says : {name : Text} {r : Reading} {f : t.File} → FileStage name r (Ok f)
     → (bytes : Text) × (r ≡ whole bytes) × (length bytes ≤ source_limit) × (tokens : List Token) × TokenList bytes tokens × IsFileAnswer tokens (spelled f)
 file_says (goes (fits {bytes = b} short) (goes (lexed {ts = ts} l) (parsed p))) = (b, refl, short, ts, l, p)

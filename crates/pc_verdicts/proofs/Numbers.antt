@@ -1,4 +1,4 @@
--- A word spells a number or spells none.
+-- A word denotes a number or denotes none.
 use Rattle.std.proofs.Common.{◌⊎◌, ◌≤◌, ◌^◌, ℕ, List, [], ◌∷◌, length, inl, inr, refl, subst, arith}
 use Rattle.std.specs.Char.{digit_value}
 use Rattle.std.specs.Str.Parse.{AllDigits, digits_value}

@@ -104,7 +104,7 @@ module _ (core : CoreData) (list : List ℕ) where
     recorded : (d : Deed) → Does core list n i d → Listed place_of (EventAt core list) Done (suc n) (events ++ event_of d ∷ [])
     recorded d does = listed_more place_of (EventAt core list) Done n events h.0 (event_of d) refl (record { event = e; does = does; clock = c })
 
-    -- A deed that is no access.
+    -- A deed that is not an access.
     quiet : (d : Deed) → Does core list n i d → touches_with (event_of d) d [] ≡ [] → access core (at_place core list n) i ≡ None → (more : List RunEvent) × Recorded (suc n) more
     quiet d does none free =
         let same : touches_in (events ++ event_of d ∷ []) ≡ touches_in events = touches_push events (event_of d) ∙ ap (λ (l : List Touch). touches_in events ++ l) none ∙ append-nil (touches_in events) in

@@ -1,4 +1,4 @@
--- Commands that run a program have a verdict: `run`, `make` and `play`; and so has `schedule`.
+-- Commands that run a program have a verdict: `run`, `make` and `play`; and so does `schedule`.
 use Rattle.std.proofs.Common.{ℕ, List, [], ◌∷◌, Ok, inl, inr, refl, subst, arith}
 use Rattle.std.specs.Prelude.{IsSome}
 use Rattle.std.specs.List.{AllByRecursion}

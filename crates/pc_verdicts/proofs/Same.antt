@@ -1,4 +1,4 @@
--- Whether two things are the same can be told.
+-- Whether two things are the same is decidable.
 use Rattle.std.proofs.Common.{◌≡◌, ◌⊎◌, ℕ, zero, suc, Option, Some, None, inl, inr, refl, sym, ap, ◌∙◌}
 use Rattle.std.proofs.lemmas.Bool.{cases_eq}
 use Rattle.std.proofs.lemmas.Option.{none-some, same_Some}
@@ -91,7 +91,7 @@ same_option same (Some a) (Some b) = elim (same a b) [ inl e ↦ inl (ap Some e)
 pub same_type : (t u : ℕ × Cap) → Told (t ≡ u)
 same_type = same_pair (by_number cap_number cap_of cap_back)
 
--- ---- what a rule says
+-- ---- what a rule states
 
 same_mask : (a b : Mask) → Told (a ≡ b)
 same_mask a b = elim (cases_eq a.0 b.0) [ inl e ↦ inl (ap (λ (n : ℕ). record { 0 = n }) e) | inr d ↦ inr (λ e. d (ap (λ (m : Mask). m.0) e)) ]

@@ -1,4 +1,4 @@
--- Commands that read a source alone, and need no derivation, have a verdict: `show`, `places` and `explain`.
+-- Commands that only read a source, and need no derivation, have a verdict: `show`, `places` and `explain`.
 use Rattle.std.proofs.Common.{◌≤◌, List, length, Ok, Err, inl, inr, refl, sym, subst}
 use Rattle.std.specs.Prelude.{IsSome, Result}
 use Rattle.pc_core.specs.CoreData.{CoreData}

@@ -1,4 +1,4 @@
--- Stages that have an end, one after the other.
+-- Stages that have an end, one after another.
 use Rattle.std.proofs.Common.{◌<◌, ◌≤◌, ℕ, length, Option, Some, None, Ok, Err, inl, inr, refl}
 use Rattle.std.specs.Prelude.{IfSome, IsSome, Result}
 use Rattle.std.proofs.lemmas.Bool.{cases_lt, false≢true}
@@ -44,7 +44,7 @@ reads limit name (Some b) before now taken on h = elim (cases_lt limit (length b
   | inr short ↦ (whole b, (short, refl), (Ok b, fits short))
 ]
 
--- A file that tells its bytes has a reading, of which the length ends.
+-- A file whose bytes are known has a reading, and its length stage ends.
 pub read_file : (file : Named) (limit : ℕ) → ReadOn limit file → IsSome file.told → (r : Reading) × IsReadingOf file limit r × HasEnd (Length limit file.name r)
 read_file file limit on told = reads limit file.name file.told file.before file.now file.taken on told
 

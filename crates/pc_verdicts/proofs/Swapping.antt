@@ -67,7 +67,7 @@ small_exchanged front i j rest a =
     let r = small_front front (i ∷ j ∷ rest) a in
     small_append front (j ∷ i ∷ rest) r.0 (r.1.1.0, (r.1.0, r.1.1.1))
 
--- ---- what is told of two turns
+-- ---- what is reported of two turns
 
 module _ (core : CoreData) (safe : Safe core) (t : Neighbours) (go : end_of (outcomes core t.front) ≡ None) (small : AllByRecursion Small (t.front ++ t.j ∷ t.i ∷ t.rest))
     (few : length (t.front ++ t.j ∷ t.i ∷ t.rest) ≤ turn_limit) where

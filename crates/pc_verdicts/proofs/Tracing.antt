@@ -128,7 +128,7 @@ module _ (core : CoreData) (list : List ℕ) where
 
   -- ---- how many actors there are
 
-  -- There are no more than a clock may speak of, or a step made one too many.
+  -- There are no more than a clock may have numbers for, or a step made one too many.
   abbrev pub Counted : ℕ → Type 0
   Counted n = (length (at_place core list n).actors ≤ actor_limit) ⊎ ((m : ℕ) × TooManyAt core list m)
 

@@ -58,7 +58,7 @@ pub data Checked (core : CoreData) : Type 0 where
 abbrev Comes : CoreData → (low node : ℕ) → Type 0
 Comes core low n = (ann : Ann) → low ≤ length ann.notes → (m : Masks) × StartsFrom core ann n m
 
--- What stands in the node begins at such a number.
+-- What is in the node begins at such a number.
 abbrev Placed : CoreData → ℕ → Type 0
 Placed core n = (low : ℕ) × Tree core low n × Comes core low n
 

@@ -1,4 +1,4 @@
--- Out of memory is the one answer that is free.
+-- Running out of memory is the only answer that is always allowed.
 use Rattle.std.specs.Prelude.{ℕ, ◌≡◌, ◌⊎◌, List}
 use Rattle.std.specs.Io.KnownBytes.{Appends}
 use Rattle.pc_args.specs.Asked.{command_of}
@@ -16,7 +16,7 @@ use Rattle.pc_verdicts.specs.There.{read_through}
 abbrev pub IsAnswerOf : Verdict → Change → Change → ℕ → Type 0
 IsAnswerOf v out err status = (status ≡ v.status) × Appends out.before out.now v.out × Appends err.before err.now v.err
 
--- Whatever a call answered in which no file of the command and no stream failed: it is 11, or it is the verdict on the
+-- Whatever a call answers in which no file of the command and no stream failed: it is 11, or it is the verdict on the
 -- words and on the bytes of the files.
 abbrev pub ElevenIsFree : Type 0
 ElevenIsFree =

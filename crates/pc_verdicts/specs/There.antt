@@ -8,7 +8,7 @@ use Rattle.pc_refusals.specs.Verdict.{Verdict}
 use Rattle.pc_top.specs.Asked.{IsVerdict}
 use Rattle.pc_top.specs.One.{TellsOf}
 
--- Files with these bytes. No reading of them fails, and one of a file that is longer than its limit goes on past that:
+-- Files with these bytes. No reading of them fails, and if a file is longer than its limit, it is read past the limit:
 -- no limit is greater than that of derivations.
 abbrev pub read_through : (Text → Option Text) → Files
 read_through told = files_change told (λ name. 0) (λ name. 0) (derivation_limit + 1)
@@ -17,6 +17,6 @@ read_through told = files_change told (λ name. 0) (λ name. 0) (derivation_limi
 abbrev pub HasVerdict : (Text → Option Text) → List Text → Type 0
 HasVerdict told words = (v : Verdict) × IsVerdict (read_through told) words v
 
--- Whatever the words are, and whatever bytes the files of the command have.
+-- Whatever the words are, and whatever bytes the command's files have.
 abbrev pub ThereIsAVerdict : Type 0
 ThereIsAVerdict = (told : Text → Option Text) (words : List Text) → TellsOf told (command_of words) → HasVerdict told words

@@ -8,8 +8,8 @@ use pc_text_order::tokens_are_in_order;
 use pc_top::verdict_is_one;
 use pc_types::accepted_never_lacks;
 
-/// There is a verdict on all words, whatever bytes their files have: tokens or a fault, a tree or a fault, a core or a
-/// fault, a valid annotation or what shows that there is none, and what each command does with them.
+/// There is a verdict on any words, whatever bytes their files have: tokens or a fault, a tree or a fault, a core or a
+/// fault, a valid annotation or the reason why there is none, and what each command does with them.
 pub fn there_is_a_verdict()
     ensures { ThereIsAVerdict }
 {
@@ -20,7 +20,7 @@ pub fn there_is_a_verdict()
 }
 
 /// If no file of the command and no stream failed, the answer is that verdict, or it is 11. So running out of memory is
-/// the one answer that words and files do not decide.
+/// the only answer that words and files do not determine.
 pub fn eleven_is_the_one_free_answer()
     ensures { ElevenIsFree }
 {

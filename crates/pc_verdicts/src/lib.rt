@@ -1,8 +1,8 @@
-//! The verdicts of the program: for all words there is one, whatever bytes their files have.
+//! The verdicts of the program: for any words there is one, whatever bytes their files have.
 //!
-//! Proved: there is a verdict (`there_is_a_verdict`), and `verdict_is_one` of `pc_top` says that there is no other. So
-//! running out of memory is the one answer that is free (`eleven_is_the_one_free_answer`): a call in which nothing
-//! failed answers 11 or that verdict.
+//! Proved: there is a verdict (`there_is_a_verdict`), and `verdict_is_one` of `pc_top` states that there is no other.
+//! So running out of memory is the only answer that is always allowed (`eleven_is_the_one_free_answer`): a call in
+//! which nothing failed answers 11 or that verdict.
 #![tactic(auto)]
 
 mod laws;

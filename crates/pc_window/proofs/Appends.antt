@@ -1,4 +1,4 @@
--- Texts that are appended one after the other.
+-- Texts that are appended one after another.
 use Rattle.std.proofs.Common.{◌≡◌, ℕ, List, ◌++◌, if◌then◌else◌, Result, Ok, Err, ap, ◌∙◌, append_assoc}
 use Rattle.std.specs.Result.{OnOk, is_ok}
 use Rattle.std.proofs.lemmas.Result.{on_ok_weaker}

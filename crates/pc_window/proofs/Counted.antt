@@ -1,4 +1,4 @@
--- The place behind one byte more.
+-- The place after one more byte.
 use Rattle.std.proofs.Common.{◌≡◌, ◌<◌, ◌≤◌, ℕ, Bool, true, false, cond, not, List, [], ◌∷◌, ◌++◌, refl, take, length, get_or, reverse, ◌+◌, sym, ap, ◌∙◌, arith}
 use Rattle.std.specs.Prelude.{count_by}
 use Rattle.std.specs.List.{prefix_len}
@@ -6,7 +6,7 @@ use Rattle.std.proofs.lemmas.List.{take_more, reverse-append}
 use Rattle.std.proofs.lemmas.List.Sums.{sum_by_push}
 use Rattle.pc_refusals.specs.Place.{is_line_end, is_in_line, line_behind, column_behind}
 
--- The place behind the first bytes of a text, with bounds.
+-- The place after the first bytes of a text, with bounds.
 pub record At (front : List ℕ) (i line column : ℕ) : Type 0 where
   pub line_is : line ≡ line_behind (take i front)
   pub column_is : column ≡ column_behind (take i front)

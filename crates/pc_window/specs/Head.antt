@@ -5,6 +5,6 @@ use Rattle.pc_lists.specs.Texts.{Text}
 use Rattle.pc_refusals.specs.Refusal.{offset_line}
 use Rattle.pc_window.specs.Window.{window}
 
--- The line by which the source of this name is refused, and the window of the span.
+-- The line by which the source with this name is refused, and the window of the span.
 unfoldable pub head : Text → Text → Span → Text → Text
 head name bytes span what = offset_line name bytes span.start what ++ window bytes span

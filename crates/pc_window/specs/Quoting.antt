@@ -1,9 +1,9 @@
--- Pieces of a source and names, as they stand in a line of words.
+-- Pieces of a source and names, as they appear in a line of words.
 use Rattle.std.specs.Prelude.{ℕ, ◌-◌, Bool, true, false, ◌==◌, ◌||◌, nat_lt, List, [], ◌∷◌, ◌++◌, length, take, Option, Some, None, slice_get, if◌then◌else◌, codes}
 use Rattle.pc_lists.specs.Texts.{Text}
 use Rattle.pc_window.specs.Shown.{shown, goes_on}
 
--- How many bytes of a piece are written whole, and how many of a longer one are kept at most.
+-- How many bytes of a piece are written in full, and how many of a longer one are kept at most.
 abbrev pub whole : ℕ
 whole = 40
 
@@ -15,7 +15,7 @@ kept = 38
 abbrev pub is_blank : ℕ → Bool
 is_blank b = b == 32 || b == 9 || b == 10 || b == 13
 
--- What stands for a byte, after a blank or after another byte: nothing for a blank after a blank.
+-- What a byte is written as, after a blank or after another byte: nothing for a blank after a blank.
 abbrev pub in_line : (after_blank : Bool) → ℕ → Text
 in_line after b = if is_blank b then (if after then [] else 32 ∷ []) else shown b ∷ []
 
@@ -29,7 +29,7 @@ one_line piece = line_from false piece
 
 -- ---- cut
 
--- A cut before the byte of this index splits a character.
+-- A cut before the byte with this index splits a character.
 abbrev pub splits_at : Option ℕ → Bool
 splits_at None = false
 splits_at (Some b) = goes_on b
@@ -47,7 +47,7 @@ cut_of line =
 abbrev pub cut : Text → Text
 cut line = if nat_lt whole (length line) then take (cut_of line) line ++ codes ".." else line
 
--- ---- as it stands in a line of words
+-- ---- as it appears in a line of words
 
 unfoldable pub piece : Text → Text
 piece bytes = cut (one_line bytes)

@@ -1,4 +1,4 @@
--- The line of a source in which a span starts, and under it where the span is.
+-- The line of a source in which a span starts, with the span marked below it.
 use Rattle.std.specs.Prelude.{ℕ, ◌+◌, ◌-◌, Bool, true, false, not, ◌==◌, nat_lt, List, [], ◌∷◌, ◌++◌, length, take, drop, map, flat_map, Option, Some, None, slice_get, if◌then◌else◌, codes, decimal}
 use Rattle.std.specs.List.{prefix_len}
 use Rattle.pc_caps.specs.declared.span.Span.{Span}
@@ -7,8 +7,8 @@ use Rattle.pc_refusals.specs.Place.{is_in_line, line_behind, column_behind}
 use Rattle.pc_window.specs.Places.{place}
 use Rattle.pc_window.specs.Shown.{shown, goes_on}
 
--- If more than `far` bytes of its line stand before a span, the line is shown from `near` bytes before the span on. At most
--- `width` bytes of a line are shown.
+-- If there are more than `far` bytes before a span in its line, the line is shown from `near` bytes before the span on.
+-- At most `width` bytes of a line are shown.
 abbrev pub far : ℕ
 far = 100
 
@@ -20,7 +20,7 @@ width = 160
 
 -- ---- the line
 
--- How many bytes of their last line these bytes have, and where it begins.
+-- How many bytes these bytes have in their last line, and where that line begins.
 abbrev pub before_of : Text → ℕ
 before_of front = column_behind front - 1
 
@@ -41,16 +41,16 @@ without_cr line = if is_cr (slice_get line (length line - 1)) then take (length 
 abbrev pub line_at : Text → ℕ → Text
 line_at bytes start = without_cr (to_line_end (drop start bytes))
 
--- ---- what of it is shown
+-- ---- the part that is shown
 
--- From which byte on a line is shown, if this many of its bytes stand before the span.
+-- The byte from which a line is shown, if it has this many bytes before the span.
 abbrev pub shown_from : ℕ → ℕ
 shown_from before = if nat_lt far before then before - near else 0
 
 abbrev pub part_of : Text → ℕ → Text
 part_of line before = take width (drop (shown_from before) line)
 
--- For what is left out before the part: two points, and two blanks under them.
+-- What is written for a part left out at the start: two dots, and two blanks below them.
 abbrev pub dots : Bool → Text
 dots true = codes ".."
 dots false = []
@@ -62,9 +62,9 @@ gap false = []
 abbrev pub shown_line : Text → ℕ → Text
 shown_line line before = dots (nat_lt far before) ++ (map shown (part_of line before) ++ dots (nat_lt (shown_from before + width) (length line)))
 
--- ---- what stands under it
+-- ---- what is written below it
 
--- Under a byte before the span: a tab under a tab, and a blank under a character.
+-- Below a byte before the span: a tab below a tab, and a blank below a character.
 abbrev pub under : ℕ → Text
 under b = if b == 9 then 9 ∷ [] else (if goes_on b then [] else 32 ∷ [])
 
@@ -79,13 +79,13 @@ one_at_least (b ∷ bs) = b ∷ bs
 abbrev pub carets : Text → Text
 carets part = one_at_least (flat_map caret part)
 
--- Of a span of this many bytes.
+-- The marks for a span of this many bytes.
 abbrev pub marks : Text → (before size : ℕ) → Text
 marks line before size =
     gap (nat_lt far before)
     ++ (flat_map under (take (before - shown_from before) (part_of line before)) ++ carets (take size (drop (before - shown_from before) (part_of line before))))
 
--- Where a span ends that goes on after its first line, which ends at this byte.
+-- Where a span ends that continues after its first line, which ends at this byte.
 abbrev pub further : Text → (end_of_line end : ℕ) → Text
 further bytes line_ends at = if nat_lt line_ends at then codes " .. " ++ place bytes at else []
 
@@ -104,7 +104,7 @@ bar = codes " | "
 abbrev pub source_line : (number : ℕ) → Text → (before : ℕ) → Text
 source_line number line before = decimal number ++ (bar ++ (shown_line line before ++ line_end))
 
--- Under the line of a span, which begins after these bytes.
+-- What is written below the line of a span that begins after these bytes.
 abbrev pub under_line : Text → Span → (front : Text) → Text → Text
 under_line bytes span front line =
     blanks (line_behind front)
@@ -113,6 +113,6 @@ under_line bytes span front line =
 abbrev pub window_in : Text → Span → (front : Text) → Text → Text
 window_in bytes span front line = source_line (line_behind front) line (before_of front) ++ under_line bytes span front line
 
--- The line in which the span starts, and carets under the span.
+-- The line in which the span starts, and carets below the span.
 unfoldable pub window : Text → Span → Text
 window bytes span = window_in bytes span (take span.start bytes) (line_at bytes (line_start (take span.start bytes)))

@@ -1,4 +1,4 @@
-//! Bytes that are appended.
+//! Appending bytes.
 ghost use Rattle.std.specs.Prelude.{◌≡◌, ◌++◌, OnOk};
 
 use std::alloc::AllocError;

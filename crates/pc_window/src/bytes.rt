@@ -9,14 +9,14 @@ fn is_obeyed(byte: u8) -> bool
     (byte < 32 && byte != b'\t') || byte == 127
 }
 
-/// The byte as it is shown: as a point if a terminal would obey it, that is, if it is below 32 and no tab, or 127.
+/// The byte as it is shown: as a dot if a terminal would obey it, that is, if it is below 32 and not a tab, or 127.
 pub fn shown(byte: u8) -> u8
     ensures { result ≡ spec.shown byte }
 {
     if is_obeyed(byte) { b'.' } else { byte }
 }
 
-/// Whether the byte is not the first of a character of UTF-8.
+/// Whether the byte does not begin a UTF-8 character.
 pub(crate) fn goes_on(byte: u8) -> bool
     ensures { result ≡ spec.goes_on byte }
 {

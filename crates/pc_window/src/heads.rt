@@ -9,7 +9,7 @@ use crate::window::push_window;
 use pc_caps::Span;
 use std::alloc::{AllocError, Global};
 
-// Appends the line that names a byte of the file of this name, and what is wrong there.
+// Appends the line that names a byte of the file with this name, and what is wrong there.
 fn push_offset_line(
     alloc: Global,
     out: &mut Vec<u8>,
@@ -25,7 +25,8 @@ fn push_offset_line(
     out.extend_from_slice(text.as_bytes())
 }
 
-/// Appends the line by which the source of this name is refused, `NAME:LINE:COLUMN: WHAT`, and the window of the span.
+/// Appends the line by which the source with this name is refused, `NAME:LINE:COLUMN: WHAT`, and the window of the
+/// span.
 #[tactic(auto, unfolding(crate::specs::Head::head))]
 pub fn push_head(
     alloc: Global,

@@ -1,9 +1,9 @@
-//! Pieces of a source in words: its bytes as they are shown, pieces between backquotes, places, and the line of a span with
-//! carets under it.
+//! Pieces of a source in words: its bytes as they are shown, pieces between backquotes, places, and the line of a span
+//! with carets below it.
 //!
-//! Proved: each function appends exactly the bytes of its definition, or memory ran out. Bytes that a terminal would obey are
-//! shown as points; a caret stands under each character of the span, with tabs under tabs before it; a piece stands in one line
-//! and is cut where it is long, and no character is split by that.
+//! Proved: each function appends exactly the bytes of its definition, or memory ran out. Bytes that a terminal would
+//! obey are shown as dots; there is a caret below each character of the span, and a tab below each tab before it; a
+//! piece is written in one line and cut if it is long, without splitting a character.
 #![tactic(auto)]
 
 mod appending;

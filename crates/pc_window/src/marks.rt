@@ -1,11 +1,11 @@
-//! What stands under a line: blanks and tabs up to the span, and carets under it.
+//! What is written below a line: blanks and tabs up to the span, and carets below it.
 ghost use Rattle.std.specs.Prelude.{◌≡◌, ◌++◌, flat_map, OnOk};
 ghost use Rattle.pc_window.specs.Window as spec;
 
 use crate::bytes::goes_on;
 use std::alloc::AllocError;
 
-// Appends what stands under a byte before the span.
+// Appends what is written below a byte before the span.
 fn push_under(out: &mut Vec<u8>, byte: u8) -> Result<(), AllocError>
     ensures { OnOk result (out.new.items ≡ out.old.items ++ spec.under byte) }
 {
@@ -17,7 +17,7 @@ fn push_under(out: &mut Vec<u8>, byte: u8) -> Result<(), AllocError>
     Ok(())
 }
 
-/// Appends what stands under the bytes before the span.
+/// Appends what is written below the bytes before the span.
 pub(crate) fn push_all_under(out: &mut Vec<u8>, bytes: &[u8]) -> Result<(), AllocError>
     ensures { OnOk result (out.new.items ≡ out.old.items ++ flat_map spec.under bytes.now) }
 {

@@ -11,14 +11,14 @@ pub(crate) fn front_of(bytes: &[u8], offset: u32) -> &[u8]
     first_of(bytes, offset as usize)
 }
 
-/// The first bytes, as many as this.
+/// The first `count` bytes.
 pub(crate) fn first_of(bytes: &[u8], count: usize) -> &[u8]
     ensures { result.now ≡ take count bytes.now }
 {
     &bytes[..count.min(bytes.len())]
 }
 
-/// The bytes after these first ones.
+/// The bytes after the first `count` ones.
 pub(crate) fn after(bytes: &[u8], count: usize) -> &[u8]
     ensures { result.now ≡ drop count bytes.now }
 {

@@ -9,9 +9,9 @@ use std::alloc::{AllocError, Global};
 /// A place in a text, both numbers counted from 1.
 #[derive(Clone, Copy, Debug)]
 pub(crate) struct Place {
-    /// One more than the line ends before it.
+    /// One more than the number of line ends before it.
     pub line: usize,
-    /// One more than the bytes since the last of them.
+    /// One more than the number of bytes since the last of them.
     pub column: usize,
 }
 

@@ -1,11 +1,11 @@
-//! Pieces of a source and names, as they stand in a line of words.
+//! Pieces of a source and names, as they appear in a line of words.
 ghost use Rattle.std.specs.Prelude.{◌≡◌, ◌++◌, ◌≤◌, IfOk, OnOk};
 ghost use Rattle.pc_window.specs.Quoting as spec;
 
 use crate::bytes::{goes_on, shown};
 use std::alloc::{AllocError, Global};
 
-// How many bytes of a piece are written whole, and how many of a longer one are kept at most.
+// How many bytes of a piece are written in full, and how many of a longer one are kept at most.
 const WHOLE: usize = 40;
 
 const KEPT: usize = 38;
@@ -16,7 +16,7 @@ fn is_blank(byte: u8) -> bool
     byte == b' ' || byte == b'\t' || byte == b'\n' || byte == b'\r'
 }
 
-// Appends what stands for a byte, after a blank or after another byte.
+// Appends what a byte is written as, after a blank or after another byte.
 fn push_in_line(out: &mut Vec<u8>, after_blank: bool, byte: u8) -> Result<(), AllocError>
     ensures { OnOk result (out.new.items ≡ out.old.items ++ spec.in_line after_blank byte) }
 {
@@ -41,7 +41,7 @@ fn one_line(alloc: Global, piece: &[u8]) -> Result<Vec<u8>, AllocError>
     Ok(line)
 }
 
-// Whether a cut before the byte of this index splits a character.
+// Whether a cut before the byte with this index splits a character.
 fn splits(line: &[u8], at: usize) -> bool
     ensures { result ≡ spec.splits line.now at }
 {
@@ -51,7 +51,7 @@ fn splits(line: &[u8], at: usize) -> bool
     }
 }
 
-// How many bytes of a longer line are kept, so that no character is split.
+// How many bytes of a longer line are kept, such that no character is split.
 fn cut_of(line: &[u8]) -> usize
     ensures value { result ≡ spec.cut_of line.now }
     ensures few { result ≤ spec.kept }
@@ -78,7 +78,8 @@ fn push_cut(out: &mut Vec<u8>, line: &[u8]) -> Result<(), AllocError>
     out.extend_from_slice(b"..")
 }
 
-/// Appends a piece in one line, with each run of blanks, tabs and line ends as one blank. One of more than 40 bytes is cut.
+/// Appends a piece in one line, with each run of blanks, tabs and line ends as one blank. If it has more than 40 bytes,
+/// it is cut.
 #[tactic(auto, unfolding(crate::specs::Quoting::piece))]
 pub fn push_piece(alloc: Global, out: &mut Vec<u8>, piece: &[u8]) -> Result<(), AllocError>
     ensures { OnOk result (out.new.items ≡ out.old.items ++ spec.piece piece.now) }

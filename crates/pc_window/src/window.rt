@@ -1,4 +1,4 @@
-//! The line of a source in which a span starts, and under it where the span is.
+//! The line of a source in which a span starts, with the span marked below it.
 ghost use Rattle.std.specs.Prelude.{◌≡◌, ◌++◌, ◌-◌, ◌≤◌, length, map, slice_get, OnOk};
 ghost use Rattle.pc_window.specs.Shown.{shown as shown_is};
 ghost use Rattle.pc_window.specs.Window as spec;
@@ -11,7 +11,7 @@ use crate::places::{place_after, push_place};
 use pc_caps::Span;
 use std::alloc::{AllocError, Global};
 
-// If more bytes than this stand before a span in its line, the line is shown from some before the span on.
+// If there are more bytes than this before a span in its line, the line is shown from some bytes before the span on.
 const FAR: usize = 100;
 
 const NEAR: usize = 60;
@@ -58,7 +58,7 @@ fn line_at(bytes: &[u8], start: usize) -> &[u8]
     without_cr(to_line_end(&bytes[start..]))
 }
 
-// From which byte on a line is shown, if this many of its bytes stand before the span.
+// The byte from which a line is shown, if it has this many bytes before the span.
 fn shown_from(before: usize) -> usize
     ensures value { result ≡ spec.shown_from before }
     ensures within { result ≤ before }
@@ -83,7 +83,7 @@ fn push_all_shown(out: &mut Vec<u8>, bytes: &[u8]) -> Result<(), AllocError>
     Ok(())
 }
 
-// Appends two points if something is left out.
+// Appends two dots if something is left out.
 fn push_dots(out: &mut Vec<u8>, cut: bool) -> Result<(), AllocError>
     ensures { OnOk result (out.new.items ≡ out.old.items ++ spec.dots cut) }
 {
@@ -93,7 +93,7 @@ fn push_dots(out: &mut Vec<u8>, cut: bool) -> Result<(), AllocError>
     Ok(())
 }
 
-// Appends two blanks under two points.
+// Appends two blanks below two dots.
 fn push_gap(out: &mut Vec<u8>, cut: bool) -> Result<(), AllocError>
     ensures { OnOk result (out.new.items ≡ out.old.items ++ spec.gap cut) }
 {
@@ -112,7 +112,7 @@ fn push_shown_line(out: &mut Vec<u8>, line: &[u8], before: usize) -> Result<(), 
     push_dots(out, line.len().saturating_sub(shown_from(before)) > WIDTH)
 }
 
-// Appends what stands under it: the carets of a span of this many bytes.
+// Appends what is written below it: the carets of a span of this many bytes.
 fn push_marks(out: &mut Vec<u8>, line: &[u8], before: usize, size: usize) -> Result<(), AllocError>
     ensures { OnOk result (out.new.items ≡ out.old.items ++ spec.marks line.now before size) }
 {
@@ -123,7 +123,7 @@ fn push_marks(out: &mut Vec<u8>, line: &[u8], before: usize, size: usize) -> Res
     push_carets(out, first_of(after(part, first), size))
 }
 
-// Appends where a span ends that goes on after its first line, which ends at this byte.
+// Appends where a span ends that continues after its first line, which ends at this byte.
 fn push_further(
     alloc: Global,
     out: &mut Vec<u8>,
@@ -140,7 +140,7 @@ fn push_further(
     Ok(())
 }
 
-// What stands under a digit of a line's number.
+// What is written below a digit of a line's number.
 fn blank_for(_digit: u8) -> u8
     ensures { result ≡ spec.blank_for _digit }
 {
@@ -181,7 +181,7 @@ fn push_source_line(
     out.extend_from_slice(b"\n")
 }
 
-// Where the line begins in which these bytes end.
+// Where the last line of these bytes begins.
 #[tactic(auto, using(crate::proofs::Columns::column_within))]
 fn line_start(front: &[u8]) -> usize
     ensures value { result ≡ spec.line_start front.now }
@@ -190,7 +190,7 @@ fn line_start(front: &[u8]) -> usize
     front.len() - (place_after(front).column - 1)
 }
 
-// Appends what stands under the line of a span, which begins after these bytes.
+// Appends what is written below the line of a span that begins after these bytes.
 fn push_under_line(
     alloc: Global,
     out: &mut Vec<u8>,
@@ -210,8 +210,8 @@ fn push_under_line(
     out.extend_from_slice(b"\n")
 }
 
-/// Appends the line in which a span starts, and carets under the span: a line of the source's and a line of carets, each with a
-/// line end.
+/// Appends the line in which a span starts, and carets below the span: a line of the source and a line of carets, each
+/// with a line end.
 #[tactic(auto, unfolding(crate::specs::Window::window))]
 pub fn push_window(
     alloc: Global,

@@ -1,4 +1,4 @@
--- A method stands for another exactly if nothing of it does not fit.
+-- A method can replace another iff there is nothing about it that does not fit.
 use Rattle.std.specs.Prelude.{◌≡◌, ℕ, ◌+◌, Bool, true, false, ◌&&◌, nat_eq, List, [], ◌∷◌, length, Option, Some, None, refl, if◌then◌else◌}
 use Rattle.std.proofs.Common.{sym, arith}
 use Rattle.std.proofs.lemmas.Bool.{and_from, and_parts, eqb-true, eq-eqb}
@@ -47,7 +47,7 @@ none_test false o m d e = absurd (false_true d)
 
 -- ---- the parameters
 
--- If no parameter is asked for, none does not fit.
+-- If no parameters are required, none fails to fit.
 pub none_asked : (core : CoreData) (i : ℕ) (qs : List ParamInfo) → params_misfit core i [] qs ≡ None
 none_asked core i [] = refl
 none_asked core i (q ∷ qs) = refl

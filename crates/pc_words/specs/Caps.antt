@@ -39,7 +39,7 @@ new_word form.Tag = codes "tag"
 
 -- ---- those that fit
 
--- The forms and the capabilities, in the order of the texts.
+-- The forms and the capabilities, in the order in which texts list them.
 abbrev pub forms : List Form
 forms = form.IsoE ∷ form.TrnE ∷ form.Iso ∷ form.Trn ∷ form.Ref ∷ form.Val ∷ form.Box ∷ form.Tag ∷ []
 
@@ -54,9 +54,9 @@ fitting k = filter (λ f. fits f k) forms
 abbrev pub taking : Form → List Cap
 taking f = filter (λ k. fits f k) caps
 
--- ---- one after the other: `A`, `A or B`, `A, B or C`
+-- ---- a list: `A`, `A or B`, `A, B or C`
 
--- What follows one of them, by the number of those that are left.
+-- What follows one of them, given how many are left.
 abbrev pub after_one : (left : ℕ) → Text
 after_one zero = []
 after_one (suc zero) = codes " or "
@@ -78,6 +78,6 @@ takes_word cap.Val = codes "takes "
 takes_word cap.Box = codes "takes "
 takes_word cap.Tag = codes "takes "
 
--- The forms that a place of this capability takes.
+-- The forms that a place with this capability takes.
 unfoldable pub takes : Cap → Text
 takes k = takes_word k ++ form_words (fitting k)

@@ -20,17 +20,17 @@ abbrev pub text_in : Option Text → Text
 text_in None = []
 text_in (Some text) = text
 
--- The text of a name of a field or a method.
+-- The text of the name of a field or a method.
 unfoldable pub name_text : CoreData → ℕ → Text
 name_text core name = text_in (slice_get core.names name)
 
--- An entity, as it stands in a line of words.
+-- An entity, as it appears in a line of words.
 unfoldable pub entity : CoreData → ℕ → Text
 entity core e = piece (entity_name core e)
 
 -- ---- `a` or `an`
 
--- `an` stands before these letters and their capitals.
+-- `an` comes before these letters and their capitals.
 abbrev pub is_vowel : ℕ → Bool
 is_vowel b = b == 97 || b == 101 || b == 105 || b == 111 || b == 65 || b == 69 || b == 73 || b == 79
 
@@ -46,10 +46,10 @@ with_article word = article word ++ piece word
 
 -- ---- types
 
--- The type of a value, as `C iso^`.
+-- The type of a value, like `C iso^`.
 unfoldable pub type_words : CoreData → ℕ × Form → Text
 type_words core ty = entity core ty.0 ++ (codes " " ++ form_word ty.1)
 
--- The type of a place, as `C iso`.
+-- The type of a place, like `C iso`.
 unfoldable pub place_words : CoreData → ℕ × Cap → Text
 place_words core ty = entity core ty.0 ++ (codes " " ++ cap_word ty.1)

@@ -26,11 +26,11 @@ abbrev pub like_of : Option (ℕ × Method) → Option Method
 like_of None = None
 like_of (Some y) = Some y.1
 
--- The entity's method of the name and kind of this one.
+-- The entity's method with the name and kind of this one.
 abbrev pub like : CoreData → ℕ → Method → Option Method
 like core e wanted = like_of (method_like core e wanted)
 
--- The entity has no method of its name and kind, or that does not stand for it.
+-- The entity has no method with its name and kind, or that one cannot replace it.
 abbrev pub lacks_like : CoreData → Method → Option Method → Bool
 lacks_like core wanted None = true
 lacks_like core wanted (Some y) = is_some (first_misfit core wanted y)
@@ -61,6 +61,6 @@ lack_of s e (Some wanted) = lack s e wanted
 abbrev pub lacks : SceneData → ℕ → List Method → Text
 lacks s e ts = lack_of s e (find (is_lacking s.core e) ts)
 
--- Of another entity than an interface nothing is said.
+-- If the other entity is not an interface, nothing is said.
 unfoldable pub why_not_below : SceneData → (entity above : ℕ) → Text
 why_not_below s e b = if is_interface (slice_get s.core.entities b) then lacks s e (methods_in s.core (slice_get s.core.entities b)) else []

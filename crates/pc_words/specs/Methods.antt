@@ -51,7 +51,7 @@ params_from s first (p ∷ ps) = one_param s first p ++ params_from s false ps
 abbrev pub params : SceneData → List ParamInfo → Text
 params s ps = codes "(" ++ (params_from s true ps ++ codes ")")
 
--- Only of a function the result is written.
+-- The result is only written for functions.
 abbrev pub result_of : CoreData → MethodKind → ℕ × Form → Text
 result_of core kind.Fun ty = codes ": " ++ type_words core ty
 result_of core kind.Be ty = []
@@ -61,11 +61,11 @@ result_of core kind.Spawn ty = []
 unfoldable pub signature : SceneData → Method → Text
 signature s x = params s x.params ++ result_of s.core x.kind x.result
 
--- A method as it is declared, with all its capabilities, also those that the source leaves out.
+-- A method as it is declared, with all its capabilities, even those that the source leaves out.
 unfoldable pub method : SceneData → Method → Text
 method s x = words x ++ (method_name s.core x ++ signature s x)
 
--- ---- where it stands
+-- ---- where it is
 
 abbrev pub same_span : Span → Span → Bool
 same_span a b = nat_eq a.start b.start && nat_eq a.end b.end
@@ -74,7 +74,7 @@ abbrev pub abstract_in : Option EntityDef → Bool
 abstract_in None = false
 abstract_in (Some e) = is_abstract e.kind
 
--- Method y, of a trait or an interface, is the one that method x was taken over from: it stands in the same text.
+-- Method y, of a trait or an interface, is the one that method x was taken over from: it has the same text.
 abbrev pub gives_text : CoreData → Method → Method → Bool
 gives_text core x y = same_span y.span x.span && (not (nat_eq y.entity x.entity) && abstract_in (slice_get core.entities y.entity))
 

@@ -1,4 +1,4 @@
--- Why a method does not stand for another: the first thing that does not fit.
+-- Why a method cannot replace another: the first thing that does not fit.
 use Rattle.std.specs.Prelude.{◌≡◌, ◌↔◌, ℕ, ◌+◌, Bool, true, false, ◌==◌, nat_eq, List, [], ◌∷◌, ◌++◌, length, Option, Some, None, slice_get, codes, decimal, if◌then◌else◌}
 use Rattle.pc_caps.specs.Order.{is_below}
 use Rattle.pc_caps.specs.Tables.{fits, unalias}
@@ -26,7 +26,7 @@ abbrev pub or_else : Option Misfit → Option Misfit → Option Misfit
 or_else None other = other
 or_else (Some found) other = Some found
 
--- Of the parameters, from this index on.
+-- Among the parameters, from this index on.
 abbrev pub params_misfit : CoreData → ℕ → List ParamInfo → List ParamInfo → Option Misfit
 params_misfit core i ps [] = None
 params_misfit core i [] (q ∷ qs) = None
@@ -39,11 +39,12 @@ abbrev pub count_misfit : CoreData → Method → Method → Option Misfit
 count_misfit core t y =
     if nat_eq (length t.params) (length y.params) then or_else (params_misfit core 0 t.params y.params) (result_misfit core t y) else Some misfit_of.Count
 
--- The first thing of method y that does not fit method t: the receiver, the number of parameters, the parameters, the result.
+-- The first thing about method y that does not fit method t: the receiver, the number of parameters, the parameters, or
+-- the result.
 abbrev pub first_misfit : CoreData → Method → Method → Option Misfit
 first_misfit core t y = if fits (unalias t.receiver) y.receiver then count_misfit core t y else Some misfit_of.Receiver
 
--- Method y stands for method t exactly if there is none.
+-- Method y can replace method t iff there is none.
 abbrev pub MisfitsAreAll : Type 0
 MisfitsAreAll = (core : CoreData) (t y : Method) → (first_misfit core t y ≡ None) ↔ (stands_for core t y ≡ true)
 
@@ -68,7 +69,7 @@ param_entity s p q =
 unfoldable pub param_cap : SceneData → ParamInfo → ParamInfo → Text
 param_cap s p q = param_head s q ++ (cap_word q.cap ++ (codes ", and must take " ++ form_word (unalias p.cap)))
 
--- Of a parameter its entities, or its capabilities.
+-- For a parameter, its entities or its capabilities.
 abbrev pub param_words : SceneData → (by_entity : Bool) → Option ParamInfo → Option ParamInfo → Text
 param_words s b None q = []
 param_words s b (Some p) None = []

@@ -1,4 +1,4 @@
--- What an explanation looks at, and what is read off it.
+-- What an explanation looks at, and what can be read from it.
 use Rattle.std.specs.Prelude.{ℕ, zero, suc, ◌+◌, Bool, true, false, ◌&&◌, not, nat_eq, nat_lt, List, [], drop, Option, Some, None, slice_get, codes}
 use Rattle.std.specs.List.{find}
 use Rattle.std.specs.Str.{bytes_eq}
@@ -90,12 +90,12 @@ abbrev pub token_text : SceneData → Option Token → Text
 token_text s None = []
 token_text s (Some t) = piece_of s.bytes t.span
 
--- The first token after the start of a definition, which follows its word.
+-- The first token after the start of a definition, which follows its keyword.
 abbrev pub defined_name : SceneData → Option Node → Text
 defined_name s None = []
 defined_name s (Some d) = token_text s (find (starts_after d.span.start) s.tokens)
 
--- By the slot's first definition from the method's first node on.
+-- The name of the slot's first definition from the method's first node on.
 abbrev pub local_name : SceneData → Method → ℕ → Text
 local_name s x k = defined_name s (find (defines k) (drop x.first_node s.core.nodes))
 
@@ -125,6 +125,6 @@ abbrev pub unwritten_this : SceneData → Option Node → Bool
 unwritten_this s None = false
 unwritten_this s (Some x) = is_this x.kind && not (bytes_eq (piece_of s.bytes x.span) (codes "this"))
 
--- The node is `this`, and is not written.
+-- The node is a `this` that is not written in the source.
 unfoldable pub is_unwritten_this : SceneData → ℕ → Bool
 is_unwritten_this s n = unwritten_this s (slice_get s.core.nodes n)

@@ -94,7 +94,7 @@ fn taking(form: Form) -> &'static [Cap]
     }
 }
 
-// What follows one of them, by the number of those that are left.
+// What follows one of them, given how many are left.
 fn after_one(left: usize) -> &'static [u8]
     ensures { result.now ≡ spec.after_one left }
 {
@@ -147,7 +147,7 @@ pub fn push_taking(out: &mut Vec<u8>, form: Form) -> Result<(), AllocError>
     push_caps(out, taking(form))
 }
 
-// `takes`, of a place that takes several forms or one.
+// `takes`, for a place that takes several forms or one.
 fn takes_word(cap: Cap) -> &'static [u8]
     ensures { result.now ≡ spec.takes_word cap }
 {
@@ -157,7 +157,7 @@ fn takes_word(cap: Cap) -> &'static [u8]
     }
 }
 
-/// Appends which forms a place of this capability takes.
+/// Appends which forms a place with this capability takes.
 #[tactic(auto, unfolding(crate::specs::Caps::takes))]
 pub fn push_takes(out: &mut Vec<u8>, cap: Cap) -> Result<(), AllocError>
     ensures { OnOk result (out.new.items ≡ out.old.items ++ spec.takes cap) }

@@ -4,7 +4,7 @@ ghost use Rattle.pc_sub.specs.Chain as spec;
 
 use pc_core::Core;
 
-// Whether the number is among these.
+// Whether the number is one of these.
 fn is_in(number: u32, numbers: &[u32]) -> bool
     ensures { result ≡ spec.is_in number numbers.now }
 {
@@ -26,7 +26,7 @@ fn above(core: &Core, entity: u32) -> &[u32]
     }
 }
 
-/// Whether the two are one, or a chain of `is` leads from one to the other.
+/// Whether the two are equal, or a chain of `is` leads from the first to the second.
 pub(crate) fn is_chain(core: &Core, from: u32, to: u32) -> bool
     ensures { result ≡ spec.is_chain core.now from to }
 {

@@ -19,7 +19,7 @@ pub fn entity_name(core: &Core, entity: u32) -> &[u8]
     }
 }
 
-/// The text of a name of a field or a method.
+/// The text of the name of a field or a method.
 #[tactic(auto, unfolding(crate::specs::Forms::name_text))]
 pub fn name_text(core: &Core, name: u32) -> &[u8]
     ensures { result.now ≡ spec.name_text core.now name }
@@ -56,7 +56,7 @@ fn is_vowel(byte: u8) -> bool
         || byte == b'O'
 }
 
-// Whether `an` stands before the word.
+// Whether `an` comes before the word.
 fn takes_an(word: &[u8]) -> bool
     ensures { result ≡ spec.takes_an word.now }
 {
@@ -81,7 +81,7 @@ pub fn push_with_article(alloc: Global, out: &mut Vec<u8>, word: &[u8]) -> Resul
     push_piece(alloc, out, word)
 }
 
-/// Appends the type of a value, as `C iso^`.
+/// Appends the type of a value, like `C iso^`.
 #[tactic(auto, unfolding(crate::specs::Forms::type_words))]
 pub fn push_type(
     alloc: Global,
@@ -96,7 +96,7 @@ pub fn push_type(
     push_bytes(out, form_word(ty.1))
 }
 
-/// Appends the type of a place, as `C iso`.
+/// Appends the type of a place, like `C iso`.
 #[tactic(auto, unfolding(crate::specs::Forms::place_words))]
 pub fn push_place_type(
     alloc: Global,

@@ -25,7 +25,7 @@ fn methods_of<'a>(core: &'a Core, entity: &EntityDef) -> &'a [Method]
     &core.methods()[first..first + entity.methods as usize]
 }
 
-/// The methods of the entity of this number.
+/// The methods of the entity with this number.
 pub fn methods_at(core: &Core, entity: u32) -> &[Method]
     ensures { result.now ≡ spec.methods_in core.now (slice_get core.now.entities entity) }
 {
@@ -42,7 +42,7 @@ fn same_kind(one: MethodKind, other: MethodKind) -> bool
     one == other
 }
 
-// The entity's method of the name and kind of this one.
+// The entity's method with the name and kind of this one.
 fn method_like<'a>(core: &'a Core, entity: u32, wanted: &Method) -> Option<&'a Method>
     ensures { option_copied result ≡ spec.like core.now entity wanted.now }
 {
@@ -69,7 +69,7 @@ fn push_missing(
     push_quoted(alloc, out, name_text(core, wanted.name))
 }
 
-// Appends what does not fit of the entity's method.
+// Appends what does not fit about the entity's method.
 #[tactic(auto, unfolding(crate::specs::Lacks::misfit_words))]
 fn push_unfit(
     alloc: Global,
@@ -87,7 +87,7 @@ fn push_unfit(
     push_misfit(alloc, out, scene, wanted, given, misfit)
 }
 
-// Whether the entity lacks the method: it has none of its name and kind, or that does not stand for it.
+// Whether the entity lacks the method: it has none with its name and kind, or that one cannot replace it.
 fn is_lacking(core: &Core, entity: u32, wanted: &Method) -> bool
     ensures { result ≡ spec.is_lacking core.now entity wanted.now }
 {
@@ -151,8 +151,8 @@ fn push_lacks(
     }
 }
 
-/// Appends which method of an interface an entity lacks, or which does not fit. Of another entity than an interface nothing is
-/// said.
+/// Appends which method of an interface an entity lacks, or which does not fit. If the other entity is not an
+/// interface, nothing is said.
 #[tactic(auto, unfolding(crate::specs::Lacks::why_not_below))]
 pub fn push_why_not_below(
     alloc: Global,

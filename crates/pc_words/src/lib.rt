@@ -1,7 +1,8 @@
-//! Words for the parts of a core: capabilities, forms, types, names and methods, and why a method does not stand for another.
+//! Words for the parts of a core: capabilities, forms, types, names and methods, and why a method cannot replace
+//! another.
 //!
-//! Proved: each function appends exactly the bytes of its definition, or memory ran out; and a method stands for another exactly
-//! if nothing of it does not fit (`misfits_are_all`).
+//! Proved: each function appends exactly the bytes of its definition, or memory ran out; and a method can replace
+//! another iff there is nothing about it that does not fit (`misfits_are_all`).
 #![tactic(auto)]
 
 mod caps;

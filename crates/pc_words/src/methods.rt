@@ -27,7 +27,7 @@ pub fn push_method_name(
     push_piece(alloc, out, name_text(core, method.name))
 }
 
-/// Appends what stands before a method's name: `fun ref `, `be `, `new iso ` or `new `.
+/// Appends what comes before a method's name: `fun ref `, `be `, `new iso ` or `new `.
 pub fn push_method_words(out: &mut Vec<u8>, method: &Method) -> Result<(), AllocError>
     ensures { OnOk result (out.new.items ≡ out.old.items ++ spec.words method.now) }
 {
@@ -47,7 +47,7 @@ pub fn push_method_words(out: &mut Vec<u8>, method: &Method) -> Result<(), Alloc
     }
 }
 
-// A comma, unless the first parameter comes.
+// A comma, unless this is the first parameter.
 fn between(first: bool) -> &'static [u8]
     ensures { result.now ≡ spec.between first }
 {
@@ -82,7 +82,7 @@ fn push_one_param(
     push_param(alloc, out, scene, param)
 }
 
-// Appends parameters with a comma between two.
+// Appends parameters with a comma between any two.
 fn push_all_params(
     alloc: Global,
     out: &mut Vec<u8>,
@@ -132,7 +132,7 @@ fn push_result(
     }
 }
 
-/// Appends what stands after a method's name: its parameters, and the result of a function.
+/// Appends what comes after a method's name: its parameters, and the result of a function.
 #[tactic(auto, unfolding(crate::specs::Methods::signature))]
 pub fn push_signature(
     alloc: Global,
@@ -239,7 +239,7 @@ fn push_home_of(
     push_taken(alloc, out, core, method)
 }
 
-/// The same, of the method of this number.
+/// The same for the method with this number.
 #[tactic(auto, unfolding(crate::specs::Methods::home))]
 pub fn push_home(
     alloc: Global,

@@ -1,4 +1,4 @@
-//! Why a method does not stand for another.
+//! Why a method cannot replace another.
 ghost use Rattle.std.specs.Prelude.{◌≡◌, ◌++◌, OnOk};
 ghost use Rattle.std.specs.Option.{option_copied};
 ghost use Rattle.pc_words.specs.Misfits as spec;
@@ -12,14 +12,14 @@ use pc_core::{Core, Method, ParamInfo};
 use pc_window::{piece_of, push_bytes, push_number, push_quoted};
 use std::alloc::{AllocError, Global};
 
-/// What does not fit of a method that is to stand for another.
+/// What does not fit about a method that is to replace another.
 #[derive(Clone, Copy, Debug, PartialEq, Eq)]
 pub enum Misfit {
     /// The capability of its receiver.
     Receiver,
     /// The number of its parameters.
     Count,
-    /// The entity of the parameter of this index.
+    /// The entity of the parameter with this index.
     ParameterEntity(usize),
     /// The capability of that parameter.
     ParameterCap(usize),
@@ -29,7 +29,7 @@ pub enum Misfit {
     ResultForm,
 }
 
-// What does not fit of the parameter of this index.
+// What does not fit about the parameter with this index.
 fn param_misfit(core: &Core, index: usize, wanted: ParamInfo, given: ParamInfo) -> Option<Misfit>
     ensures { result ≡ spec.param_misfit core.now index wanted given }
 {
@@ -42,7 +42,7 @@ fn param_misfit(core: &Core, index: usize, wanted: ParamInfo, given: ParamInfo) 
     None
 }
 
-// The first thing of the parameters that does not fit.
+// The first thing about the parameters that does not fit.
 fn params_misfit(core: &Core, wanted: &[ParamInfo], given: &[ParamInfo]) -> Option<Misfit>
     ensures { result ≡ spec.params_misfit core.now 0 wanted.now given.now }
 {
@@ -64,7 +64,7 @@ fn params_misfit(core: &Core, wanted: &[ParamInfo], given: &[ParamInfo]) -> Opti
     None
 }
 
-// What does not fit of the result.
+// What does not fit about the result.
 fn result_misfit(core: &Core, wanted: &Method, given: &Method) -> Option<Misfit>
     ensures { result ≡ spec.result_misfit core.now wanted.now given.now }
 {
@@ -77,7 +77,7 @@ fn result_misfit(core: &Core, wanted: &Method, given: &Method) -> Option<Misfit>
     None
 }
 
-// What does not fit of the parameters, by their number first, and of the result.
+// What does not fit about the parameters, their number first, and about the result.
 fn count_misfit(core: &Core, wanted: &Method, given: &Method) -> Option<Misfit>
     ensures { result ≡ spec.count_misfit core.now wanted.now given.now }
 {
@@ -91,8 +91,8 @@ fn count_misfit(core: &Core, wanted: &Method, given: &Method) -> Option<Misfit>
     result_misfit(core, wanted, given)
 }
 
-/// The first thing that does not fit of a method that is to stand for another: its receiver, the number of its parameters, the
-/// parameters in their order, or its result. `None` exactly if it stands for the other.
+/// The first thing that does not fit about a method that is to replace another: its receiver, the number of its
+/// parameters, the parameters in order, or its result. `None` iff it can replace the other.
 pub fn first_misfit(core: &Core, wanted: &Method, given: &Method) -> Option<Misfit>
     ensures { result ≡ spec.first_misfit core.now wanted.now given.now }
 {
@@ -191,7 +191,7 @@ fn push_param_cap(
     push_bytes(out, form_word(unalias(wanted.cap)))
 }
 
-// Appends what does not fit of the parameter of this index: its entity, or its capability.
+// Appends what does not fit about the parameter with this index: its entity, or its capability.
 fn push_param(
     alloc: Global,
     out: &mut Vec<u8>,
@@ -242,7 +242,7 @@ fn push_result_form(out: &mut Vec<u8>, wanted: &Method, given: &Method) -> Resul
     push_bytes(out, form_word(wanted.result.1))
 }
 
-/// Appends what does not fit of a method that is to stand for another, if anything.
+/// Appends what does not fit about a method that is to replace another, if anything.
 #[tactic(auto, unfolding(crate::specs::Misfits::misfit))]
 pub fn push_misfit(
     alloc: Global,

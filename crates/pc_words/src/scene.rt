@@ -31,7 +31,7 @@ impl<'a> Model for Scene<'a> {
 }
 
 impl<'a> Scene<'a> {
-    /// What an explanation looks at, made of its parts.
+    /// What an explanation looks at, from its parts.
     pub fn new(
         bytes: &'a [u8],
         tokens: &'a [Token],
@@ -71,7 +71,7 @@ impl<'a> Scene<'a> {
         self.notes
     }
 
-    /// The type of a node that has one.
+    /// The type of a node, if it has one.
     #[tactic(auto, unfolding(crate::specs::Scene::type_of))]
     pub fn type_of(&self, node: u32) -> Option<(u32, Form)>
         ensures { result ≡ spec.type_of self.now node }
@@ -80,7 +80,7 @@ impl<'a> Scene<'a> {
         note.ty
     }
 
-    /// A slot of a method, by its index.
+    /// A slot of a method, by index.
     #[tactic(auto, unfolding(crate::specs::Scene::slot_in))]
     pub fn slot_in(&self, method: u32, index: u32) -> Option<Slot>
         ensures { result ≡ spec.slot_in self.now method index }
@@ -100,7 +100,7 @@ impl<'a> Scene<'a> {
             .copied()
     }
 
-    /// Whether a slot is that of a parameter.
+    /// Whether a slot belongs to a parameter.
     #[tactic(auto, unfolding(crate::specs::Scene::is_param))]
     pub fn is_param(&self, method: u32, index: u32) -> bool
         ensures { result ≡ spec.is_param self.now method index }
@@ -146,7 +146,7 @@ impl<'a> Scene<'a> {
         }
     }
 
-    // The name of a local, which follows the word of its definition.
+    // The name of a local, which follows the keyword of its definition.
     fn local_name(&self, method: &Method, index: u32) -> &'a [u8]
         ensures { result.now ≡ spec.local_name self.now method.now index }
     {
@@ -166,7 +166,7 @@ impl<'a> Scene<'a> {
         }
     }
 
-    /// Whether the node of this number is `this`, and is not written.
+    /// Whether the node with this number is a `this` that is not written in the source.
     #[tactic(auto, unfolding(crate::specs::Scene::is_unwritten_this))]
     pub fn is_unwritten_this(&self, node: u32) -> bool
         ensures { result ≡ spec.is_unwritten_this self.now node }
@@ -187,7 +187,7 @@ pub fn is_this(kind: &NodeKind) -> bool
     matches!(kind, NodeKind::This)
 }
 
-/// The child of a node, by its index.
+/// The child of a node, by index.
 pub fn child(node: &Node, index: usize) -> Option<u32>
     ensures { result ≡ spec.child node.now index }
 {
@@ -201,7 +201,7 @@ fn nodes_from(nodes: &[Node], first: u32) -> &[Node]
     &nodes[(first as usize).min(nodes.len())..]
 }
 
-// Whether the node defines the slot of this index.
+// Whether the node defines the slot with this index.
 fn defines(index: u32, node: &Node) -> bool
     ensures { result ≡ spec.defines index node.now }
 {
@@ -233,7 +233,7 @@ fn defines(index: u32, node: &Node) -> bool
     }
 }
 
-// The first of these nodes that defines the slot of this index.
+// The first of these nodes that defines the slot with this index.
 fn definition(nodes: &[Node], index: u32) -> Option<&Node>
     ensures { option_copied result ≡ find (spec.defines index) nodes.now }
 {

@@ -1,4 +1,4 @@
--- The texts of a call as files in memory, and what `rcap` says of words over them.
+-- The texts of a call as files in memory, and what `rcap` does with words over them.
 use Rattle.std.specs.Prelude.{ℕ, List}
 use Rattle.pc_args.specs.Asked.{command_of}
 use Rattle.pc_buffers.specs.Holding.{HoldsTexts}
@@ -10,7 +10,7 @@ use Rattle.pc_refusals.specs.Named.{Files, files_change}
 use Rattle.pc_refusals.specs.Verdict.{Verdict}
 use Rattle.pc_top.specs.Asked.{IsVerdict, OfSource}
 
--- Files in memory whose readings never fail, of which the last reading took so many bytes.
+-- Files in memory whose readings never fail, of which the last reading took this many bytes.
 abbrev pub shelf : List Entry → ℕ → Files
 shelf entries taken = files_change (held_or_empty entries) (λ n. 0) (λ n. 0) taken
 

@@ -1,4 +1,4 @@
--- How a command ended: by the text that it answers, or by what became of out.
+-- How a command ended: with its text, or with what happened to out.
 use Rattle.std.specs.Prelude.{ℕ, ◌≡◌, ◌⊎◌, [], Result, Err, MatchResult}
 use Rattle.std.specs.Io.KnownBytes.{Appends, Keeps}
 use Rattle.pc_io.specs.Change.{Change}
@@ -10,22 +10,22 @@ use Rattle.pc_refusals.specs.Verdict.{Verdict, done, refused}
 use Rattle.pc_refusals.specs.declared.stop.Stop.{Stop}
 use Rattle.pc_refusals.specs.declared.stop.Stop.TheVariants.{Refused, File, Sink, Memory}
 
--- ---- a command that answers a text
+-- ---- a command that returns a text
 
--- Why it answered none: the verdict is a refusal, the faults of a name rose, or memory ran out.
+-- Why it returned none: the verdict is a refusal, the faults of a name rose, or memory ran out.
 abbrev pub AnswerStops : (Verdict → Type 0) → (Text → Type 0) → Stop → Type 0
 AnswerStops V Failed (Refused status line) = V (refused status line)
 AnswerStops V Failed (File name) = Failed name
 AnswerStops V Failed Sink = ⊥
 AnswerStops V Failed Memory = Unit {0}
 
--- The verdict is done with the text, or it stopped.
+-- The verdict is done, with this text, or the command stopped.
 abbrev pub AnswersText : (Verdict → Type 0) → (Text → Type 0) → Result Text Stop → Type 0
 AnswersText V Failed answer = MatchResult answer (λ text. V (done text)) (AnswerStops V Failed)
 
 -- ---- a command that writes
 
--- The verdict's text went to out, and the rest of it is this.
+-- The verdict's text went to out, and these are its status and line.
 abbrev pub Tells : (Verdict → Type 0) → Change → ℕ → Text → Type 0
 Tells V out status line = (v : Verdict) × V v × (v.status ≡ status) × (v.err ≡ line) × Appends out.before out.now v.out
 
@@ -40,7 +40,7 @@ Ends V Failed out result = MatchResult result (λ _. Tells V out 0 []) (CommandS
 
 -- ---- from the one to the other
 
--- The answer's text was written, or it had none: the end is its stop, and out is as before.
+-- The answer's text was written; or there is none, and then the result is the answer's stop, and out is unchanged.
 abbrev pub Puts : Result Text Stop → Change → Result (Unit {0}) Stop → Type 0
 Puts answer out result =
     MatchResult answer (λ text. Wrote text out result) (λ s. (result ≡ Err s) × (out.now ≡ out.before))

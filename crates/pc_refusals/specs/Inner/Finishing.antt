@@ -1,4 +1,4 @@
--- How the writing of the line of a command that ended has ended.
+-- How writing the line of an ended command ended.
 use Rattle.std.specs.Prelude.{ℕ, ◌≡◌, ◌⊎◌, Result, MatchResult}
 use Rattle.std.specs.Io.KnownBytes.{Appends, Keeps}
 use Rattle.pc_io.specs.Change.{Change}

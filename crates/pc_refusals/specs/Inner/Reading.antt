@@ -1,4 +1,4 @@
--- What reading a file answers inside a command.
+-- The result of reading a file inside a command.
 use Rattle.std.specs.Prelude.{ℕ, ◌≡◌, ◌<◌, List, Option, Result, MatchResult}
 use Rattle.pc_io.specs.declared.bytes.Bytes.{Bytes}
 use Rattle.pc_lists.specs.Texts.{Text}
@@ -7,7 +7,7 @@ use Rattle.pc_refusals.specs.Named.{IsReading, whole, longer}
 use Rattle.pc_refusals.specs.declared.stop.Stop.{Stop}
 use Rattle.pc_refusals.specs.declared.stop.Stop.TheVariants.{Refused, File, Sink, Memory}
 
--- Why no bytes were read: the file is longer, or its name's faults rose, or out of memory.
+-- Why no bytes were read: the file is longer, or its name's faults rose, or memory ran out.
 abbrev pub NotRead : Text → (limit : ℕ) → Option (List ℕ) → (before now taken : ℕ) → Stop → Type 0
 NotRead name limit told before now taken (Refused status line) =
     (status ≡ 8) × (line ≡ longer_line name limit) × IsReading limit told before now taken longer

@@ -1,4 +1,4 @@
--- What a fault is answered with: its refusal, or out of memory.
+-- What comes of a fault: its refusal, or memory runs out.
 use Rattle.std.specs.Prelude.{ℕ, ◌≡◌, codes, slice_get}
 use Rattle.pc_check.specs.declared.fault.CheckFault.{CheckFault}
 use Rattle.pc_check.specs.declared.fault.CheckFault.TheVariants as check
@@ -22,14 +22,14 @@ use Rattle.pc_refusals.specs.declared.source.Source.{Source}
 use Rattle.pc_refusals.specs.declared.stop.Stop.{Stop}
 use Rattle.pc_refusals.specs.declared.stop.Stop.TheVariants as stop
 
--- A refusal with this status and this line, or out of memory.
+-- A refusal with this status and this line, or memory ran out.
 abbrev pub IsRefusal : ℕ → Text → Stop → Type 0
 IsRefusal wanted text (stop.Refused status line) = (status ≡ wanted) × (line ≡ text)
 IsRefusal wanted text (stop.File n) = ⊥
 IsRefusal wanted text stop.Sink = ⊥
 IsRefusal wanted text stop.Memory = Unit {0}
 
--- A file that could not be read, or out of memory.
+-- A file could not be read, or memory ran out.
 abbrev pub IsUnread : Text → Stop → Type 0
 IsUnread name (stop.Refused status line) = ⊥
 IsUnread name (stop.File n) = n ≡ name
@@ -46,8 +46,8 @@ abbrev pub IsNameStop : Text → Text → NameFault → Stop → Type 0
 IsNameStop name bytes names.Memory s = s ≡ stop.Memory
 IsNameStop name bytes f s = IsRefusal (name_status f) (name_line name bytes f) s
 
--- A core at which the inference stops: the place of the first declaration that fails, of the node at which no rule holds, or of a
--- constructor that leaves a field unset.
+-- The inference stops at a core: the place of the first declaration that fails, of the node at which no rule holds, or
+-- of a constructor that leaves a field unset.
 abbrev pub IsCoreStop : Text → Source → CheckFault → Stop → Type 0
 IsCoreStop name source (check.Decl f) s = IsRefusal 1 (offset_line name source.bytes (decl_offset source.core f) (decl_text f)) s
 IsCoreStop name source (check.NoRule n l m ann) s = IsRefusal 1 (offset_line name source.bytes (node_start (slice_get source.core.nodes n)) (codes "no rule")) s
@@ -59,7 +59,7 @@ abbrev pub IsTextStop : Text → DerivFault → Stop → Type 0
 IsTextStop name deriv.Memory s = s ≡ stop.Memory
 IsTextStop name f s = IsRefusal (text_status f) (text_line name f) s
 
--- A fault of a derivation's file that is judged as it is read.
+-- A fault of a derivation's file that is judged while it is read.
 abbrev pub IsDerivationStop : Text → Text → Source → DerivationFault → Stop → Type 0
 IsDerivationStop source_name name source parts.Failed s = IsUnread name s
 IsDerivationStop source_name name source parts.TooLong s = IsRefusal 8 (longer_line name derivation_limit) s

@@ -1,4 +1,4 @@
--- What the parts of a command answer.
+-- The results of the parts of a command.
 use Rattle.std.specs.Prelude.{ℕ, Result, Ok, Err, MatchResult}
 use Rattle.std.specs.Io.KnownBytes.{Appends, Keeps}
 use Rattle.pc_io.specs.Sink.{Rose, GrowsByPrefix}
@@ -9,8 +9,8 @@ use Rattle.pc_refusals.specs.Verdict.{Verdict, refused}
 use Rattle.pc_refusals.specs.declared.stop.Stop.{Stop}
 use Rattle.pc_refusals.specs.declared.stop.Stop.TheVariants.{Refused, File, Sink, Memory}
 
--- Why a part that reads one file and goes through its stages gave no value: a stage refused, the file's faults
--- rose, or out of memory.
+-- Why a part that reads one file and goes through its stages gave no value: a stage refused, the file's faults rose, or
+-- memory ran out.
 abbrev pub PartStops : {T : Type 0} → ℕ → (Reading → Result T Verdict → Type 0) → Named → Stop → Type 0
 PartStops limit Stage file (Refused status line) = (r : Reading) × IsReadingOf file limit r × Stage r (Err (refused status line))
 PartStops limit Stage file (File name) = FailedAt file name
@@ -25,7 +25,7 @@ PartGives limit Stage file x = (r : Reading) × IsReadingOf file limit r × Stag
 abbrev pub PartEnds : {T : Type 0} → ℕ → (Reading → Result T Verdict → Type 0) → Named → Result T Stop → Type 0
 PartEnds limit Stage file result = MatchResult result (PartGives limit Stage file) (PartStops limit Stage file)
 
--- How stages ended that read no file: with a value, with a refusal, or for lack of memory.
+-- How stages that read no file ended: with a value, with a refusal, or because memory ran out.
 abbrev pub StageStops : {T : Type 0} → (Result T Verdict → Type 0) → Stop → Type 0
 StageStops Stage (Refused status line) = Stage (Err (refused status line))
 StageStops Stage (File name) = ⊥
@@ -35,7 +35,7 @@ StageStops Stage Memory = Unit {0}
 abbrev pub StageEnds : {T : Type 0} → (Result T Verdict → Type 0) → Result T Stop → Type 0
 StageEnds Stage result = MatchResult result (λ x. Stage (Ok x)) (StageStops Stage)
 
--- The same of a stage whose value is seen in another way.
+-- The same for a stage whose value is seen in another way.
 abbrev pub StageEndsAs : {S T : Type 0} → (S → T) → (Result T Verdict → Type 0) → Result S Stop → Type 0
 StageEndsAs view Stage result = MatchResult result (λ x. Stage (Ok (view x))) (StageStops Stage)
 

@@ -45,12 +45,12 @@ eight_refuses : IsAccepting 8 → ⊥
 eight_refuses (inl e) = omega (arith, e)
 eight_refuses (inr e) = omega (arith, e)
 
--- where a text ended the run
+-- if a text ended the run
 cut_by : {name : Text} {core : CoreData} {list : List ℕ} {v : Verdict} → Telling name core list (Err v) → IsAccepting v.status → (v.status ≡ 12) × (v.out ≡ [])
 cut_by (too_long n h) e = (refl, refl)
 cut_by (too_many n h) e = absurd (eight_refuses e)
 
--- Out grew by what is told of the run, or by nothing, and then the status is 12.
+-- Out grew by the report on the run, or by nothing, and then the status is 12.
 abbrev Wrote : Change → ℕ → Text → Text → Type 0
 Wrote out status source schedule = WritesEvents out source schedule ⊎ ((status ≡ 12) × Appends out.before out.now [])
 

@@ -1,4 +1,4 @@
--- The room of `explain`, whose source is not asked for a derivation.
+-- The room of `explain`, whose source need not have a derivation.
 use Rattle.std.proofs.Common.{◌≡◌, ℕ, Ok, Err, refl, sym, ap, subst, ◌∙◌, arith}
 use Rattle.std.specs.Prelude.{IfErr, IfSome, Result}
 use Rattle.std.specs.Io.KnownBytes.{Appends}

@@ -1,4 +1,4 @@
--- The room of `judge`, and what the referee was asked of.
+-- The room of `judge`, and what the referee was asked.
 use Rattle.std.proofs.Common.{◌≡◌, ℕ, Option, Ok, Err, refl, sym, subst, arith}
 use Rattle.std.specs.Prelude.{Result}
 use Rattle.std.specs.Io.KnownBytes.{Appends}
@@ -32,12 +32,12 @@ judge_room files source derivation =
     (λ unfailed told. (told.0, unfailed.0, told.1.0, unfailed.1.0))
     (λ v out e o d. subst (λ (w : Verdict). Appends out.before out.now w.out) d.done_with o)
 
--- ---- what the referee was asked of
+-- ---- what the referee was asked
 
 other_not_zero : (status : ℕ) → IsOther status → status ≡ 0 → ⊥
 other_not_zero status l z = let low = l.0 in omega (arith, low, z)
 
--- where the source was refused
+-- if the source was refused
 pub source_not_done : (name : Text) (file : Named) (s : Stop) → PartStops source_limit (SourceStage name) file s → NotDone s
 source_not_done name file (Refused status line) h = other_not_zero status (source_other h.2)
 source_not_done name file (File n) h = tt
@@ -51,14 +51,14 @@ judged_all file told later s before after e g h =
     let judged = subst (λ (o : Option Text). JudgedFile s.core o before after) e h in
     record { bytes = s.bytes; of_file = (source_whole file g.0 s g.1 g.2).1; core = s.core; core_of = (source_says g.2).1; judged = judged }
 
--- where out failed
+-- if out failed
 wrote_not_done : (text : Text) (out : Change) (s : Stop) → Wrote text out (Err s) → NotDone s
 wrote_not_done text out (Refused status line) h = absurd h
 wrote_not_done text out (File n) h = tt
 wrote_not_done text out Sink h = tt
 wrote_not_done text out Memory h = tt
 
--- and where the answer was written
+-- and if the answer was written
 pub asks_put : (source derivation : Option Text) (before after : Option Pairs) (out : Change) (answer : Result Text Stop) (result : Result (Unit {0}) Stop)
     → JudgeAsks source derivation before after answer → Puts answer out result → JudgeAsks source derivation before after result
 asks_put source derivation before after out (Ok text) (Ok x) h w = h

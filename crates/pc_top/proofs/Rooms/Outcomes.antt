@@ -26,14 +26,14 @@ use Rattle.pc_top.proofs.Shapes.{accepted_says}
 
 -- ---- one verdict
 
--- What an answer is told as. That memory ran out is told by no verdict.
+-- What a result is reported as. No verdict reports that memory ran out.
 abbrev told_as : Text → (count : ℕ) → Result (List Entry) OutcomesFault → Result Text Verdict
 told_as name count (Ok entries) = Ok (text_of count entries)
 told_as name count (Err (Steps seed)) = Err (refused 8 (many_steps_line name seed))
 told_as name count (Err (Texts seed)) = Err (refused 8 (many_bytes_line name seed))
 told_as name count (Err Memory) = Ok []
 
--- The end of a table is that of an answer.
+-- The end of a table is that of a result.
 record EndOf (name : Text) (core : CoreData) (count : ℕ) (end : Result Text Verdict) : Type 0 where
   pub answer : Result (List Entry) OutcomesFault
   pub answers : Answers core count answer

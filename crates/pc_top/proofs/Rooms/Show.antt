@@ -1,4 +1,4 @@
--- The room of `show`, whose source is not asked for a derivation.
+-- The room of `show`, whose source need not have a derivation.
 use Rattle.std.proofs.Common.{◌≡◌, ℕ, refl, sym, ap, subst, ◌∙◌}
 use Rattle.std.specs.Prelude.{IfSome}
 use Rattle.std.specs.Io.KnownBytes.{Appends}

@@ -63,12 +63,12 @@ fifteen_refuses : IsAccepting 15 → ⊥
 fifteen_refuses (inl e) = omega (arith, e)
 fifteen_refuses (inr e) = omega (arith, e)
 
--- where a text ended the run
+-- if a text ended the run
 cut_by : {name : Text} {core : CoreData} {list : List ℕ} {place : ℕ} {v : Verdict} → Swapping name core list place (Err v) → IsAccepting v.status → (v.status ≡ 12) × (v.out ≡ [])
 cut_by (no_place past) e = absurd (fifteen_refuses e)
 cut_by (too_long t n a h) e = (refl, refl)
 
--- Out grew by what is told of the turns, or by nothing, and then the status is 12.
+-- Out grew by the report on the turns, or by nothing, and then the status is 12.
 abbrev Wrote : Change → ℕ → ℕ → Text → Text → Type 0
 Wrote out status place source schedule = WritesSwap out source schedule place ⊎ ((status ≡ 12) × Appends out.before out.now [])
 
@@ -104,7 +104,7 @@ swap_on_out file schedule place v out (placed n p is) e o =
     both_by (Wrote out v.status n) (Grew out place) file.told schedule.told (λ x y. grew_by out place v.status n x y p) (at_on_out file schedule n v out is e o)
 swap_on_out file schedule place v out (no_number none is) e o = absurd (two_refuses v.status (ap (λ (x : Verdict). x.status) is) e)
 
--- the same where it is done
+-- the same if it is done
 abbrev Done : Change → Text → Text → Text → Type 0
 Done out place source schedule = (n : ℕ) × IsPlace place n × WritesSwap out source schedule n
 

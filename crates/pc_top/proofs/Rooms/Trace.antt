@@ -45,12 +45,12 @@ eight_refuses : IsAccepting 8 → ⊥
 eight_refuses (inl e) = omega (arith, e)
 eight_refuses (inr e) = omega (arith, e)
 
--- where a text ended the run
+-- if a text ended the run
 cut_by : {name : Text} {core : CoreData} {list : List ℕ} {v : Verdict} → Tracing name core list (Err v) → IsAccepting v.status → (v.status ≡ 12) × (v.out ≡ [])
 cut_by (too_long n h) e = (refl, refl)
 cut_by (too_many n h) e = absurd (eight_refuses e)
 
--- Out grew by what is told of the run, or by nothing, and then the status is 12.
+-- Out grew by the report on the run, or by nothing, and then the status is 12.
 abbrev Wrote : Change → ℕ → Text → Text → Type 0
 Wrote out status source schedule = WritesTrace out source schedule ⊎ ((status ≡ 12) × Appends out.before out.now [])
 
@@ -81,7 +81,7 @@ grew_by : (out : Change) (status : ℕ) (source schedule : Text) → Wrote out s
 grew_by out status source schedule (inl w) = inl w
 grew_by out status source schedule (inr w) = inr w.1
 
--- the same where it is done
+-- the same if it is done
 done_by : (out : Change) (status : ℕ) (source schedule : Text) → status ≡ 0 → Wrote out status source schedule → WritesTrace out source schedule
 done_by out status source schedule zero (inl w) = w
 done_by out status source schedule zero (inr w) = let twelve = w.0 in absurd (omega (arith, zero, twelve))

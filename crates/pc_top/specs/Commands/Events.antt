@@ -19,8 +19,9 @@ use Rattle.pc_refusals.specs.Verdict.{EndsWith, Verdict, refused}
 use Rattle.pc_top.specs.CoreOf.{CoreOf}
 use Rattle.pc_top.specs.Shapes.{OfScheduled}
 
--- These are all events of a run that no step ended which are more than plain steps, in order and with their clocks. The accesses among
--- them are those of a trace; and of two that conflict the earlier one comes before the later one. What they name is there.
+-- These are all events of a run that are more than plain steps, in order and with their clocks; no step ended the run.
+-- The accesses among them are those of a trace, and of any two that conflict, the earlier one comes before the later
+-- one. What they name exists.
 abbrev pub Told : CoreData → List ℕ → List RunEvent → Type 0
 Told core list events = RanOn core list × AllEvents core list events × AllTouches core list (touches_in events) × VerdictIs core list Ordered × AllNamed core events
 

@@ -23,32 +23,34 @@ use Rattle.pc_token.specs.declared.kinds.Token.{Token}
 use Rattle.pc_tree.specs.Tree as t
 use Rattle.pc_top.specs.Commands.Judge.{accepted_text}
 
--- What is said of a core: that it is accepted, since it has a derivation, or why it has none.
+-- The text for a core: that it is accepted, because it has a derivation, or why it has none.
 pub data CoreText (name bytes : Text) (tokens : List Token) (core : CoreData) : Text → Type 0 where
   accepted : Derivable core → CoreText name bytes tokens core accepted_text
   explained : {text : Text} → IsExplanation name bytes tokens core text → CoreText name bytes tokens core text
 
--- A limit that is passed is refused, as `check` refuses it, and not explained. Out of memory is no fault of a file.
+-- A limit that is passed is refused, as `check` refuses it, and not explained. Running out of memory is not a fault of
+-- a file.
 abbrev pub is_refused : NameFault → Bool
 is_refused (fault.TooMany w s) = true
 is_refused fault.Memory = true
 is_refused f = false
 
--- The end of a source whose tree has this fault: its explanation, or its refusal.
+-- What comes of a source whose tree has this fault: its explanation, or its refusal.
 abbrev pub fault_end : Text → Text → t.File → NameFault → Result Text Verdict
 fault_end name bytes file f = if is_refused f then Err (refused (name_status f) (name_line name bytes f)) else Ok (names_text name bytes file f)
 
--- The first fault of the names of a file, or else of its methods.
+-- The first fault of a file's names, or else of its methods.
 abbrev pub IsFileFault : t.File → NameFault → Type 0
 IsFileFault file f = IsNameFault file f ⊎ IsElabFault file f
 
--- What is said of the tree of a source with these bytes: the text of its core, or of the fault because of which it has none.
+-- The text for the tree of a source with these bytes: the text for its core, or for the fault because of which it has
+-- none.
 pub data Explaining (name bytes : Text) (file : t.File) : Result Text Verdict → Type 0 where
   has_core : {tokens : List Token} {core : CoreData} {text : Text} → TokenList bytes tokens → IsCoreOf file core → CoreText name bytes tokens core text
       → Explaining name bytes file (Ok text)
   has_fault : (f : NameFault) → OfFile f → IsFileFault file f → Explaining name bytes file (fault_end name bytes file f)
 
--- The stages of a source, one after the other: its length, its tokens and its tree, and then what is said of the tree.
+-- The stages of a source, one after another: its length, its tokens and its tree, and then the text for the tree.
 pub data ExplainedStage (name : Text) : Reading → Result Text Verdict → Type 0 where
   has_tree : {bytes : Text} {file : t.File} {end : Result Text Verdict} → FileStage name (whole bytes) (Ok file) → Explaining name bytes file end
       → ExplainedStage name (whole bytes) end
@@ -58,11 +60,12 @@ pub data ExplainedStage (name : Text) : Reading → Result Text Verdict → Type
 abbrev pub Explained : Text → Verdict → Type 0
 Explained text v = v ≡ done text
 
--- The verdict of `explain` on this source. It is done with a source that `check` refuses with 1 or 4, too: the text says why.
+-- The verdict of `explain` on this source. It is also done with a source that `check` refuses with 1 or 4: the text
+-- says why.
 abbrev pub IsExplain : Named → Verdict → Type 0
 IsExplain source = FromFile source source_limit (ExplainedStage source.name) Explained
 
--- Out grew by what is said of the file that the tokens of the source of this name spell.
+-- Out grew by the text for the file that the tokens of the source with this name spell.
 abbrev pub WritesExplained : Change → Text → Text → Type 0
 WritesExplained out name bytes =
     (tokens : List Token) × TokenList bytes tokens × (file : t.File) × IsFileAnswer tokens (spelled file)

@@ -10,6 +10,7 @@ use Rattle.pc_top.specs.Shapes.{OfDerivation}
 abbrev pub accepted_text : Text
 accepted_text = codes "accepted" ++ line_end
 
--- The verdict of `judge` on this source and this derivation, which is read in parts: `accepted`, or that of the first fault.
+-- The verdict of `judge` on this source and this derivation, which is read in parts: `accepted`, or the verdict on the
+-- first fault.
 abbrev pub IsJudge : Named → Named → Verdict → Type 0
 IsJudge source derivation = OfDerivation (λ ann. accepted_text) source (in_parts derivation)

@@ -15,11 +15,11 @@ use Rattle.pc_refusals.specs.declared.typing.Accepted.{Accepted}
 use Rattle.pc_top.specs.CoreOf.{CoreOf}
 use Rattle.pc_top.specs.Shapes.{ByNumber, OfAccepted}
 
--- How many seeds are played at most.
+-- The greatest number of seeds that are played.
 abbrev pub seeds_limit : ℕ
 seeds_limit = 10000
 
--- One to five digits, and a number from 1 to 10,000. The first ones may be zeros.
+-- One to five digits, and a number from 1 to 10,000. There may be leading zeros.
 abbrev pub IsCount : Text → ℕ → Type 0
 IsCount text n = IsNumber 5 text n × (1 ≤ n) × (n ≤ seeds_limit)
 
@@ -35,8 +35,8 @@ many_bytes_line name seed = name ++ (codes ": the texts of seeds 0 to " ++ (deci
 
 -- ---- the verdict
 
--- The text of the table of the seeds below a count; or 8 at the first seed with which their plays have too many steps, or the
--- different texts too many bytes.
+-- The text of the table of the seeds below a count; or 8 at the first seed with which their plays have too many steps,
+-- or their different texts too many bytes.
 pub data Telling (name : Text) (core : CoreData) (count : ℕ) : Result Text Verdict → Type 0 where
   tells : (entries : List Entry) (text : Text) → Told core count entries → text ≡ text_of count entries → Telling name core count (Ok text)
   many_steps : (seed : ℕ) → seed < count → StepsPass core seed → Telling name core count (Err (refused 8 (many_steps_line name seed)))
@@ -46,10 +46,12 @@ pub data Telling (name : Text) (core : CoreData) (count : ℕ) : Result Text Ver
 abbrev pub Tabled : Text → (count : ℕ) → Accepted → Verdict → Type 0
 Tabled name count accepted = EndsWith (Telling name accepted.source.core count)
 
--- The verdict of `outcomes` on this source and this word: that of the count that it spells, or 2 if it spells none.
+-- The verdict of `outcomes` on this source and this word: the one for the count that it denotes, or 2 if it denotes
+-- none.
 abbrev pub IsOutcomes : Named → Text → Verdict → Type 0
 IsOutcomes source count = ByNumber (IsCount count) (λ n. OfAccepted (Tabled source.name n) source)
 
--- Out grew by the text of the table of the seeds below a count: each different outcome of their plays of the source's core.
+-- Out grew by the text of the table of the seeds below a count: each different outcome of the plays of the source's
+-- core.
 abbrev pub WritesOutcomes : Change → (count : ℕ) → Text → Type 0
 WritesOutcomes out count bytes = (core : CoreData) × CoreOf bytes core × (entries : List Entry) × Told core count entries × Appends out.before out.now (text_of count entries)

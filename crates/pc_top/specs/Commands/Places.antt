@@ -16,7 +16,7 @@ use Rattle.pc_top.specs.CoreOf.{CoreOf}
 abbrev pub Placed : Source → Verdict → Type 0
 Placed source v = (text : Text) × IsPlacesText source.bytes source.core text × (v ≡ done text)
 
--- The verdict of `places` on this source, whose core is not asked for a derivation.
+-- The verdict of `places` on this source, whose core need not have a derivation.
 abbrev pub IsPlaces : Named → Verdict → Type 0
 IsPlaces source = FromFile source source_limit (SourceStage source.name) Placed
 

@@ -22,7 +22,7 @@ RanChosen name seed core v = (list : List ℕ) × Chosen core seed list × Ran n
 abbrev pub Played : Text → (seed : ℕ) → Accepted → Verdict → Type 0
 Played name seed accepted = RanChosen name seed accepted.source.core
 
--- The verdict of `play` on this source and this word: that of the seed that it spells, or 2 if it spells none.
+-- The verdict of `play` on this source and this word: the one for the seed that it denotes, or 2 if it denotes none.
 abbrev pub IsPlay : Named → Text → Verdict → Type 0
 IsPlay source seed = ByNumber (IsSeed seed) (λ n. OfAccepted (Played source.name n) source)
 

@@ -16,7 +16,8 @@ use Rattle.pc_refusals.specs.Verdict.{Verdict, done, stopped}
 use Rattle.pc_top.specs.CoreOf.{CoreOf}
 use Rattle.pc_top.specs.Shapes.{OfScheduled}
 
--- The run of a list of actors: done, with its text; or 12 with its text, at the step that would make a text that is too long.
+-- The run of a list of actors: done, with its text; or 12 with its text, at the step that would make a text that is too
+-- long.
 pub data Ran (name : Text) (core : CoreData) (list : List ℕ) : Verdict → Type 0 where
   whole : end_of (outcomes core list) ≡ None → Ran name core list (done (run_text core list))
   cut : (n : ℕ) → end_of (outcomes core list) ≡ Some (n, TooLong) → Ran name core list (stopped 12 (run_text core list) (too_long_line name n))

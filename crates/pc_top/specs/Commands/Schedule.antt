@@ -21,7 +21,8 @@ IsChosenLine seed core text = (list : List ℕ) × Chosen core seed list × IsLi
 abbrev pub Scheduled : (seed : ℕ) → Accepted → Verdict → Type 0
 Scheduled seed accepted v = (text : Text) × IsChosenLine seed accepted.source.core text × (v ≡ done text)
 
--- The verdict of `schedule` on this source and this word: that of the seed that it spells, or 2 if it spells none.
+-- The verdict of `schedule` on this source and this word: the one for the seed that it denotes, or 2 if it denotes
+-- none.
 abbrev pub IsSchedule : Named → Text → Verdict → Type 0
 IsSchedule source seed = ByNumber (IsSeed seed) (λ n. OfAccepted (Scheduled n) source)
 

@@ -23,7 +23,7 @@ use Rattle.pc_top.specs.Shapes.{OfAccepted}
 
 -- ---- names
 
--- The name of an entity. What is not there has none; what a table names is there.
+-- The name of an entity. What does not exist has none; what a table names exists.
 abbrev pub entity_name : Option EntityDef → Text
 entity_name None = []
 entity_name (Some x) = x.name
@@ -56,13 +56,13 @@ abbrev pub never_text : CoreData → List ℕ → Text
 never_text core [] = []
 never_text core (t ∷ ts) = line_with (codes "never ") core t ++ never_text core ts
 
--- Who sends what, a line each, and then what is never sent.
+-- Who sends what, a line each, followed by what is never sent.
 abbrev pub table_text : CoreData → Table → Text
 table_text core table = rows_text core table.rows ++ never_text core table.never
 
 -- ---- the verdict
 
--- The text of the table of who sends what, where at each node the entity is noted that the annotation gives it.
+-- The text of the table of who sends what, with the entities that the annotation notes at the nodes.
 abbrev pub IsSendsText : CoreData → Ann → Text → Type 0
 IsSendsText core ann text = (table : Table) × IsTable core (entities ann) table × (text ≡ table_text core table)
 
@@ -74,31 +74,32 @@ Sent accepted v = (text : Text) × IsSendsText accepted.source.core accepted.ann
 abbrev pub IsSends : Named → Verdict → Type 0
 IsSends = OfAccepted Sent
 
--- ---- what is known of a table
+-- ---- what holds of a table
 
--- The method is there, with its entity and its name.
+-- The method exists, with its entity and its name.
 abbrev pub HasName : CoreData → ℕ → Type 0
 HasName core t = (m : Method) × (slice_get core.methods t ≡ Some m) × IsSome (slice_get core.entities m.entity) × IsSome (slice_get core.names m.name)
 
--- All that its lines name is there.
+-- Everything that its lines name exists.
 pub record NamesAreThere (core : CoreData) (table : Table) : Type 0 where
   pub from : Each (λ i row. IsSome (slice_get core.entities row.from)) table.rows
   pub sent : Each (λ i row. HasName core row.target) table.rows
   pub never : Each (λ i t. HasName core t) table.never
 
--- Over every list of actors, of every length: each frame is one of a method that the table says may begin or be sent, each
--- message that is about to be sent has its row, and no message of a method that it says is never sent waits anywhere.
+-- Over every list of actors, of any length: each frame is of a method that, by the table, may begin or be sent, each
+-- message that is about to be sent has its row, and no message of a method that, by the table, is never sent waits
+-- anywhere.
 abbrev pub TellsEveryRun : CoreData → Table → Type 0
 TellsEveryRun core table = (list : List ℕ) → Tells core table (after core list)
 
--- Both hold of the table of a source, by its core's valid annotation.
+-- Both hold of the table of a source, made with its core's valid annotation.
 abbrev pub TablesTell : Type 0
 TablesTell =
     (bytes : Text) (core : CoreData) (ann : Ann) (table : Table) → CoreOf bytes core → Valid core ann → IsTable core (entities ann) table
     → NamesAreThere core table × TellsEveryRun core table
 
--- Out grew by the lines of the table of who sends what, by a valid annotation of the source's core. All that it names is there,
--- and it tells the truth of every run.
+-- Out grew by the lines of the table of who sends what, made with a valid annotation of the source's core. Everything
+-- that it names exists, and it is right about every run.
 abbrev pub WritesSends : Change → Text → Type 0
 WritesSends out bytes =
     (core : CoreData) × CoreOf bytes core × (ann : Ann) × Valid core ann × (table : Table) × IsTable core (entities ann) table

@@ -17,7 +17,7 @@ use Rattle.pc_refusals.specs.Verdict.{Verdict, done}
 abbrev pub Shown : t.File → Verdict → Type 0
 Shown file v = v ≡ done (printed file)
 
--- The verdict of `show` on this source, whose core is not asked for.
+-- The verdict of `show` on this source, whose core is not needed.
 abbrev pub IsShow : Named → Verdict → Type 0
 IsShow source = FromFile source source_limit (FileStage source.name) Shown
 

@@ -27,7 +27,7 @@ abbrev pub behind_text : List ℕ → Text
 behind_text [] = []
 behind_text (n ∷ ns) = codes "," ++ (decimal n ++ behind_text ns)
 
--- Numbers with one comma between two.
+-- Numbers with a comma between any two.
 abbrev pub clock_text : List ℕ → Text
 clock_text [] = []
 clock_text (n ∷ ns) = decimal n ++ behind_text ns
@@ -50,18 +50,18 @@ touches_text (t ∷ ts) = touch_line t ++ touches_text ts
 abbrev pub count_line : ℕ → Text
 count_line n = codes "accesses " ++ (decimal n ++ (codes " ordered" ++ line_end))
 
--- The accesses, a line each, and how many they are.
+-- The accesses, a line each, followed by their number.
 abbrev pub trace_text : List Touch → Text
 trace_text touches = touches_text touches ++ count_line (length touches)
 
 -- ---- the verdict
 
--- These are all accesses of a run that no step ended, in order and with their clocks; and of two events of different actors that
--- touch one field, one of them writing, the earlier comes before the later.
+-- These are all accesses of a run, in order and with their clocks; no step ended the run. Of any two events of
+-- different actors that touch the same field, where one of them writes it, the earlier comes before the later.
 abbrev pub Traced : CoreData → List ℕ → List Touch → Type 0
 Traced core list touches = RanOn core list × AllTouches core list touches × VerdictIs core list Ordered
 
--- The text of a run: 12 where a step would make a text that is too long, and 8 where one would make too many actors.
+-- The text of a run: 12 if a step would make a text that is too long, and 8 if one would make too many actors.
 pub data Tracing (name : Text) (core : CoreData) (list : List ℕ) : Result Text Verdict → Type 0 where
   tells : (touches : List Touch) (text : Text) → Traced core list touches → text ≡ trace_text touches → Tracing name core list (Ok text)
   too_long : (n : ℕ) → TooLongAt core list n → Tracing name core list (Err (refused 12 (too_long_line name n)))
@@ -71,8 +71,9 @@ pub data Tracing (name : Text) (core : CoreData) (list : List ℕ) : Result Text
 abbrev pub IsTrace : Named → Named → Verdict → Type 0
 IsTrace = OfScheduled (λ name core list. EndsWith (Tracing name core list))
 
--- Out grew by the lines of the accesses of the run of the source's core by the schedule, all of them, in order and with their
--- clocks. Of two events of different actors that touch one field, one of them writing, the earlier comes before the later.
+-- Out grew by the lines of all accesses of the run of the source's core by the schedule, in order and with their
+-- clocks. Of any two events of different actors that touch the same field, where one of them writes it, the earlier
+-- comes before the later.
 abbrev pub WritesTrace : Change → Text → Text → Type 0
 WritesTrace out source schedule =
     (core : CoreData) × CoreOf source core × (turns : List Turn) × TurnList schedule turns × (touches : List Touch) × Traced core (spread turns) touches

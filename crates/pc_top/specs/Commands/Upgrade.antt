@@ -13,13 +13,13 @@ use Rattle.pc_refusals.specs.Verdict.{Verdict}
 use Rattle.pc_top.specs.CoreOf.{CoreOf}
 use Rattle.pc_top.specs.Shapes.{OfDerivation}
 
--- The verdict of `upgrade` on this source and this derivation: the annotation's text in version 2, or the verdict of the first
--- fault. What refuses them in `judge` refuses them here, with the same line. The derivation is read whole.
+-- The verdict of `upgrade` on this source and this derivation: the annotation's text in version 2, or the verdict on
+-- the first fault. Whatever `judge` refuses is refused here too, with the same line. The derivation is read as a whole.
 abbrev pub IsUpgrade : Named → Named → Verdict → Type 0
 IsUpgrade = OfDerivation (deriv_text version.Two)
 
--- Out grew by the text in version 2 of the annotation of which the derivation is a text, in either version. It is valid for the
--- source's core.
+-- Out grew by the text in version 2 of the annotation that the derivation is a text of, in either version. It is valid
+-- for the source's core.
 abbrev pub WritesUpgraded : Change → Text → Text → Type 0
 WritesUpgraded out source derivation =
     (core : CoreData) × CoreOf source core × (ann : Ann) × Valid core ann × IsText derivation ann × Appends out.before out.now (deriv_text version.Two ann)

@@ -1,4 +1,4 @@
--- What the referee was asked of where a command ended so.
+-- What the referee was asked by a command that ended in this way.
 use Rattle.std.specs.Prelude.{◌≡◌, Option, Some, Result, Ok, Err}
 use Rattle.pc_referee.specs.Asked.{Pairs}
 use Rattle.pc_lists.specs.Texts.{Text}

@@ -1,4 +1,4 @@
--- How the reading of a number among the words, and then of a source that has to be accepted, ended.
+-- How reading a number among the words, and then a source that must be accepted, ended.
 use Rattle.std.specs.Prelude.{ℕ, ◌≡◌, Option, Some, None, Result, Ok, Err}
 use Rattle.pc_lists.specs.Texts.{Text}
 use Rattle.pc_refusals.specs.Accepting.{AcceptedStage}
@@ -10,7 +10,7 @@ use Rattle.pc_refusals.specs.Source.{source_limit}
 use Rattle.pc_refusals.specs.declared.stop.Stop.{Stop}
 use Rattle.pc_top.specs.declared.numbered.Numbered.{Numbered}
 
--- It stopped since there is no number, or since the source is not accepted.
+-- It stopped because there is no number, or because the source is not accepted.
 abbrev pub NumberStops : Files → Text → Option ℕ → Stop → Type 0
 NumberStops files source None s = IsRefusal 2 usage_line s
 NumberStops files source (Some n) s = PartStops source_limit (AcceptedStage source) (named files source) s

@@ -1,4 +1,4 @@
--- How the reading of a source that has to be accepted, and then of a schedule, ended.
+-- How reading a source that must be accepted, and then a schedule, ended.
 use Rattle.std.specs.Prelude.{Result, MatchResult}
 use Rattle.pc_lists.specs.Texts.{Text}
 use Rattle.pc_sched.specs.Limits.{schedule_limit}

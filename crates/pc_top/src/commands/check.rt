@@ -13,7 +13,7 @@ use pc_io::Files;
 use pc_refusals::Stop;
 use std::alloc::Global;
 
-/// Checks the source of this name: answers the text of its derivation.
+/// Checks the source with this name, and returns the text of its derivation.
 pub fn check_source<F: Files>(alloc: Global, files: &mut F, source: &str) -> Result<List<u8>, Stop>
     ensures later { (n : Text) → F.faults files.old n ≤ F.faults files.new n }
     ensures same { (n : Text) → F.bytes files.new n ≡ F.bytes files.old n }

@@ -24,7 +24,7 @@ use pc_sched_lines::steps_of;
 use pc_trace::AcceptedFault;
 use std::alloc::Global;
 
-// What is told of the run of a list, for the schedule of this name.
+// The text for the run of a list, for the schedule with this name.
 fn tell_list(alloc: Global, name: &str, core: &Core, list: &[u32]) -> Result<List<u8>, Stop>
     requires safe { Safe core.now }
     requires few { length list.now ≤ turn_limit }
@@ -44,7 +44,7 @@ fn tell_list(alloc: Global, name: &str, core: &Core, list: &[u32]) -> Result<Lis
     }
 }
 
-// The same of the turns of the schedule of this name.
+// The same for the turns of the schedule with this name.
 fn tell_turns(alloc: Global, name: &str, core: &Core, turns: &[Turn]) -> Result<List<u8>, Stop>
     requires safe { Safe core.now }
     requires few { total turns.now ≤ turn_limit }
@@ -54,8 +54,8 @@ fn tell_turns(alloc: Global, name: &str, core: &Core, turns: &[Turn]) -> Result<
     tell_list(alloc, name, core, list.as_slice())
 }
 
-/// Runs a source by a schedule, and answers each event of the run that takes or sends a message, makes an actor or an object, or reads
-/// or writes a field, with its clock.
+/// Runs a source by a schedule, and returns each event of the run that takes or sends a message, makes an actor or an
+/// object, or reads or writes a field, with its clock.
 pub fn tell_events<F: Files>(
     alloc: Global,
     files: &mut F,

@@ -68,7 +68,7 @@ fn explain_fault(
     Ok(explain_names(alloc, name, bytes, file, fault)?)
 }
 
-// The text of a core: that it is accepted, or why it has no derivation.
+// The text for a core: that it is accepted, or why it has no derivation.
 fn write_core(
     alloc: Global,
     name: &str,
@@ -84,7 +84,7 @@ fn write_core(
     }
 }
 
-// The text of the source of this name with these bytes, whose tokens and tree these are.
+// The text for the source with this name, these bytes, these tokens and this tree.
 fn explain_tree(
     alloc: Global,
     name: &str,
@@ -113,8 +113,9 @@ fn explain_bytes(alloc: Global, name: &str, bytes: &[u8]) -> Result<List<u8>, St
     explain_tree(alloc, name, bytes, tokens.as_slice(), &file)
 }
 
-/// Explains what `check` says of the source of this name: answers `accepted`, or the line of its refusal, with the place in the
-/// source and the rule that is broken. A source that has no tree, or passes a limit, is refused as by `check`.
+/// Explains what `check` reports about the source with this name: returns `accepted`, or the line of its refusal, with
+/// the place in the source and the rule that is broken. A source that has no tree, or passes a limit, is refused as by
+/// `check`.
 pub fn explain_source<F: Files>(
     alloc: Global,
     files: &mut F,

@@ -14,7 +14,7 @@ use pc_referee::Referee;
 use pc_refusals::{Stop, judge_derivation};
 use std::alloc::Global;
 
-/// Judges a derivation of a source: answers `accepted` if it is one.
+/// Judges a derivation of a source, and returns `accepted` if it is one.
 pub fn judge_source<F: Files, R: Referee>(
     alloc: Global,
     files: &mut F,

@@ -19,10 +19,10 @@ use pc_refusals::{Accepted, Stop, make_counts_line, put_text, refuse_words};
 use pc_types::accepted_never_lacks;
 use std::alloc::Global;
 
-/// How lines name the source and the schedule of a made program.
+/// How lines name the source and the schedule of a generated program.
 const NAME: &str = "make";
 
-// The seed and the size that these words spell.
+// The seed and the size that these words denote.
 fn read_numbers(seed: &str, size: &str) -> Option<(u64, u32)>
     ensures { ReadsNumbers seed.now size.now result }
 {
@@ -31,7 +31,7 @@ fn read_numbers(seed: &str, size: &str) -> Option<(u64, u32)>
     Some((seed, size))
 }
 
-// The program of this seed and this size: it is printed, and the text goes through the stages of a source.
+// Generates the program for this seed and this size, prints it, and takes the text through the stages of a source.
 fn accept_made(alloc: Global, seed: u64, size: u32) -> Result<Accepted, Stop>
     requires some { 1 ≤ size }
     requires few { size ≤ 900 }
@@ -42,7 +42,7 @@ fn accept_made(alloc: Global, seed: u64, size: u32) -> Result<Accepted, Stop>
     accept_text(alloc, NAME, Bytes::from_vec(text.into_vec()))
 }
 
-// Makes the program of this seed and this size, and runs it.
+// Generates the program for this seed and this size, and runs it.
 fn run_made<O: Sink>(alloc: Global, out: &mut O, seed: u64, size: u32) -> Result<(), Stop>
     requires some { 1 ≤ size }
     requires few { size ≤ 900 }
@@ -60,7 +60,7 @@ fn run_made<O: Sink>(alloc: Global, out: &mut O, seed: u64, size: u32) -> Result
     run_turns(alloc, out, NAME, core, turns.as_slice())
 }
 
-/// Makes a program from a number and runs it: writes the line of its numbers, and then what the run writes.
+/// Generates a program from a number and runs it: writes the line of its numbers, and then what the run writes.
 pub fn make_program<O: Sink>(alloc: Global, out: &mut O, seed: &str, size: &str) -> Result<(), Stop>
     ensures later { O.faults out.old ≤ O.faults out.new }
     ensures ends { Ends (IsMake seed.now size.now) (λ n. ⊥)

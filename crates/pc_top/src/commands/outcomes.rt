@@ -21,13 +21,13 @@ use pc_refusals::Stop;
 use pc_types::accepted_never_lacks;
 use std::alloc::{AllocError, Global};
 
-/// How many digits at most spell a count.
+/// The greatest number of digits of a count.
 const COUNT_DIGITS: usize = 5;
 
 /// The largest count.
 const MOST_SEEDS: u64 = 10_000;
 
-// The count that a text spells: one to five digits, of a number from 1 to 10,000.
+// The count that a text denotes: one to five digits, of a number from 1 to 10,000.
 fn count_of(text: &str) -> Option<u64>
     ensures { Reads (IsCount text.now) result }
 {
@@ -58,7 +58,8 @@ fn make_many_bytes_line(alloc: Global, name: &str, seed: u32) -> Result<Bytes, A
     Bytes::copy_of(alloc, text.as_bytes())
 }
 
-// The text of the table of a core's outcomes, or the seed that passes a limit. A line on err names the source of this name.
+// The text of the table of a core's outcomes, or the seed that passes a limit. A line on err names the source by this
+// name.
 fn write_outcomes(alloc: Global, name: &str, core: &Core, count: u32) -> Result<List<u8>, Stop>
     requires few { count < 2 ^ 31 }
     requires never_lacks { NeverLacks core.now }
@@ -78,8 +79,8 @@ fn write_outcomes(alloc: Global, name: &str, core: &Core, count: u32) -> Result<
     }
 }
 
-/// Plays a source by the seeds below a count: answers each different outcome once, in the order of first seeds, with the number of
-/// seeds that have it.
+/// Plays a source by the seeds below a count: returns each different outcome once, in the order of first seeds, with
+/// the number of seeds that have it.
 pub fn tell_outcomes<F: Files>(
     alloc: Global,
     files: &mut F,

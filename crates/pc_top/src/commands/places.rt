@@ -12,8 +12,8 @@ use pc_places::write_places;
 use pc_refusals::Stop;
 use std::alloc::Global;
 
-/// Tells what the core of the source of this name has, and where it stands in the source: answers a line for each entity, field,
-/// method, slot and node.
+/// Lists what the core of the source with this name has, and its places in the source: returns a line for each entity,
+/// field, method, slot and node.
 pub fn tell_places<F: Files>(alloc: Global, files: &mut F, source: &str) -> Result<List<u8>, Stop>
     ensures later { (n : Text) → F.faults files.old n ≤ F.faults files.new n }
     ensures same { (n : Text) → F.bytes files.new n ≡ F.bytes files.old n }

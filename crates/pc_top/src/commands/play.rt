@@ -20,7 +20,8 @@ use pc_run::RunFault;
 use pc_types::accepted_never_lacks;
 use std::alloc::Global;
 
-// Runs a core, over which no step lacks anything, by the list that a seed chooses. A line on err names the source of this name.
+// Runs a core, none of whose steps lacks anything, by the list that a seed chooses. A line on err names the source by
+// this name.
 fn play_core<O: Sink>(
     alloc: Global,
     out: &mut O,
@@ -44,8 +45,8 @@ fn play_core<O: Sink>(
     }
 }
 
-/// Runs a source by the list of steps that a seed chooses, and keeps no list: writes the texts that are printed, and the line of
-/// the run's numbers.
+/// Runs a source by the list of steps that a seed chooses, without keeping the list: writes the texts that are printed,
+/// and the line of the run's numbers.
 pub fn play_source<F: Files, O: Sink>(
     alloc: Global,
     files: &mut F,

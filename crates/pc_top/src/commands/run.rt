@@ -49,7 +49,7 @@ pub fn run_source<F: Files, O: Sink>(
     )
 }
 
-/// Runs a core, over which no step lacks anything, by the turns of the schedule of this name.
+/// Runs a core, none of whose steps lacks anything, by the turns of the schedule with this name.
 pub fn run_turns<O: Sink>(
     alloc: Global,
     out: &mut O,

@@ -28,7 +28,7 @@ fn write_chosen(alloc: Global, core: &Core, seed: u64) -> Result<List<u8>, Alloc
     line_of(alloc, list.as_slice())
 }
 
-/// Chooses the steps of a source by a seed: answers their list as one line of a schedule.
+/// Chooses the steps of a source by a seed: returns their list as one line of a schedule.
 pub fn choose_schedule<F: Files>(
     alloc: Global,
     files: &mut F,

@@ -17,7 +17,7 @@ use pc_refusals::Stop;
 use pc_sends::sends;
 use std::alloc::{AllocError, Global};
 
-// The text of who sends what in a core, by its valid annotation.
+// The text of who sends what in a core, made with its valid annotation.
 fn write_sends(alloc: Global, core: &Core, ann: &Ann) -> Result<List<u8>, AllocError>
     requires { Valid core.now ann.now }
     ensures { IfOk result (IsSendsText core.now ann.now) }
@@ -27,8 +27,9 @@ fn write_sends(alloc: Global, core: &Core, ann: &Ann) -> Result<List<u8>, AllocE
     write_table(alloc, core, &table)
 }
 
-/// Tells who sends what in the source of this name, over every run at once: answers a line for each entity and each method that its
-/// methods may send, and then a line for each behaviour and constructor of an actor that nothing ever sends.
+/// Lists who sends what in the source with this name, over every run at once: returns a line for each entity and each
+/// method that its methods may send, and then a line for each behaviour and constructor of an actor that nothing ever
+/// sends.
 pub fn tell_sends<F: Files>(alloc: Global, files: &mut F, source: &str) -> Result<List<u8>, Stop>
     ensures later { (n : Text) → F.faults files.old n ≤ F.faults files.new n }
     ensures same { (n : Text) → F.bytes files.new n ≡ F.bytes files.old n }

@@ -11,7 +11,7 @@ use pc_print::print;
 use pc_refusals::{SOURCE_LIMIT, Stop, parse_source, read_file};
 use std::alloc::Global;
 
-/// Shows the source of this name: answers the printed text of its tree.
+/// Shows the source with this name: returns the printed text of its tree.
 pub fn show_source<F: Files>(alloc: Global, files: &mut F, source: &str) -> Result<List<u8>, Stop>
     ensures later { (n : Text) → F.faults files.old n ≤ F.faults files.new n }
     ensures same { (n : Text) → F.bytes files.new n ≡ F.bytes files.old n }

@@ -25,13 +25,13 @@ use pc_sched_lines::{line_of, steps_of};
 use pc_swap::{Kept, SwapFault, swap};
 use std::alloc::{AllocError, Global};
 
-/// How many digits at most spell a place.
+/// The greatest number of digits of a place.
 const PLACE_DIGITS: usize = 7;
 
-/// The last place of which the digits are enough.
+/// The last place that can be written with these digits.
 const LAST_PLACE: u32 = 9_999_999;
 
-// The number that a text spells with one to seven digits, if it is below 2^32.
+// The number that a text denotes with one to seven digits, if it is below 2^32.
 fn number_of(text: &str) -> Option<u32>
     ensures { Reads (λ n. IsNumber 7 text.now n × (n < 2 ^ 32)) result }
 {
@@ -42,7 +42,7 @@ fn number_of(text: &str) -> Option<u32>
     }
 }
 
-// The place that a text spells: one to seven digits, of a number of at least 1.
+// The place that a text denotes: one to seven digits, of a number of at least 1.
 fn place_of(text: &str) -> Option<u32>
     ensures { Reads (IsPlace text.now) result }
 {
@@ -53,7 +53,7 @@ fn place_of(text: &str) -> Option<u32>
     Some(place)
 }
 
-// The line of a reason.
+// The line for a reason.
 fn make_kept_line(alloc: Global, kept: Kept) -> Result<List<u8>, AllocError>
     ensures { IfOk result (λ line. line ≡ spec.kept_line kept) }
 {
@@ -66,7 +66,7 @@ fn make_kept_line(alloc: Global, kept: Kept) -> Result<List<u8>, AllocError>
     List::from_slice(alloc, line.as_bytes())
 }
 
-// What is told of the turns at a place of a list and after it, for the schedule of this name.
+// The text for the turns at a place of a list and after it, for the schedule with this name.
 fn swap_list(
     alloc: Global,
     name: &str,
@@ -96,7 +96,7 @@ fn swap_list(
     }
 }
 
-// The same of the turns of the schedule of this name.
+// The same for the turns of the schedule with this name.
 fn swap_scheduled(
     alloc: Global,
     name: &str,
@@ -139,8 +139,8 @@ fn swap_at<F: Files>(
     )
 }
 
-/// Exchanges the turns at a place of a schedule and at the next, if the two steps are apart: answers the new schedule as one
-/// line, or the line that says why they stay in their order.
+/// Exchanges the turns at a place of a schedule and at the next, if the two steps are apart: returns the new schedule
+/// as one line, or the line that says why they keep their order.
 pub fn swap_turns<F: Files>(
     alloc: Global,
     files: &mut F,

@@ -24,7 +24,7 @@ use pc_sched_lines::steps_of;
 use pc_trace::{AcceptedFault, accepted_trace};
 use std::alloc::Global;
 
-// What is told of the run of a list, for the schedule of this name.
+// The text for the run of a list, for the schedule with this name.
 fn trace_list(alloc: Global, name: &str, core: &Core, list: &[u32]) -> Result<List<u8>, Stop>
     requires safe { Safe core.now }
     requires few { length list.now ≤ turn_limit }
@@ -44,7 +44,7 @@ fn trace_list(alloc: Global, name: &str, core: &Core, list: &[u32]) -> Result<Li
     }
 }
 
-// The same of the turns of the schedule of this name.
+// The same for the turns of the schedule with this name.
 fn trace_turns(alloc: Global, name: &str, core: &Core, turns: &[Turn]) -> Result<List<u8>, Stop>
     requires safe { Safe core.now }
     requires few { total turns.now ≤ turn_limit }
@@ -54,8 +54,8 @@ fn trace_turns(alloc: Global, name: &str, core: &Core, turns: &[Turn]) -> Result
     trace_list(alloc, name, core, list.as_slice())
 }
 
-/// Runs a source by a schedule, and answers each access of the run to a field with its clock: of each actor, the number of its
-/// events that are this one or come before it. Those that conflict are ordered.
+/// Runs a source by a schedule, and returns each access of the run to a field with its clock: for each actor, the
+/// number of its events that are this one or come before it. Those that conflict are ordered.
 pub fn trace_run<F: Files>(
     alloc: Global,
     files: &mut F,

@@ -26,7 +26,7 @@ fn push_behind(text: &mut Vec<u8>, numbers: &[u64]) -> Result<(), AllocError>
     Ok(())
 }
 
-// Appends the numbers of a clock to a text, with one comma between two.
+// Appends the numbers of a clock to a text, with a comma between any two.
 fn push_clock(text: &mut Vec<u8>, clock: &[u64]) -> Result<(), AllocError>
     ensures { OnOk result (text.new.items ≡ text.old.items ++ spec.clock_text clock.now) }
 {

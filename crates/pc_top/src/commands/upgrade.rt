@@ -13,8 +13,8 @@ use pc_io::Files;
 use pc_refusals::{Stop, judge_annotation, read_derivation};
 use std::alloc::Global;
 
-/// Judges a derivation of a source, which is read whole: answers the text in version 2 of its annotation. The derivation may be in
-/// either version.
+/// Judges a derivation of a source, which is read as a whole, and returns the text of its annotation in version 2. The
+/// derivation may be in either version.
 pub fn upgrade_derivation<F: Files>(
     alloc: Global,
     files: &mut F,

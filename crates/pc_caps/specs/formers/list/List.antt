@@ -1,5 +1,5 @@
--- How a `List<T>` holds its values, so that a recursive type may hold itself through one: it has the shape of a list, and
--- owns, lends and codes what the vector inside it does.
+-- How a `List<T>` holds its values, so that a recursive type may contain itself through one: it has the shape of a
+-- list, and owns, lends and encodes what the vector inside it does.
 use mathlib.Core.Path.{◌≡◌, refl, sym}
 use mathlib.Core.List.{List as Sequence, []}
 use mathlib.Core.Former.{Former, this, list, via, children}
@@ -20,7 +20,7 @@ use Rattle.pc_caps.specs.declared.list.List.TheView.{view, invariant}
 use Rattle.pc_caps.specs.contracts.list.List as contract
 use Rattle.pc_caps.specs.contracts.list.List.TheInside as inside
 
--- The values, as clauses see them.
+-- The values, as contracts see them.
 abbrev pub the_former : Former {0} → Former {0}
 the_former held = list held
 
@@ -40,7 +40,7 @@ the_empty = []
 abbrev around : Former {0}
 around = via (vector.the_former this Global) Inside (λ T list. list.row) (λ T row. record { row = row }) (λ T list. refl) (λ T values. refl)
 
--- Two types of values that are laid out alike give two lists that are.
+-- If two types of values have the same layout, so have lists of them.
 module _ (From To : RattleType) (change : From.Denot → To.Denot) where
   pub the_places : Alike From To change → Alike (contract.the_row From) (contract.the_row To) ((the_former this).map From.Denot To.Denot change)
   the_places alike =

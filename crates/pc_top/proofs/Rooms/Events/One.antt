@@ -1,4 +1,4 @@
--- No two verdicts on the events of a run differ: the events are one list.
+-- Any two verdicts on the events of a run are equal: there is only one list of events.
 use Rattle.std.proofs.Common.{◌≡◌, ◌<◌, ℕ, suc, List, Some, Ok, Err, sym, ap, ◌∙◌, subst, arith}
 use Rattle.std.proofs.lemmas.Option.{none-some, same_Some}
 use Rattle.pc_core.specs.CoreData.{CoreData}

@@ -1,4 +1,4 @@
--- From why a run was not gone through to what is told of it.
+-- From why a run did not reach its end to what is reported of it.
 use Rattle.std.proofs.Common.{◌≡◌, ℕ, List, Err, sym, subst}
 use Rattle.pc_core.specs.CoreData.{CoreData}
 use Rattle.pc_trace.specs.Traces.{TooLongAt, TooManyAt}

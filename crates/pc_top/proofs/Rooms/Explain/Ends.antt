@@ -1,4 +1,4 @@
--- From what the parts of `explain` answer to how it ends.
+-- From the results of the parts of `explain` to how it ends.
 use Rattle.std.proofs.Common.{◌≡◌, ◌≤◌, List, length, Ok, Err, inr, true, false, refl, ap, subst}
 use Rattle.std.specs.Prelude.{IfErr, Result}
 use Rattle.pc_elab.specs.Cores.{IsFirstFault}

@@ -1,4 +1,4 @@
--- No two ends of the stages of `explain` differ.
+-- Any two ends of the stages of `explain` are equal.
 use Rattle.std.proofs.Common.{◌≡◌, List, Ok, Err, inl, inr, refl, ap, subst}
 use Rattle.std.specs.Prelude.{Result}
 use Rattle.pc_core.specs.CoreData.{CoreData}

@@ -1,4 +1,4 @@
--- From what the parts of `make` answer to how it ends.
+-- From the results of the parts of `make` to how it ends.
 use Rattle.std.proofs.Common.{◌≡◌, ◌≤◌, ◌<◌, ℕ, length, Option, Ok, Err, inl, inr, refl, sym, subst, arith}
 use Rattle.std.specs.Prelude.{Result}
 use Rattle.std.specs.Io.KnownBytes.{Appends}
@@ -23,7 +23,7 @@ use Rattle.pc_refusals.specs.declared.stop.Stop.{Stop}
 use Rattle.pc_refusals.specs.declared.stop.Stop.TheVariants.{Refused, File, Sink, Memory}
 use Rattle.pc_top.proofs.Rooms.Run.Ends.{has_verdict}
 
--- a text that stands in no file is read without a failure
+-- a text that is in no file is read without a failure
 pub never_failed : (name text n : Text) → FailedAt (text_as name text) n → ⊥
 never_failed name text n f = let rose : 0 < 0 = f.1 in omega (arith, rose)
 
@@ -36,7 +36,7 @@ module _ (seed size : ℕ) (accepted : Accepted) (safe : NeverLacks accepted.sou
   abbrev Runs : Verdict → Type 0
   Runs = Ran made_name accepted.source.core (spread (schedule size))
 
-  -- the run's text, or a part of it, behind the line
+  -- the run's text, or a part of it, after the line
   behind : (out : Change) (mid : Option Text) (v : Verdict) → Runs v → Appends out.before mid line → GrowsByPrefix mid out.now v.out → TellsPart (MadeRun seed size accepted) out
   behind out mid v r w p =
       (headed line v, (v, r, refl), grows_on out.before mid out.now line v.out w p)

@@ -1,4 +1,4 @@
--- `play` answers what `run` answers by the line that `schedule` writes.
+-- `play` does what `run` does for the line that `schedule` writes.
 use Rattle.std.proofs.Common.{◌≡◌, ◌≤◌, ◌∙◌, ℕ, List, length, Option, Some, Ok, inl, refl, sym, ap, subst}
 use Rattle.std.specs.Prelude.{IfSome, IsSome}
 use Rattle.std.proofs.lemmas.Option.{none-some}

@@ -1,4 +1,4 @@
--- No two verdicts on who sends what differ: a table that is exact and in order is one.
+-- Any two verdicts on who sends what are equal: there is only one table that is exact and in order.
 use Rattle.std.proofs.Common.{◌≡◌, ◌<◌, ℕ, List, ◌++◌, Option, inl, inr, sym, ap, ap₂, ◌∙◌, arith}
 use Rattle.pc_core.specs.CoreData.{CoreData}
 use Rattle.pc_noted_receivers.specs.Noted.{entities}

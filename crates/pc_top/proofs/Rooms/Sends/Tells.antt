@@ -1,4 +1,4 @@
--- What `sends` tells is true of every run.
+-- What `sends` reports is right about every run.
 use Rattle.std.proofs.Common.{◌≡◌, ◌<◌, ℕ, List, length, Option, Some, Ok, Err, refl, sym, ap, ◌∙◌, subst}
 use Rattle.std.specs.Prelude.{IfOk, IsSome, Result, slice_get}
 use Rattle.std.proofs.lemmas.List.{length-map}

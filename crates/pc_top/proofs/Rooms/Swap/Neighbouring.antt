@@ -1,4 +1,4 @@
--- The turns of a list at a place and behind it.
+-- The turns of a list at a place and after it.
 use Rattle.std.proofs.Common.{◌≡◌, ◌≤◌, ◌<◌, ◌+◌, ◌-◌, ℕ, List, ◌∷◌, ◌++◌, length, take, drop, get_or, sym, ap, ◌∙◌, arith, length-append}
 use Rattle.std.proofs.lemmas.List.{drop_more, length-take-le, take-append-drop}
 use Rattle.pc_lists.proofs.Cuts.{same_cut}
@@ -14,7 +14,7 @@ turns_at list place some within =
     let count : length (take k list) ≡ k = length-take-le k list (omega (arith, within, some)) in
     (t, (sym (take-append-drop k list) ∙ ap (λ l. take k list ++ l) (first ∙ ap (λ l. get_or list k 0 ∷ l) second), next ∙ ap (λ n. n + 1) (sym count)))
 
--- There is a turn behind the place.
+-- There is a turn after the place.
 pub stands_within : (list : List ℕ) (place : ℕ) (t : Neighbours) → StandAt list place t → place < length list
 stands_within list place t at =
     let whole = ap (λ (l : List ℕ). length l) at.0 in
@@ -30,7 +30,7 @@ length_exchanged list place t at =
     let other = length-append t.front (t.j ∷ t.i ∷ t.rest) in
     omega (arith, whole, both, other)
 
--- No others stand there.
+-- There are no others there.
 same_parts : (f g : List ℕ) (i j k l : ℕ) (r s : List ℕ) → f ≡ g → i ∷ j ∷ r ≡ k ∷ l ∷ s
     → ◌≡◌ {A = Neighbours} (record { front = f; i = i; j = j; rest = r }) (record { front = g; i = k; j = l; rest = s })
 same_parts f g i j k l r s e same =

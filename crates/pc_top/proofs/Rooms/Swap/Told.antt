@@ -1,4 +1,4 @@
--- From what the exchange of two turns answers to what is told of them.
+-- From the result of the exchange of two turns to what is reported of them.
 use Rattle.std.proofs.Common.{◌≡◌, ◌≤◌, ◌<◌, ◌+◌, ℕ, List, ◌∷◌, ◌++◌, length, Ok, Err, sym, ap, subst, arith}
 use Rattle.std.specs.Prelude.{Result}
 use Rattle.pc_core.specs.CoreData.{CoreData}
@@ -17,7 +17,7 @@ use Rattle.pc_top.specs.Commands.Swap.Swapping.{tells, too_long}
 use Rattle.pc_top.proofs.Rooms.Swap.Neighbouring.{length_exchanged, turns_at}
 
 module _ (name : Text) (core : CoreData) (list : List ℕ) (place : ℕ) (some : 1 ≤ place) (within : place < length list) where
-  -- what the exchange answers of whatever turns stand there
+  -- the result of the exchange, whatever turns are there
   abbrev Swaps : Result (List ℕ) SwapFault → Type 0
   Swaps result = (front rest : List ℕ) (i j : ℕ) → list ≡ front ++ i ∷ j ∷ rest → place ≡ length front + 1 → SwapEnds core front i j rest result
 

@@ -47,7 +47,7 @@ run_rises core (i ∷ is) c = go (step core c i) refl (λ d. run_rises core is d
     go (Lacks l, d) e more = self (length c.actors)
     go (TooLong, d) e more = self (length c.actors)
 
--- ---- where one too many is made
+-- ---- if one too many is made
 
 one_above : (n m k : ℕ) → m ≡ suc n → n ≡ 64 → m ≤ k → 64 < k
 one_above n m k e f l = omega (arith, e, f, l)
@@ -70,7 +70,7 @@ module _ (core : CoreData) (list : List ℕ) where
       subst (λ (c : Configuration). 64 < length c.actors) (sym whole)
       (one_above (length here.actors) (length next.actors) (length (run_from core next rest).actors) spawned.0 m.full (run_rises core rest next))
 
-  -- Not twice: behind the first such place there are more than at the second.
+  -- Not twice: after the first such place there are more than at the second.
   not_later : (n k : ℕ) (m : TooManyAt core list n) (o : TooManyAt core list k) → m.p < o.p → ⊥
   not_later n k m o l =
       let b = (moving core list m.p m.i m.event).boxes in

@@ -1,4 +1,4 @@
--- No two verdicts on a trace differ: the accesses of a run are one list.
+-- Any two verdicts on a trace are equal: there is only one list of the accesses of a run.
 use Rattle.std.proofs.Common.{◌≡◌, ◌≤◌, ◌<◌, ℕ, suc, List, [], ◌∷◌, length, Option, Some, Ok, Err, refl, sym, ap, ap₂, ◌∙◌, subst, arith}
 use Rattle.std.specs.Prelude.{slice_get}
 use Rattle.std.proofs.lemmas.Option.{none-some, same_Some}

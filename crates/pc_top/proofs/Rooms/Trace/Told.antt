@@ -1,4 +1,4 @@
--- From what the tracing of a run answers to what is told of it.
+-- From the result of tracing a run to what is reported of it.
 use Rattle.std.proofs.Common.{◌≡◌, ℕ, List, Err, sym, subst}
 use Rattle.pc_core.specs.CoreData.{CoreData}
 use Rattle.pc_trace.specs.Traces.{TooLongAt, TooManyAt}

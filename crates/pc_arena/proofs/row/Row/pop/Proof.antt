@@ -40,7 +40,8 @@ pop_spec 𝓤 𝓛 𝓜 𝓡 wired T Z L LZ g methods drops met dropped =
     use1 𝓛 (‵ (row R full_share ys b o) ⊛ ‵ (Lies T L 𝓛 b o x (length ys))) (last_out T L 𝓛 b o ys x) $ split ! $ move ! (1 ∷ []) $
     rewrite ! 0 (λ (j : ℕ). ‵ (Lies T L 𝓛 b o x j)) (sym rest) refl $
     use1 𝓛 (some (λ (v : Val). given (Holds (has_ty (layout T) v) × WT v) (‵ (fat full_share (layout T) b at v) ⊛ ‵ (T.own_val x (v ∷ []))))) (el_out (elements T L 𝓛 b o) 𝓛 full_share x b at) $ pick ! (λ v. learn ! (λ fine. split ! $
-    -- [the place; what its value owns; the other values; what is behind the place; the block's token; the owner's cell; ..]
+    -- [the place; what its value owns; the other values; what is after the place; the block's token; the owner's cell;
+    -- ..]
     sets ! (of_opd ! (load ! (through ! refl (fld ! refl (stop !))) (look_in ! 5 (sub ! 1 refl (whole !))))) refl (tt, record { fits = fn₀ }) $
     sets ! (bin ! (get ! refl) (lit ! tt) one) refl (tt, record { fits = fk }) $
     assigns ! (of_opd ! (get ! refl)) (through ! refl (fld ! refl (stop !))) (store_in ! 5 (sub ! 1 refl (whole !)) (tt, record { fits = fk })) $ first ! $ blocks ! $

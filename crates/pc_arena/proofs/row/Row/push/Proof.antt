@@ -39,7 +39,7 @@ push_spec 𝓤 𝓛 𝓜 𝓡 wired T Z L LZ g methods drops met dropped =
     opens_row T Z g ! tt κ q γ rb ro d (λ b o short. let fits = within_word n s low short in let at = n * s + o in
     move ! (1 ∷ []) $ rewrite ! 0 (λ (k : ℕ). ‵ (Behind T L 𝓛 b o k)) (sym counted) refl $
     use1 𝓛 (‵ (froom (lone R.mir) b at) ⊛ ‵ (Behind T L 𝓛 b o (n + 1))) (place_out T L 𝓛 b o n low) $ split ! $
-    -- [the place; what is behind it; the values; the block's token; the owner's cell; ..]
+    -- [the place; what is after it; the values; the block's token; the owner's cell; ..]
     first ! $ blocks ! $
     sets ! (of_opd ! (load ! (through ! refl (fld ! refl (stop !))) (look_in ! 4 (sub ! 0 refl (whole !))))) refl (tt, tt) $
     sets ! (of_opd ! (load ! (through ! refl (fld ! refl (stop !))) (look_in ! 4 (sub ! 1 refl (whole !))))) refl (tt, record { fits = fn₀ }) $
