@@ -6,7 +6,8 @@ use Rattle.clap.specs.Walk.{answers_to, stop_after}
 use Rattle.clap.specs.Words.{Row, fault_of, subcommand_of, takes}
 use Rattle.clap.proofs.OnLiterals.{clap_on_literals}
 use Rattle.pc_lists.specs.Texts.{Text}
-use Rattle.pc_args.specs.Asked.{Asked, check, command_of, events, explain, has_fault, is_refused, judge, make, named, outcomes, places, play, run, schedule_of, sends, show, swap, trace, upgrade}
+use Rattle.pc_args.specs.Asked.{Asked, check, command_of, events, explain, has_fault, is_refused, judge, make, asked_by_name, outcomes, places, play, run}
+use Rattle.pc_args.specs.Asked.{schedule_of, sends, show, swap, trace, upgrade}
 use Rattle.pc_args.specs.Forms.{AskFor, WrittenFormsAreTaken, check_words, events_words, explain_words, is_plain, judge_words, make_words, outcomes_words, places_words, play_words, run_words, schedule_words, sends_words, show_words, swap_words, trace_words, upgrade_words}
 use Rattle.pc_args.specs.Line.{rcap}
 use Rattle.std.proofs.lemmas.Bool.{not-true}
@@ -60,7 +61,8 @@ unfolding clap_on_literals
 swap_taken c d b rest more last plain also behind = simp plain (simp also (simp behind refl))
 
 swap_found : (c d b : ℕ) (rest more last : Text) → nat_eq c 45 ≡ false → nat_eq d 45 ≡ false → nat_eq b 45 ≡ false
-    → option_and_then named (subcommand_of rcap (swap_words (c ∷ rest) (d ∷ more) (b ∷ last))) ≡ Some (swap (c ∷ rest) (d ∷ more) (b ∷ last))
+    → option_and_then asked_by_name (subcommand_of rcap (swap_words (c ∷ rest) (d ∷ more) (b ∷ last)))
+        ≡ Some (swap (c ∷ rest) (d ∷ more) (b ∷ last))
 unfolding clap_on_literals
 swap_found c d b rest more last plain also behind = simp plain (simp also (simp behind refl))
 
@@ -69,7 +71,7 @@ unfolding clap_on_literals
 trace_taken c d rest more plain also = simp plain (simp also refl)
 
 trace_found : (c d : ℕ) (rest more : Text) → nat_eq c 45 ≡ false → nat_eq d 45 ≡ false
-    → option_and_then named (subcommand_of rcap (trace_words (c ∷ rest) (d ∷ more))) ≡ Some (trace (c ∷ rest) (d ∷ more))
+    → option_and_then asked_by_name (subcommand_of rcap (trace_words (c ∷ rest) (d ∷ more))) ≡ Some (trace (c ∷ rest) (d ∷ more))
 unfolding clap_on_literals
 trace_found c d rest more plain also = simp plain (simp also refl)
 
@@ -78,7 +80,7 @@ unfolding clap_on_literals
 events_taken c d rest more plain also = simp plain (simp also refl)
 
 events_found : (c d : ℕ) (rest more : Text) → nat_eq c 45 ≡ false → nat_eq d 45 ≡ false
-    → option_and_then named (subcommand_of rcap (events_words (c ∷ rest) (d ∷ more))) ≡ Some (events (c ∷ rest) (d ∷ more))
+    → option_and_then asked_by_name (subcommand_of rcap (events_words (c ∷ rest) (d ∷ more))) ≡ Some (events (c ∷ rest) (d ∷ more))
 unfolding clap_on_literals
 events_found c d rest more plain also = simp plain (simp also refl)
 
@@ -86,7 +88,7 @@ places_taken : (c : ℕ) (rest : Text) → nat_eq c 45 ≡ false → takes rcap 
 unfolding clap_on_literals
 places_taken c rest plain = simp plain refl
 
-places_found : (c : ℕ) (rest : Text) → nat_eq c 45 ≡ false → option_and_then named (subcommand_of rcap (places_words (c ∷ rest))) ≡ Some (places (c ∷ rest))
+places_found : (c : ℕ) (rest : Text) → nat_eq c 45 ≡ false → option_and_then asked_by_name (subcommand_of rcap (places_words (c ∷ rest))) ≡ Some (places (c ∷ rest))
 unfolding clap_on_literals
 places_found c rest plain = simp plain refl
 
@@ -94,7 +96,7 @@ explain_taken : (c : ℕ) (rest : Text) → nat_eq c 45 ≡ false → takes rcap
 unfolding clap_on_literals
 explain_taken c rest plain = simp plain refl
 
-explain_found : (c : ℕ) (rest : Text) → nat_eq c 45 ≡ false → option_and_then named (subcommand_of rcap (explain_words (c ∷ rest))) ≡ Some (explain (c ∷ rest))
+explain_found : (c : ℕ) (rest : Text) → nat_eq c 45 ≡ false → option_and_then asked_by_name (subcommand_of rcap (explain_words (c ∷ rest))) ≡ Some (explain (c ∷ rest))
 unfolding clap_on_literals
 explain_found c rest plain = simp plain refl
 
@@ -102,7 +104,7 @@ sends_taken : (c : ℕ) (rest : Text) → nat_eq c 45 ≡ false → takes rcap (
 unfolding clap_on_literals
 sends_taken c rest plain = simp plain refl
 
-sends_found : (c : ℕ) (rest : Text) → nat_eq c 45 ≡ false → option_and_then named (subcommand_of rcap (sends_words (c ∷ rest))) ≡ Some (sends (c ∷ rest))
+sends_found : (c : ℕ) (rest : Text) → nat_eq c 45 ≡ false → option_and_then asked_by_name (subcommand_of rcap (sends_words (c ∷ rest))) ≡ Some (sends (c ∷ rest))
 unfolding clap_on_literals
 sends_found c rest plain = simp plain refl
 
@@ -111,7 +113,7 @@ unfolding clap_on_literals
 upgrade_taken c d rest more plain also = simp plain (simp also refl)
 
 upgrade_found : (c d : ℕ) (rest more : Text) → nat_eq c 45 ≡ false → nat_eq d 45 ≡ false
-    → option_and_then named (subcommand_of rcap (upgrade_words (c ∷ rest) (d ∷ more))) ≡ Some (upgrade (c ∷ rest) (d ∷ more))
+    → option_and_then asked_by_name (subcommand_of rcap (upgrade_words (c ∷ rest) (d ∷ more))) ≡ Some (upgrade (c ∷ rest) (d ∷ more))
 unfolding clap_on_literals
 upgrade_found c d rest more plain also = simp plain (simp also refl)
 
@@ -120,7 +122,7 @@ unfolding clap_on_literals
 schedule_taken c d rest more plain also = simp plain (simp also refl)
 
 schedule_found : (c d : ℕ) (rest more : Text) → nat_eq c 45 ≡ false → nat_eq d 45 ≡ false
-    → option_and_then named (subcommand_of rcap (schedule_words (c ∷ rest) (d ∷ more))) ≡ Some (schedule_of (c ∷ rest) (d ∷ more))
+    → option_and_then asked_by_name (subcommand_of rcap (schedule_words (c ∷ rest) (d ∷ more))) ≡ Some (schedule_of (c ∷ rest) (d ∷ more))
 unfolding clap_on_literals
 schedule_found c d rest more plain also = simp plain (simp also refl)
 
@@ -129,7 +131,7 @@ unfolding clap_on_literals
 play_taken c d rest more plain also = simp plain (simp also refl)
 
 play_found : (c d : ℕ) (rest more : Text) → nat_eq c 45 ≡ false → nat_eq d 45 ≡ false
-    → option_and_then named (subcommand_of rcap (play_words (c ∷ rest) (d ∷ more))) ≡ Some (play (c ∷ rest) (d ∷ more))
+    → option_and_then asked_by_name (subcommand_of rcap (play_words (c ∷ rest) (d ∷ more))) ≡ Some (play (c ∷ rest) (d ∷ more))
 unfolding clap_on_literals
 play_found c d rest more plain also = simp plain (simp also refl)
 
@@ -138,7 +140,7 @@ unfolding clap_on_literals
 outcomes_taken c d rest more plain also = simp plain (simp also refl)
 
 outcomes_found : (c d : ℕ) (rest more : Text) → nat_eq c 45 ≡ false → nat_eq d 45 ≡ false
-    → option_and_then named (subcommand_of rcap (outcomes_words (c ∷ rest) (d ∷ more))) ≡ Some (outcomes (c ∷ rest) (d ∷ more))
+    → option_and_then asked_by_name (subcommand_of rcap (outcomes_words (c ∷ rest) (d ∷ more))) ≡ Some (outcomes (c ∷ rest) (d ∷ more))
 unfolding clap_on_literals
 outcomes_found c d rest more plain also = simp plain (simp also refl)
 
@@ -147,9 +149,9 @@ unrefused : (words : List Text) → takes rcap words ≡ true → is_refused wor
 unfolding is_refused
 unrefused words t = ap (λ b. not b && has_fault (fault_of rcap words)) t
 
-read_from : (words : List Text) (asked : Asked) → takes rcap words ≡ true → option_and_then named (subcommand_of rcap words) ≡ Some asked → command_of words ≡ Some asked
+read_from : (words : List Text) (asked : Asked) → takes rcap words ≡ true → option_and_then asked_by_name (subcommand_of rcap words) ≡ Some asked → command_of words ≡ Some asked
 unfolding command_of
-read_from words asked t e = ap (λ b. if b then None else option_and_then named (subcommand_of rcap words)) (unrefused words t) ∙ e
+read_from words asked t e = ap (λ b. if b then None else option_and_then asked_by_name (subcommand_of rcap words)) (unrefused words t) ∙ e
 
 swap_asks : (c d b : ℕ) (rest more last : Text) → nat_eq c 45 ≡ false → nat_eq d 45 ≡ false → nat_eq b 45 ≡ false
     → AskFor (swap_words (c ∷ rest) (d ∷ more) (b ∷ last)) (swap (c ∷ rest) (d ∷ more) (b ∷ last))
@@ -322,24 +324,25 @@ forms_taken = record { checks = checks; judges = judges; runs = runs; shows = sh
 
 -- A subcommand with this name asks for something, whatever its values are.
 abbrev Asks : Text → Type 0
-Asks name = (rows : List Row) → named (name, rows) ≡ None → ⊥
+Asks name = (rows : List Row) → asked_by_name (name, rows) ≡ None → ⊥
 
 abbrev AllAsk : List Shape → Type 0
 AllAsk [] = Unit {0}
 AllAsk (s ∷ ss) = Asks s.name × AllAsk ss
 
 here : (b : Bool) (s : Shape) (o : Option Shape) (words : List Text) → Asks s.name
-    → (option_and_then named (option_map (λ x. rows_at x words) o) ≡ None → option_map (λ x. rows_at x words) o ≡ None)
-    → option_and_then named (option_map (λ x. rows_at x words) (cond b (Some s) o)) ≡ None → option_map (λ x. rows_at x words) (cond b (Some s) o) ≡ None
+    → (option_and_then asked_by_name (option_map (λ x. rows_at x words) o) ≡ None → option_map (λ x. rows_at x words) o ≡ None)
+    → option_and_then asked_by_name (option_map (λ x. rows_at x words) (cond b (Some s) o)) ≡ None → option_map (λ x. rows_at x words) (cond b (Some s) o) ≡ None
 here true s o words asks rest e = absurd (asks (rows_at s words).1 e)
 here false s o words asks rest e = rest e
 
 found : (test : Shape → Bool) (words : List Text) (ss : List Shape) → AllAsk ss
-    → option_and_then named (option_map (λ x. rows_at x words) (find test ss)) ≡ None → option_map (λ x. rows_at x words) (find test ss) ≡ None
+    → option_and_then asked_by_name (option_map (λ x. rows_at x words) (find test ss)) ≡ None
+        → option_map (λ x. rows_at x words) (find test ss) ≡ None
 found test words [] all e = refl
 found test words (s ∷ ss) all e = here (test s) s (find test ss) words all.0 (found test words ss all.1) e
 
-enters : (a : App) (stop : Option (Text × List Text)) → AllAsk a.subs → option_and_then named (entered a stop) ≡ None → entered a stop ≡ None
+enters : (a : App) (stop : Option (Text × List Text)) → AllAsk a.subs → option_and_then asked_by_name (entered a stop) ≡ None → entered a stop ≡ None
 enters a None all e = refl
 enters a (Some p) all e = found (λ s. answers_to p.0 (label_of s)) p.1 a.subs all e
 
@@ -389,7 +392,7 @@ explain_known : Asks (codes "explain")
 explain_known rows e = cc
 
 -- Words that ask for nothing have no subcommand.
-pub nothing_asked : (words : List Text) → option_and_then named (subcommand_of rcap words) ≡ None → subcommand_of rcap words ≡ None
+pub nothing_asked : (words : List Text) → option_and_then asked_by_name (subcommand_of rcap words) ≡ None → subcommand_of rcap words ≡ None
 nothing_asked words e =
     let stop = stop_after (built rcap).top.rules (names_of (built rcap)) (argument_words rcap words) in
     enters (built rcap) stop (check_known, (judge_known, (run_known, (show_known, (make_known, (swap_known, (trace_known, (sends_known, (upgrade_known, (schedule_known, (play_known, (outcomes_known, (places_known, (events_known, (explain_known, tt))))))))))))))) e

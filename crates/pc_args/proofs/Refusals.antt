@@ -4,7 +4,7 @@ use Rattle.std.specs.Prelude.{if◌then◌else◌, option_and_then}
 use Rattle.clap.specs.Kinds.{Kinds}
 use Rattle.clap.specs.Words.{fault_of, subcommand_of, takes}
 use Rattle.pc_lists.specs.Texts.{Text}
-use Rattle.pc_args.specs.Asked.{Asked, command_of, has_fault, is_refused, named}
+use Rattle.pc_args.specs.Asked.{Asked, command_of, has_fault, is_refused, asked_by_name}
 use Rattle.pc_args.specs.Line.{rcap}
 use Rattle.pc_args.specs.Refused.{OnlyRefusedAskForNothing}
 use Rattle.pc_args.proofs.Forms.{nothing_asked}
@@ -21,10 +21,10 @@ untaken false [] n m = absurd (m refl)
 untaken false (x ∷ xs) n m = refl
 
 -- Words without a fault ask for what their subcommand does.
-pub asks : (words : List Text) (asked : Asked) → fault_of rcap words ≡ [] → option_and_then named (subcommand_of rcap words) ≡ Some asked → command_of words ≡ Some asked
+pub asks : (words : List Text) (asked : Asked) → fault_of rcap words ≡ [] → option_and_then asked_by_name (subcommand_of rcap words) ≡ Some asked → command_of words ≡ Some asked
 unfolding command_of is_refused
 asks words asked f e =
-    subst (λ (b : Bool). (if b then None else option_and_then named (subcommand_of rcap words)) ≡ Some asked)
+    subst (λ (b : Bool). (if b then None else option_and_then asked_by_name (subcommand_of rcap words)) ≡ Some asked)
     (sym (faultless (takes rcap words) (fault_of rcap words) f)) e
 
 pub refuses : (words : List Text) → (takes rcap words ≡ true → ⊥) → (fault_of rcap words ≡ [] → ⊥) → is_refused words ≡ true
@@ -35,7 +35,7 @@ refuses words n m = untaken (takes rcap words) (fault_of rcap words) n m
 pub asks_nothing : (words : List Text) → is_refused words ≡ true → command_of words ≡ None
 unfolding command_of
 asks_nothing words r =
-    subst (λ (b : Bool). (if b then None else option_and_then named (subcommand_of rcap words)) ≡ None) (sym r) refl
+    subst (λ (b : Bool). (if b then None else option_and_then asked_by_name (subcommand_of rcap words)) ≡ None) (sym r) refl
 
 -- Words that ask for nothing are refused.
 without : {A : Type 0} (t : Bool) (k : Kinds) (o : Option A) → (o ≡ None → t ≡ true → ⊥) → (o ≡ None → k ≡ [] → ⊥)
@@ -49,7 +49,8 @@ without false (x ∷ xs) o m n e = refl
 only : (words : List Text) → command_of words ≡ None → is_refused words ≡ true
 unfolding command_of is_refused
 only words e =
-    without (takes rcap words) (fault_of rcap words) (option_and_then named (subcommand_of rcap words)) (λ r. untaken_without words (nothing_asked words r))
+    without (takes rcap words) (fault_of rcap words) (option_and_then asked_by_name (subcommand_of rcap words))
+        (λ r. untaken_without words (nothing_asked words r))
     (λ r. missing words (nothing_asked words r)) e
 
 pub only_refused : OnlyRefusedAskForNothing

@@ -49,26 +49,27 @@ asked_by (Play source seed) = play source.now seed.now
 asked_by (Outcomes source count) = outcomes source.now count.now
 
 -- the value of the argument with this name
-abbrev pub value : Text → List Row → Text
-value id rows = unwrap_or (first_of id rows) []
+abbrev pub argument_value : Text → List Row → Text
+argument_value id rows = unwrap_or (first_of id rows) []
 
 -- What a subcommand asks for, given the values of its arguments. There are no other subcommands.
-abbrev pub named : Text × List Row → Option Asked
-named p = if bytes_eq p.0 (codes "check") then Some (check (value (codes "SRC") p.1))
-    else if bytes_eq p.0 (codes "judge") then Some (judge (value (codes "SRC") p.1) (value (codes "DERIV") p.1))
-    else if bytes_eq p.0 (codes "run") then Some (run (value (codes "SRC") p.1) (value (codes "SCHED") p.1))
-    else if bytes_eq p.0 (codes "show") then Some (show (value (codes "SRC") p.1))
-    else if bytes_eq p.0 (codes "make") then Some (make (value (codes "SEED") p.1) (value (codes "SIZE") p.1))
-    else if bytes_eq p.0 (codes "swap") then Some (swap (value (codes "SRC") p.1) (value (codes "SCHED") p.1) (value (codes "PLACE") p.1))
-    else if bytes_eq p.0 (codes "trace") then Some (trace (value (codes "SRC") p.1) (value (codes "SCHED") p.1))
-    else if bytes_eq p.0 (codes "events") then Some (events (value (codes "SRC") p.1) (value (codes "SCHED") p.1))
-    else if bytes_eq p.0 (codes "places") then Some (places (value (codes "SRC") p.1))
-    else if bytes_eq p.0 (codes "explain") then Some (explain (value (codes "SRC") p.1))
-    else if bytes_eq p.0 (codes "sends") then Some (sends (value (codes "SRC") p.1))
-    else if bytes_eq p.0 (codes "upgrade") then Some (upgrade (value (codes "SRC") p.1) (value (codes "DERIV") p.1))
-    else if bytes_eq p.0 (codes "schedule") then Some (schedule_of (value (codes "SRC") p.1) (value (codes "SEED") p.1))
-    else if bytes_eq p.0 (codes "play") then Some (play (value (codes "SRC") p.1) (value (codes "SEED") p.1))
-    else if bytes_eq p.0 (codes "outcomes") then Some (outcomes (value (codes "SRC") p.1) (value (codes "COUNT") p.1))
+abbrev pub asked_by_name : Text × List Row → Option Asked
+asked_by_name p = if bytes_eq p.0 (codes "check") then Some (check (argument_value (codes "SRC") p.1))
+    else if bytes_eq p.0 (codes "judge") then Some (judge (argument_value (codes "SRC") p.1) (argument_value (codes "DERIV") p.1))
+    else if bytes_eq p.0 (codes "run") then Some (run (argument_value (codes "SRC") p.1) (argument_value (codes "SCHED") p.1))
+    else if bytes_eq p.0 (codes "show") then Some (show (argument_value (codes "SRC") p.1))
+    else if bytes_eq p.0 (codes "make") then Some (make (argument_value (codes "SEED") p.1) (argument_value (codes "SIZE") p.1))
+    else if bytes_eq p.0 (codes "swap") then Some
+        (swap (argument_value (codes "SRC") p.1) (argument_value (codes "SCHED") p.1) (argument_value (codes "PLACE") p.1))
+    else if bytes_eq p.0 (codes "trace") then Some (trace (argument_value (codes "SRC") p.1) (argument_value (codes "SCHED") p.1))
+    else if bytes_eq p.0 (codes "events") then Some (events (argument_value (codes "SRC") p.1) (argument_value (codes "SCHED") p.1))
+    else if bytes_eq p.0 (codes "places") then Some (places (argument_value (codes "SRC") p.1))
+    else if bytes_eq p.0 (codes "explain") then Some (explain (argument_value (codes "SRC") p.1))
+    else if bytes_eq p.0 (codes "sends") then Some (sends (argument_value (codes "SRC") p.1))
+    else if bytes_eq p.0 (codes "upgrade") then Some (upgrade (argument_value (codes "SRC") p.1) (argument_value (codes "DERIV") p.1))
+    else if bytes_eq p.0 (codes "schedule") then Some (schedule_of (argument_value (codes "SRC") p.1) (argument_value (codes "SEED") p.1))
+    else if bytes_eq p.0 (codes "play") then Some (play (argument_value (codes "SRC") p.1) (argument_value (codes "SEED") p.1))
+    else if bytes_eq p.0 (codes "outcomes") then Some (outcomes (argument_value (codes "SRC") p.1) (argument_value (codes "COUNT") p.1))
     else None
 
 -- whether there is a fault among these
@@ -82,4 +83,4 @@ is_refused words = not (takes rcap words) && has_fault (fault_of rcap words)
 
 -- The command that words ask for: that of their subcommand, unless they are refused.
 unfoldable pub command_of : List Text → Option Asked
-command_of words = if is_refused words then None else option_and_then named (subcommand_of rcap words)
+command_of words = if is_refused words then None else option_and_then asked_by_name (subcommand_of rcap words)

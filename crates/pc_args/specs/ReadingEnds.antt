@@ -6,10 +6,10 @@ use Rattle.pc_args.specs.declared.words.Command.{Command}
 use Rattle.pc_args.specs.declared.words.WordsFault.{WordsFault}
 use Rattle.pc_args.specs.declared.words.WordsFault.TheVariants.{Refused, Memory}
 
-abbrev pub StopsAt : List Text → WordsFault → Type 0
-StopsAt words Refused = is_refused words ≡ true
-StopsAt words Memory = Unit {0}
+abbrev pub ReadingStops : List Text → WordsFault → Type 0
+ReadingStops words Refused = is_refused words ≡ true
+ReadingStops words Memory = Unit {0}
 
 -- With the command that they ask for, or because they are refused, or because memory ran out.
 abbrev pub ReadingEnds : List Text → Result Command WordsFault → Type 0
-ReadingEnds words result = MatchResult result (λ command. command_of words ≡ Some (asked_by command)) (StopsAt words)
+ReadingEnds words result = MatchResult result (λ command. command_of words ≡ Some (asked_by command)) (ReadingStops words)

@@ -5,7 +5,7 @@ ghost use Rattle.clap.specs.Matches.{first_value};
 ghost use Rattle.clap.specs.Simple.{new_shape, shape_of};
 ghost use Rattle.clap.specs.Words.{FailsBy, app_of, fault_of, found_of, kind_of, rows_of, rule_of, subcommand_of, subcommand_rows_of, takes, with_subcommand};
 ghost use Rattle.clap.specs.declared.builder.command.Command.TheViews.{out-Command as fields_of};
-ghost use Rattle.pc_args.specs.Asked.{asked_by, named, texts, value};
+ghost use Rattle.pc_args.specs.Asked.{asked_by, asked_by_name, texts, argument_value};
 ghost use Rattle.pc_args.specs.Line as line;
 ghost use Rattle.pc_args.specs.ReadingEnds.{ReadingEnds};
 
@@ -194,7 +194,7 @@ pub fn read_words<'a>(alloc: Global, words: &'a [&'a str]) -> Result<Command<'a>
 
 // The command that matches name.
 fn command_in<'a>(matches: &ArgMatches<'a>) -> Option<Command<'a>>
-    ensures { option_map asked_by result ≡ option_and_then named (subcommand_rows_of matches.now) }
+    ensures { option_map asked_by result ≡ option_and_then asked_by_name (subcommand_rows_of matches.now) }
 {
     let (name, own) = matches.subcommand()?;
     match name {
@@ -260,7 +260,7 @@ fn command_in<'a>(matches: &ArgMatches<'a>) -> Option<Command<'a>>
 
 // The value of an argument, or the empty text.
 fn value_of<'a>(matches: &ArgMatches<'a>, id: &str) -> &'a str
-    ensures { result.now ≡ value id.now (rows_of (found_of matches.now)) }
+    ensures { result.now ≡ argument_value id.now (rows_of (found_of matches.now)) }
 {
     first_text(matches, id)
 }

@@ -4,17 +4,17 @@ use Rattle.std.specs.Prelude.{slice_get}
 use Rattle.std.proofs.lemmas.Option.{same_Some, none-some}
 use Rattle.pc_caps.specs.declared.span.Span.{Span}
 use Rattle.pc_lists.proofs.Gets.{get_push, get_behind}
-use Rattle.pc_tree.specs.declared.names.Name.{Name}
+use Rattle.pc_tree.specs.declared.written_names.Name.{Name}
 use Rattle.pc_tree.specs.Tree as t
 use Rattle.pc_core.specs.declared.nodes.Node.{Node}
 use Rattle.pc_core.specs.declared.nodes.NodeKind.TheVariants as node
 use Rattle.pc_body_spec.specs.Roses.{Rose, Roses, one, put, puts, push, node_of}
 use Rattle.pc_body_spec.specs.Scopes.{Context, params_scope}
-use Rattle.pc_body_spec.specs.Expressions.{sequence, items_of, added_none}
+use Rattle.pc_body_spec.specs.Expressions.{sequence, roses_of_items, added_none}
 use Rattle.pc_body_spec.specs.Bodies.{initial_of, initials_then, initial_fields, gives_none, none_last, body_around, body_with, maybe_body}
 use Rattle.pc_body_spec.specs.Faults.{value_faults, initial_faults, written_body_faults}
 use Rattle.pc_body_spec.specs.Shapes.{AllShaped}
-use Rattle.pc_body_spec.specs.Meanings.{EveryOf, Names}
+use Rattle.pc_body_spec.specs.Meanings.{EveryOf, NamesWhatIsThere}
 use Rattle.pc_body_spec.specs.Laws.{BodyStands, BodiesStand, AddedBodiesStand}
 use Rattle.pc_body_spec.proofs.PostOrders.{Parts, parts, Pushed, pushed, post}
 use Rattle.pc_body_spec.proofs.Shapes as shape
@@ -37,28 +37,30 @@ none_shaped true s rs h = shape.last_ok 0 rs (added_none s 0) h (refl, refl, tt)
 none_shaped false s rs h = h
 
 module _ (c : Context) (some_text : 0 < length c.texts) where
-  initial_fine : (n : Name) (v : Option t.Expr) (rest : Roses) → value_faults c v ≡ [] → EveryOf (Names c) rest → EveryOf (Names c) (initial_of c n v rest)
+  initial_fine : (n : Name) (v : Option t.Expr) (rest : Roses) → value_faults c v ≡ [] → EveryOf (NamesWhatIsThere c) rest → EveryOf (NamesWhatIsThere c) (initial_of c n v rest)
   initial_fine n None rest f h = h
   initial_fine n (Some e) rest f h = ((meaning.text_ok c some_text n.text, (meaning.expr_ok c some_text [] 0 e f, ((tt, tt), tt))), h)
 
-  initials_fine : (fs : List t.Field) (rest : Roses) → initial_faults c fs ≡ [] → EveryOf (Names c) rest → EveryOf (Names c) (initials_then c fs rest)
+  initials_fine : (fs : List t.Field) (rest : Roses) → initial_faults c fs ≡ [] → EveryOf (NamesWhatIsThere c) rest
+      → EveryOf (NamesWhatIsThere c) (initials_then c fs rest)
   initials_fine [] rest f h = h
   initials_fine (x ∷ fs) rest f h = initial_fine x.name x.value (initials_then c fs rest) (left_none (value_faults c x.value) (initial_faults c fs) f) (initials_fine fs rest (right_none (value_faults c x.value) (initial_faults c fs) f) h)
 
-  none_fine : (b : Bool) (s : Span) (rs : Roses) → EveryOf (Names c) rs → EveryOf (Names c) (none_last b s rs)
+  none_fine : (b : Bool) (s : Span) (rs : Roses) → EveryOf (NamesWhatIsThere c) rs → EveryOf (NamesWhatIsThere c) (none_last b s rs)
   none_fine true s rs h = meaning.last_ok c some_text rs (added_none s 0) h (inl refl, tt)
   none_fine false s rs h = h
 
   -- ---- a body around its items
 
-  around : (name s : Span) (items : Roses) (m n : ℕ) (before after : List Node) → AllShaped 0 items → EveryOf (Names c) items → put m (body_around name s items) before ≡ Some (n, after) → BodyStands c m n before after
+  around : (name s : Span) (items : Roses) (m n : ℕ) (before after : List Node) → AllShaped 0 items → EveryOf (NamesWhatIsThere c) items → put m (body_around name s items) before ≡ Some (n, after) → BodyStands c m n before after
   around name s items m n before after shaped fine h =
       let inside : Roses = one (sequence s 0 items) in
       let p : Parts (puts m inside before) (push m node.Body name 0) (n, after) = parts (puts m inside before) (push m node.Body name 0) (n, after) h in
       let q : Pushed m node.Body name 0 p.fst p.mid n after = pushed m node.Body name 0 p.fst p.mid n after p.second in
       let x : Node = node_of m node.Body name 0 p.fst in
       let number = q.number in
-      let kept : NewAre (Names c) before p.mid = all_kept (Names c) m inside p.fst before p.mid (meaning.sequence_ok c some_text s 0 items fine, tt) p.first in
+      let kept : NewAre (NamesWhatIsThere c) before p.mid =
+          all_kept (NamesWhatIsThere c) m inside p.fst before p.mid (meaning.sequence_ok c some_text s 0 items fine, tt) p.first in
       record {
         stands = post m (body_around name s items) n before after h;
         root = x;
@@ -76,10 +78,11 @@ module _ (c : Context) (some_text : 0 < length c.texts) where
   body_stands : (fs : List t.Field) (x : t.Method) (b : t.Seq) (m n : ℕ) (before after : List Node) → initial_faults c (initial_fields x.word fs) ≡ [] → written_body_faults c (params_scope x.params) (Some b) ≡ [] → put m (body_with c fs x b) before ≡ Some (n, after) → BodyStands c m n before after
   body_stands fs x (t.seq is s) m n before after f g h =
       let sc = params_scope x.params in
-      let last = none_last (gives_none x.word x.result) x.name.span (items_of c sc 0 is) in
+      let last = none_last (gives_none x.word x.result) x.name.span (roses_of_items c sc 0 is) in
       around x.name.span s (initials_then c (initial_fields x.word fs) last) m n before after
-      (initials_shaped c (initial_fields x.word fs) last (none_shaped (gives_none x.word x.result) x.name.span (items_of c sc 0 is) (shape.items_ok c sc 0 is)))
-      (initials_fine (initial_fields x.word fs) last f (none_fine (gives_none x.word x.result) x.name.span (items_of c sc 0 is) (meaning.items_ok c some_text sc 0 is g)))
+      (initials_shaped c (initial_fields x.word fs) last
+          (none_shaped (gives_none x.word x.result) x.name.span (roses_of_items c sc 0 is) (shape.items_ok c sc 0 is)))
+      (initials_fine (initial_fields x.word fs) last f (none_fine (gives_none x.word x.result) x.name.span (roses_of_items c sc 0 is) (meaning.items_ok c some_text sc 0 is g)))
       h
 
   maybe_stands : (fs : List t.Field) (x : t.Method) (o : Option t.Seq) (r : Rose) (m n : ℕ) (before after : List Node) → initial_faults c (initial_fields x.word fs) ≡ [] → written_body_faults c (params_scope x.params) o ≡ [] → maybe_body c fs x o ≡ Some r → put m r before ≡ Some (n, after) → BodyStands c m n before after

@@ -3,15 +3,15 @@ use Rattle.std.proofs.Common.{◌≡◌, ℕ, List, [], ◌∷◌, ◌++◌, Opt
 use Rattle.std.specs.Prelude.{◌⊎◌}
 use Rattle.std.proofs.lemmas.Option.{same_Some, none-some}
 use Rattle.pc_caps.specs.declared.span.Span.{Span}
-use Rattle.pc_tree.specs.declared.names.Name.{Name}
+use Rattle.pc_tree.specs.declared.written_names.Name.{Name}
 use Rattle.pc_tree.specs.Tree as t
 use Rattle.pc_core.specs.declared.nodes.NodeKind.{NodeKind}
 use Rattle.pc_core.specs.declared.nodes.NodeKind.TheVariants as node
 use Rattle.pc_body_spec.specs.Roses.{Rose, Roses, rose, one, more, no_roses, and_last}
 use Rattle.pc_body_spec.specs.Scopes.{Context, params_scope}
-use Rattle.pc_body_spec.specs.Expressions.{expr_of, items_of, added_none}
+use Rattle.pc_body_spec.specs.Expressions.{expr_of, roses_of_items, added_none}
 use Rattle.pc_body_spec.specs.Bodies.{initial_of, initials_then, initial_fields, gives_none, none_last, body_with, maybe_body}
-use Rattle.pc_body_spec.specs.Visibility.{Asks, ItemAsks, Scoped, AllScoped, ItemsScoped, slots}
+use Rattle.pc_body_spec.specs.Visibility.{AsksVisible, ItemAsks, Scoped, AllScoped, ItemsScoped, slots}
 use Rattle.pc_lists.specs.Places.{IsIn}
 use Rattle.pc_body_spec.specs.Laws.{BodiesAreScoped, AddedBodiesAreScoped}
 use Rattle.pc_body_spec.proofs.Scopes.{expr_ok, items_ok, sequence_ok}
@@ -40,7 +40,7 @@ sub_push a b y h x i = elim (split a x i) [ inl l ↦ left b x (h x l) | inr r �
     right [] = inl refl
     right (z ∷ zs) = inr (right zs)
 
-asks_more : {all some items others : Type 0} (k : NodeKind) (a b : List ℕ) → Sub a b → (all → some) → (items → others) → Asks k a all items → Asks k b some others
+asks_more : {all some items others : Type 0} (k : NodeKind) (a b : List ℕ) → Sub a b → (all → some) → (items → others) → AsksVisible k a all items → AsksVisible k b some others
 asks_more (node.Number n) a b h f g x = f x
 asks_more (node.Truth n) a b h f g x = f x
 asks_more (node.Text n) a b h f g x = f x
@@ -154,8 +154,8 @@ initials_scoped vis c (f ∷ fs) rest h = initial_scoped vis c f.name f.value (i
 body_scoped : (c : Context) (fs : List t.Field) (x : t.Method) (b : t.Seq) → Scoped (slots (params_scope x.params)) (body_with c fs x b)
 body_scoped c fs x (t.seq is s) =
     let sc = params_scope x.params in
-    let last = none_last (gives_none x.word x.result) x.name.span (items_of c sc 0 is) in
-    (sequence_ok (slots sc) s 0 (initials_then c (initial_fields x.word fs) last) (initials_scoped (slots sc) c (initial_fields x.word fs) last (none_scoped (slots sc) (gives_none x.word x.result) x.name.span (items_of c sc 0 is) (items_ok c sc 0 is))), tt)
+    let last = none_last (gives_none x.word x.result) x.name.span (roses_of_items c sc 0 is) in
+    (sequence_ok (slots sc) s 0 (initials_then c (initial_fields x.word fs) last) (initials_scoped (slots sc) c (initial_fields x.word fs) last (none_scoped (slots sc) (gives_none x.word x.result) x.name.span (roses_of_items c sc 0 is) (items_ok c sc 0 is))), tt)
 
 maybe_scoped : (c : Context) (fs : List t.Field) (x : t.Method) (o : Option t.Seq) (r : Rose) → maybe_body c fs x o ≡ Some r → Scoped (slots (params_scope x.params)) r
 maybe_scoped c fs x None r e = absurd (none-some r e)

@@ -3,12 +3,19 @@ use Rattle.std.proofs.Common.{◌≡◌, ℕ, ◌+◌, List, [], ◌∷◌, ◌+
 use Rattle.pc_caps.specs.declared.span.Span.{Span}
 use Rattle.pc_tree.specs.declared.kinds.Op.{Op}
 use Rattle.pc_tree.specs.declared.kinds.Op.TheVariants as op
-use Rattle.pc_tree.specs.declared.names.Name.{Name}
+use Rattle.pc_tree.specs.declared.written_names.Name.{Name}
 use Rattle.pc_tree.specs.Tree as t
 use Rattle.pc_body_spec.specs.Roses.{Rose, Roses, rose, more, no_roses, and_last, two, three}
-use Rattle.pc_body_spec.specs.Scopes.{Context, Scope, Meaning, local, field, method, nothing, TypeMeaning, primitive, created, no_value, slot_of, resolve, type_meaning, constructor_named, scope_after, deeper}
-use Rattle.pc_body_spec.specs.Expressions.{join, added_this, operation, read_field, call, read_name, consumed, write_name, new_object, create_name, read_type, Start, with_method, with_type, with_value, start_of, start_with_name, apply_name, apply_primitive, apply, call_named, Use, read, write, use_field, use_other, if_of, arm_place, sequence, expr_of, assign_of, infix_of, operands_of, chain_of, named_of, exprs_of, arms_of, arm_of, other_of, whole_of, seq_of, items_of, item_of}
-use Rattle.pc_body_spec.specs.Faults.{unknown, double, unless_some, when, is_taken, name_faults, type_faults, written_faults, Next, arguments, name, end, next_of, start_faults, dot_faults, faults_of, exprs_faults, suffixes_faults, arms_faults, arm_faults, other_faults, seq_faults, items_faults, item_faults}
+use Rattle.pc_body_spec.specs.Scopes.{Context, Scope, Meaning, local, field, method, nothing, TypeMeaning, primitive, created, no_value, slot_named, resolve}
+use Rattle.pc_body_spec.specs.Scopes.{type_meaning, constructor_named, scope_after, deeper}
+use Rattle.pc_body_spec.specs.Expressions.{joined_span, added_this, operation, read_field, call, read_name, consumed, write_name, new_object_rose, create_name}
+use Rattle.pc_body_spec.specs.Expressions.{read_type, Start, with_method, with_type, with_value, chain_start, start_with_name, apply_name, apply_primitive}
+use Rattle.pc_body_spec.specs.Expressions.{apply, call_named, Use, read, write, use_field, use_other, if_of, arm_place, sequence, expr_of, assign_of, infix_of}
+use Rattle.pc_body_spec.specs.Expressions.{operands_of, chain_of, named_of, roses_of_exprs, rose_of_arms, arm_of, other_of, whole_of, seq_of, roses_of_items}
+use Rattle.pc_body_spec.specs.Expressions.{item_of}
+use Rattle.pc_body_spec.specs.Faults.{unknown, double, unless_some, fault_if, is_name_taken, bare_name_faults, type_name_faults, written_faults, Next}
+use Rattle.pc_body_spec.specs.Faults.{arguments, name, end, next_of, start_faults, dot_faults, faults_of, exprs_faults, suffixes_faults, arms_faults}
+use Rattle.pc_body_spec.specs.Faults.{arm_faults, other_faults, seq_faults, items_faults, item_faults}
 use Rattle.pc_body_spec.specs.Slots.{Local, locals_of, exprs_locals, suffixes_locals, arm_locals, arms_locals, other_locals, seq_locals, items_locals, item_locals}
 use Rattle.pc_body_spec.specs.Counts.{times, times_all, local_times}
 use Rattle.pc_body_spec.specs.Laws.{IsDefinedAsOften}
@@ -58,18 +65,19 @@ module _ (c : Context) (z : ℕ → ℕ → Bool) where
   consumed_n s d (Some x) = refl
   consumed_n s d None = refl
 
-  write_name_n : (s : Span) (n : Name) (d : ℕ) (v : Rose) (m : Meaning) → name_faults m n.span ≡ [] → times z (write_name c s n d v m) ≡ times z v
+  write_name_n : (s : Span) (n : Name) (d : ℕ) (v : Rose) (m : Meaning) → bare_name_faults m n.span ≡ []
+      → times z (write_name c s n d v m) ≡ times z v
   write_name_n s n d v (local x) f = omega arith
   write_name_n s n d v field f = omega arith
   write_name_n s n d v method f = absurd (some_fault f)
   write_name_n s n d v nothing f = absurd (some_fault f)
 
-  new_n : (actor : Bool) (s place : Span) (d : ℕ) (args : Roses) (o : Option ℕ) → unless_some o (unknown place) ≡ [] → times z (new_object actor s d args o) ≡ times_all z args
+  new_n : (actor : Bool) (s place : Span) (d : ℕ) (args : Roses) (o : Option ℕ) → unless_some o (unknown place) ≡ [] → times z (new_object_rose actor s d args o) ≡ times_all z args
   new_n true s place d args (Some m) f = omega arith
   new_n false s place d args (Some m) f = omega arith
   new_n actor s place d args None f = absurd (some_fault f)
 
-  new_none : (actor : Bool) (s : Span) (d : ℕ) (o : Option ℕ) → times z (new_object actor s d no_roses o) ≡ 0
+  new_none : (actor : Bool) (s : Span) (d : ℕ) (o : Option ℕ) → times z (new_object_rose actor s d no_roses o) ≡ 0
   new_none true s d (Some m) = refl
   new_none false s d (Some m) = refl
   new_none true s d None = refl
@@ -118,14 +126,14 @@ module _ (c : Context) (z : ℕ → ℕ → Bool) where
   name_begun n d method x = refl
   name_begun n d nothing x = tt
 
-  type_begun : (n : Name) (d : ℕ) (m : TypeMeaning) (x : Next) → start_faults (with_type m) x (type_faults m n.span) ≡ [] → Begun (with_type m) x (read_type n d m)
+  type_begun : (n : Name) (d : ℕ) (m : TypeMeaning) (x : Next) → start_faults (with_type m) x (type_name_faults m n.span) ≡ [] → Begun (with_type m) x (read_type n d m)
   type_begun n d (primitive e) x f = refl
   type_begun n d (created actor cs) arguments f = (new_none actor n.span d (constructor_named cs create_name), (n.span, f))
   type_begun n d (created actor cs) name f = new_none actor n.span d (constructor_named cs create_name)
   type_begun n d (created actor cs) end f = new_none actor n.span d (constructor_named cs create_name)
   type_begun n d no_value x f = refl
 
-  begun : (sc : Scope) (d : ℕ) (e : t.Expr) (x : Next) → start_faults (start_of c sc e) x (faults_of c sc e) ≡ [] → Begun (start_of c sc e) x (expr_of c sc d e)
+  begun : (sc : Scope) (d : ℕ) (e : t.Expr) (x : Next) → start_faults (chain_start c sc e) x (faults_of c sc e) ≡ [] → Begun (chain_start c sc e) x (expr_of c sc d e)
   begun sc d (t.name n) x f = name_begun n d (resolve c sc n.text) x
   begun sc d (t.type_name n) x f = type_begun n d (type_meaning c n.text) x f
   begun sc d (t.number n s) x f = tt
@@ -159,7 +167,7 @@ module _ (c : Context) (z : ℕ → ℕ → Bool) where
   if_n false s d a b r = omega arith
 
   -- The start of a chain has as many definitions as locals, whether or not it is called at once.
-  head_n : (sc : Scope) (d : ℕ) (e : t.Expr) (x : Next) → (faults_of c sc e ≡ [] → times z (expr_of c sc d e) ≡ local_times c z (locals_of d e)) → start_faults (start_of c sc e) x (faults_of c sc e) ≡ [] → times z (expr_of c sc d e) ≡ local_times c z (locals_of d e)
+  head_n : (sc : Scope) (d : ℕ) (e : t.Expr) (x : Next) → (faults_of c sc e ≡ [] → times z (expr_of c sc d e) ≡ local_times c z (locals_of d e)) → start_faults (chain_start c sc e) x (faults_of c sc e) ≡ [] → times z (expr_of c sc d e) ≡ local_times c z (locals_of d e)
   head_n sc d (t.name n) x alone f = read_name_n n d (resolve c sc n.text)
   head_n sc d (t.type_name n) x alone f = read_type_n n d (type_meaning c n.text)
   head_n sc d (t.number n s) x alone f = alone f
@@ -184,13 +192,13 @@ module _ (c : Context) (z : ℕ → ℕ → Bool) where
     expr_n sc d (t.name n) f = read_name_n n d (resolve c sc n.text)
     expr_n sc d (t.type_name n) f = read_type_n n d (type_meaning c n.text)
     expr_n sc d (t.this s) f = refl
-    expr_n sc d (t.consume n s) f = consumed_n s d (slot_of sc n.text)
+    expr_n sc d (t.consume n s) f = consumed_n s d (slot_named sc n.text)
     expr_n sc d (t.not_ e s) f = let h = expr_n sc d e f in omega (arith, h)
     expr_n sc d (t.infix_ o es s) f = infix_n sc d o s es f
     expr_n sc d (t.chain h ss s) f =
-        let own = left_none (start_faults (start_of c sc h) (next_of ss) (faults_of c sc h)) (suffixes_faults c sc (start_of c sc h) ss) f in
-        let rest = right_none (start_faults (start_of c sc h) (next_of ss) (faults_of c sc h)) (suffixes_faults c sc (start_of c sc h) ss) f in
-        let whole = chain_n sc d s read (start_of c sc h) (expr_of c sc d h) ss (begun sc d h (next_of ss) own) rest in
+        let own = left_none (start_faults (chain_start c sc h) (next_of ss) (faults_of c sc h)) (suffixes_faults c sc (chain_start c sc h) ss) f in
+        let rest = right_none (start_faults (chain_start c sc h) (next_of ss) (faults_of c sc h)) (suffixes_faults c sc (chain_start c sc h) ss) f in
+        let whole = chain_n sc d s read (chain_start c sc h) (expr_of c sc d h) ss (begun sc d h (next_of ss) own) rest in
         let first = head_n sc d h (next_of ss) (λ g. expr_n sc d h g) own in
         let sum = join_n (locals_of d h) (suffixes_locals d ss) in
         omega (arith, whole, first, sum)
@@ -216,9 +224,9 @@ module _ (c : Context) (z : ℕ → ℕ → Bool) where
     assign_n : (sc : Scope) (d : ℕ) (s : Span) (v left : Rose) (l : t.Expr) → faults_of c sc l ≡ [] → times z left ≡ local_times c z (locals_of d l) → times z (assign_of c sc d s v left l) ≡ times z v + local_times c z (locals_of d l)
     assign_n sc d s v left (t.name n) f a = let h = write_name_n s n d v (resolve c sc n.text) f in omega (arith, h)
     assign_n sc d s v left (t.chain h ss whole) f a =
-        let own = left_none (start_faults (start_of c sc h) (next_of ss) (faults_of c sc h)) (suffixes_faults c sc (start_of c sc h) ss) f in
-        let rest = right_none (start_faults (start_of c sc h) (next_of ss) (faults_of c sc h)) (suffixes_faults c sc (start_of c sc h) ss) f in
-        let all = chain_n sc d whole (write s v) (start_of c sc h) (expr_of c sc d h) ss (begun sc d h (next_of ss) own) rest in
+        let own = left_none (start_faults (chain_start c sc h) (next_of ss) (faults_of c sc h)) (suffixes_faults c sc (chain_start c sc h) ss) f in
+        let rest = right_none (start_faults (chain_start c sc h) (next_of ss) (faults_of c sc h)) (suffixes_faults c sc (chain_start c sc h) ss) f in
+        let all = chain_n sc d whole (write s v) (chain_start c sc h) (expr_of c sc d h) ss (begun sc d h (next_of ss) own) rest in
         let first = head_n sc d h (next_of ss) (λ g. expr_n sc d h g) own in
         let sum = join_n (locals_of d h) (suffixes_locals d ss) in
         omega (arith, all, first, sum)
@@ -248,8 +256,8 @@ module _ (c : Context) (z : ℕ → ℕ → Bool) where
     operands_n sc d o s left t.no_exprs f = omega arith
     operands_n sc d o s left (t.expr e es) f =
         let here = expr_n sc d e (left_none (faults_of c sc e) (exprs_faults c sc es) f) in
-        let both = operation_n o (join s (t.span_of e)) d left (expr_of c sc d e) in
-        let whole = operands_n sc d o s (rose (operation o) (join s (t.span_of e)) d (two left (expr_of c sc d e))) es (right_none (faults_of c sc e) (exprs_faults c sc es) f) in
+        let both = operation_n o (joined_span s (t.span_of e)) d left (expr_of c sc d e) in
+        let whole = operands_n sc d o s (rose (operation o) (joined_span s (t.span_of e)) d (two left (expr_of c sc d e))) es (right_none (faults_of c sc e) (exprs_faults c sc es) f) in
         let sum = join_n (locals_of d e) (exprs_locals d es) in
         omega (arith, here, both, whole, sum)
 
@@ -258,24 +266,25 @@ module _ (c : Context) (z : ℕ → ℕ → Bool) where
     chain_n sc d s u st r (t.suffix (t.dot n) ss) b f = named_n sc d s u st r n ss b (left_none (dot_faults st n (next_of ss)) (suffixes_faults c sc with_value ss) f) (right_none (dot_faults st n (next_of ss)) (suffixes_faults c sc with_value ss) f)
     chain_n sc d s u st r (t.suffix (t.args es sp) ss) b f =
         let args = exprs_n sc d es (left_none (exprs_faults c sc es) (suffixes_faults c sc with_value ss) f) in
-        let here = apply_n st (join s sp) d (exprs_of c sc d es) r b in
-        let whole = chain_n sc d s u with_value (apply c st (join s sp) d (exprs_of c sc d es) r) ss tt (right_none (exprs_faults c sc es) (suffixes_faults c sc with_value ss) f) in
+        let here = apply_n st (joined_span s sp) d (roses_of_exprs c sc d es) r b in
+        let whole = chain_n sc d s u with_value (apply c st (joined_span s sp) d (roses_of_exprs c sc d es) r) ss tt (right_none (exprs_faults c sc es) (suffixes_faults c sc with_value ss) f) in
         let sum = join_n (exprs_locals d es) (suffixes_locals d ss) in
         omega (arith, args, here, whole, sum)
 
     named_n : (sc : Scope) (d : ℕ) (s : Span) (u : Use) (st : Start) (r : Rose) (n : Name) (ss : t.Suffixes) → Begun st name r → dot_faults st n (next_of ss) ≡ [] → suffixes_faults c sc with_value ss ≡ [] → times z (named_of c sc d s u st r n ss) ≡ use_times u + times z r + local_times c z (suffixes_locals d ss)
-    named_n sc d s u st r n t.no_suffixes b g f = let h = use_n u (join s n.span) n d r in omega (arith, h)
+    named_n sc d s u st r n t.no_suffixes b g f = let h = use_n u (joined_span s n.span) n d r in omega (arith, h)
     named_n sc d s u st r n (t.suffix (t.dot m) ss) b g f =
-        let whole = named_n sc d s u with_value (read_field c (join s n.span) n d r) m ss tt (left_none (dot_faults with_value m (next_of ss)) (suffixes_faults c sc with_value ss) f) (right_none (dot_faults with_value m (next_of ss)) (suffixes_faults c sc with_value ss) f) in
+        let whole = named_n sc d s u with_value (read_field c (joined_span s n.span) n d r) m ss tt (left_none (dot_faults with_value m (next_of ss)) (suffixes_faults c sc with_value ss) f) (right_none (dot_faults with_value m (next_of ss)) (suffixes_faults c sc with_value ss) f) in
         omega (arith, whole)
     named_n sc d s u st r n (t.suffix (t.args es sp) ss) b g f =
         let args = exprs_n sc d es (left_none (exprs_faults c sc es) (suffixes_faults c sc with_value ss) f) in
-        let here = call_named_n st (join s sp) n d (exprs_of c sc d es) r b g in
-        let whole = chain_n sc d s u with_value (call_named c st (join s sp) n d (exprs_of c sc d es) r) ss tt (right_none (exprs_faults c sc es) (suffixes_faults c sc with_value ss) f) in
+        let here = call_named_n st (joined_span s sp) n d (roses_of_exprs c sc d es) r b g in
+        let whole = chain_n sc d s u with_value (call_named c st (joined_span s sp) n d (roses_of_exprs c sc d es) r) ss tt (right_none (exprs_faults c sc es) (suffixes_faults c sc with_value ss) f) in
         let sum = join_n (exprs_locals d es) (suffixes_locals d ss) in
         omega (arith, args, here, whole, sum)
 
-    exprs_n : (sc : Scope) (d : ℕ) (es : t.Exprs) → exprs_faults c sc es ≡ [] → times_all z (exprs_of c sc d es) ≡ local_times c z (exprs_locals d es)
+    exprs_n : (sc : Scope) (d : ℕ) (es : t.Exprs) → exprs_faults c sc es ≡ []
+        → times_all z (roses_of_exprs c sc d es) ≡ local_times c z (exprs_locals d es)
     exprs_n sc d t.no_exprs f = refl
     exprs_n sc d (t.expr e es) f =
         let first = expr_n sc d e (left_none (faults_of c sc e) (exprs_faults c sc es) f) in
@@ -283,10 +292,10 @@ module _ (c : Context) (z : ℕ → ℕ → Bool) where
         let sum = join_n (locals_of d e) (exprs_locals d es) in
         omega (arith, first, rest, sum)
 
-    arms_n : (sc : Scope) (d : ℕ) (s : Span) (first : Bool) (as' : t.Arms) (last : Rose) → arms_faults c sc as' ≡ [] → times z (arms_of c sc d s first as' last) ≡ local_times c z (arms_locals d as') + times z last
+    arms_n : (sc : Scope) (d : ℕ) (s : Span) (first : Bool) (as' : t.Arms) (last : Rose) → arms_faults c sc as' ≡ [] → times z (rose_of_arms c sc d s first as' last) ≡ local_times c z (arms_locals d as') + times z last
     arms_n sc d s first t.no_arms last f = omega arith
     arms_n sc d s first (t.arm a as') last f =
-        let here = arm_n sc d s first a (arms_of c sc d s false as' last) (left_none (arm_faults c sc a) (arms_faults c sc as') f) in
+        let here = arm_n sc d s first a (rose_of_arms c sc d s false as' last) (left_none (arm_faults c sc a) (arms_faults c sc as') f) in
         let rest = arms_n sc d s false as' last (right_none (arm_faults c sc a) (arms_faults c sc as') f) in
         let sum = join_n (arm_locals d a) (arms_locals d as') in
         omega (arith, here, rest, sum)
@@ -304,12 +313,12 @@ module _ (c : Context) (z : ℕ → ℕ → Bool) where
     other_n sc d s (t.other b) f = whole_n sc d b f
 
     whole_n : (sc : Scope) (d : ℕ) (b : t.Seq) → seq_faults c sc b ≡ [] → times z (whole_of c sc d b) ≡ local_times c z (seq_locals d b)
-    whole_n sc d (t.seq is s) f = sequence_n s d (items_of c sc d is) ∙ items_n sc d is f
+    whole_n sc d (t.seq is s) f = sequence_n s d (roses_of_items c sc d is) ∙ items_n sc d is f
 
     seq_n : (sc : Scope) (d : ℕ) (s : Span) (b : t.Seq) → seq_faults c sc b ≡ [] → times z (seq_of c sc d s b) ≡ local_times c z (seq_locals d b)
-    seq_n sc d s (t.seq is sp) f = sequence_n s d (items_of c sc d is) ∙ items_n sc d is f
+    seq_n sc d s (t.seq is sp) f = sequence_n s d (roses_of_items c sc d is) ∙ items_n sc d is f
 
-    pub items_n : (sc : Scope) (d : ℕ) (is : t.Items) → items_faults c sc is ≡ [] → times_all z (items_of c sc d is) ≡ local_times c z (items_locals d is)
+    pub items_n : (sc : Scope) (d : ℕ) (is : t.Items) → items_faults c sc is ≡ [] → times_all z (roses_of_items c sc d is) ≡ local_times c z (items_locals d is)
     items_n sc d t.no_items f = refl
     items_n sc d (t.item i is) f =
         let first = item_n sc d i (left_none (item_faults c sc i) (items_faults c (scope_after c sc i) is) f) in
@@ -318,7 +327,7 @@ module _ (c : Context) (z : ℕ → ℕ → Bool) where
         omega (arith, first, rest, sum)
 
     item_n : (sc : Scope) (d : ℕ) (i : t.Item) → item_faults c sc i ≡ [] → times z (item_of c sc d i) ≡ local_times c z (item_locals d i)
-    item_n sc d (t.local fixed n ty e s) f = let h = expr_n sc d e (right_none (when (is_taken (resolve c sc n.text)) (double n.span) ++ written_faults c ty) (faults_of c sc e) f) in omega (arith, h)
+    item_n sc d (t.local fixed n ty e s) f = let h = expr_n sc d e (right_none (fault_if (is_name_taken (resolve c sc n.text)) (double n.span) ++ written_faults c ty) (faults_of c sc e) f) in omega (arith, h)
     item_n sc d (t.plain e) f = expr_n sc d e f
 
 pub defined_as_often : IsDefinedAsOften

@@ -9,9 +9,9 @@ use Rattle.pc_core.specs.declared.nodes.Node.{Node}
 use Rattle.pc_core.specs.declared.nodes.NodeKind.{NodeKind}
 use Rattle.pc_core.specs.declared.nodes.NodeKind.TheVariants as node
 use Rattle.pc_lists.specs.Places.{Has, IsIn}
-use Rattle.pc_core.specs.Methods.{Uses}
+use Rattle.pc_core.specs.Methods.{UsesSlot}
 use Rattle.pc_body_spec.specs.Roses.{Rose, Roses, rose, more, no_roses, and_then, put, puts, push, node_of}
-use Rattle.pc_body_spec.specs.Visibility.{Asks, ItemAsks, Scoped, AllScoped, ItemsScoped}
+use Rattle.pc_body_spec.specs.Visibility.{AsksVisible, ItemAsks, Scoped, AllScoped, ItemsScoped}
 use Rattle.pc_body_spec.specs.Laws.{IsItem, IsDefined, LocalsAreDefined}
 use Rattle.pc_body_spec.proofs.PostOrders.{Parts, parts, Pushed, pushed, AllStand, posts}
 use Rattle.pc_body_spec.proofs.Nodes.{beyond}
@@ -24,11 +24,11 @@ IsDefine k = ⊥
 
 -- Its own slot is visible; it is not a definition; and its children are those of a sequence, or define nothing.
 record Asked (k : NodeKind) (vis : List ℕ) (all items : Type 0) : Type 0 where
-  uses : (s : ℕ) → Uses s k → IsIn s vis
+  uses : (s : ℕ) → UsesSlot s k → IsIn s vis
   other : (s : ℕ) → k ≡ node.Define s → ⊥
   inside : all ⊎ ((k ≡ node.Seq) × items)
 
-asked : (k : NodeKind) (vis : List ℕ) (all items : Type 0) → Asks k vis all items → Asked k vis all items
+asked : (k : NodeKind) (vis : List ℕ) (all items : Type 0) → AsksVisible k vis all items → Asked k vis all items
 asked (node.Number n) vis all items h = record { uses = λ s u. absurd u; other = λ s e. subst IsDefine (sym e) tt; inside = inl h }
 asked (node.Truth n) vis all items h = record { uses = λ s u. absurd u; other = λ s e. subst IsDefine (sym e) tt; inside = inl h }
 asked (node.Text n) vis all items h = record { uses = λ s u. absurd u; other = λ s e. subst IsDefine (sym e) tt; inside = inl h }
@@ -97,7 +97,7 @@ record IsEarly (ns : List Node) (ks : List ℕ) (i s : ℕ) : Type 0 where
 
 -- What is known while the sequence around it, with these items, has not come yet.
 record Good (vis : List ℕ) (ns : List Node) (ks : List ℕ) (i : ℕ) (x : Node) : Type 0 where
-  uses : (s : ℕ) → Uses s x.kind → IsIn s vis ⊎ (IsDefined ns i s ⊎ IsEarly ns ks i s)
+  uses : (s : ℕ) → UsesSlot s x.kind → IsIn s vis ⊎ (IsDefined ns i s ⊎ IsEarly ns ks i s)
   item : (s : ℕ) → x.kind ≡ node.Define s → IsItem ns i ⊎ Has ks i
 
 defined_front : (ns own : List Node) (i s : ℕ) → IsDefined ns i s → IsDefined (ns ++ own) i s
@@ -159,7 +159,7 @@ both vis ks js before mid own sub a b i x from e =
     ]
 
 -- The node around parts other than items.
-close : (vis : List ℕ) (before mid : List Node) (y : Node) → ((s : ℕ) → Uses s y.kind → IsIn s vis) → ((s : ℕ) → y.kind ≡ node.Define s → ⊥) → New vis [] before mid → New vis [] before (mid ++ y ∷ [])
+close : (vis : List ℕ) (before mid : List Node) (y : Node) → ((s : ℕ) → UsesSlot s y.kind → IsIn s vis) → ((s : ℕ) → y.kind ≡ node.Define s → ⊥) → New vis [] before mid → New vis [] before (mid ++ y ∷ [])
 close vis before mid y own other a i x from e =
     elim (get_push mid y i x e) [
       | inl old ↦ good_more vis mid (y ∷ []) [] [] i x (same_items []) (a i x from old)
@@ -167,7 +167,7 @@ close vis before mid y own other a i x from e =
     ]
 
 -- The sequence around its items.
-close_items : (vis : List ℕ) (before mid : List Node) (y : Node) → y.kind ≡ node.Seq → ((s : ℕ) → Uses s y.kind → IsIn s vis) → ((s : ℕ) → y.kind ≡ node.Define s → ⊥) → New vis y.children before mid → New vis [] before (mid ++ y ∷ [])
+close_items : (vis : List ℕ) (before mid : List Node) (y : Node) → y.kind ≡ node.Seq → ((s : ℕ) → UsesSlot s y.kind → IsIn s vis) → ((s : ℕ) → y.kind ≡ node.Define s → ⊥) → New vis y.children before mid → New vis [] before (mid ++ y ∷ [])
 close_items vis before mid y is own other a i x from e =
     elim (get_push mid y i x e) [
       | inl old ↦ old_good old (good_more vis mid (y ∷ []) y.children y.children i x (same_items y.children) (a i x from old))
@@ -196,7 +196,7 @@ close_define : (vis ks : List ℕ) (s : ℕ) (before mid : List Node) (y : Node)
 close_define vis ks s before mid y is a i x from e =
     elim (get_push mid y i x e) [
       | inl old ↦ good_more vis mid (y ∷ []) [] (length mid ∷ ks) i x (no_items (length mid ∷ ks)) (a i x from old)
-      | inr new ↦ subst (Good vis (mid ++ y ∷ []) (length mid ∷ ks) i) new.1 (record { uses = λ z u. absurd (subst (Uses z) is u); item = λ z d. inr (0, ap Some (sym new.0)) })
+      | inr new ↦ subst (Good vis (mid ++ y ∷ []) (length mid ∷ ks) i) new.1 (record { uses = λ z u. absurd (subst (UsesSlot z) is u); item = λ z d. inr (0, ap Some (sym new.0)) })
     ]
 
 split : (xs : List ℕ) (y x : ℕ) → IsIn x (xs ++ y ∷ []) → IsIn x xs ⊎ (y ≡ x)
@@ -266,7 +266,7 @@ mutual
       let ends : length p.mid ≡ length c.mid + 1 = ap length o.nodes ∙ length-append c.mid (y ∷ []) in
       let number = o.number in
       let below : p.fst < length p.mid = omega (arith, ends, number) in
-      let news : New vis js before q.mid = elim (item_is k vis (AllScoped vis cs) (Asks k vis (AllScoped vis cs) (ItemsScoped vis cs)) (λ v. ItemsScoped v rs) h) [
+      let news : New vis js before q.mid = elim (item_is k vis (AllScoped vis cs) (AsksVisible k vis (AllScoped vis cs) (ItemsScoped vis cs)) (λ v. ItemsScoped v rs) h) [
         | inl f ↦
             let inside : New vis [] before c.mid = all_good m cs c.fst before c.mid vis f.2 c.first in
             let closed : New vis (length c.mid ∷ q.fst) before p.mid = subst (New vis (length c.mid ∷ q.fst) before) (sym o.nodes) (close_define vis q.fst f.0 before c.mid y f.1 inside) in

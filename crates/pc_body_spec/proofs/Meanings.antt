@@ -8,31 +8,39 @@ use Rattle.std.proofs.lemmas.Option.{same_Some, none-some}
 use Rattle.pc_caps.specs.declared.span.Span.{Span}
 use Rattle.pc_tree.specs.declared.kinds.Op.{Op}
 use Rattle.pc_tree.specs.declared.kinds.Op.TheVariants as op
-use Rattle.pc_tree.specs.declared.names.Name.{Name}
+use Rattle.pc_tree.specs.declared.written_names.Name.{Name}
 use Rattle.pc_tree.specs.declared.kinds.EntityKind.{EntityKind}
 use Rattle.pc_tree.specs.declared.kinds.EntityKind.TheVariants as kind
 use Rattle.pc_tree.specs.Tree as t
 use Rattle.pc_tree.specs.BuiltIn.{first_own}
 use Rattle.pc_body_spec.specs.Roses.{Rose, Roses, rose, more, no_roses, and_last, two, three}
-use Rattle.pc_body_spec.specs.Scopes.{Context, Scope, Constructor, Known, text_from, type_from, is_own, by_kind, Meaning, local, field, method, nothing, TypeMeaning, primitive, created, no_value, slot_of, text_of, resolve, type_meaning, constructor_named, scope_after, deeper}
-use Rattle.pc_body_spec.specs.Expressions.{value_then, use_other, join, added_this, operation, read_field, call, read_name, consumed, write_name, new_object, create_name, read_type, Start, with_method, with_type, with_value, start_of, start_with_name, apply_name, apply_primitive, apply, call_named, Use, read, write, use_field, if_of, arm_place, sequence, expr_of, assign_of, infix_of, operands_of, chain_of, named_of, exprs_of, arms_of, arm_of, other_of, whole_of, seq_of, items_of, item_of}
+use Rattle.pc_body_spec.specs.Scopes.{Context, Scope, Constructor, KnownEntity, text_from, type_from, is_own, by_kind, Meaning, local, field, method, nothing}
+use Rattle.pc_body_spec.specs.Scopes.{TypeMeaning, primitive, created, no_value, slot_named, number_of_text, resolve, type_meaning, constructor_named}
+use Rattle.pc_body_spec.specs.Scopes.{scope_after, deeper}
+use Rattle.pc_body_spec.specs.Expressions.{value_then, use_other, joined_span, added_this, operation, read_field, call, read_name, consumed, write_name}
+use Rattle.pc_body_spec.specs.Expressions.{new_object_rose, create_name, read_type, Start, with_method, with_type, with_value, chain_start, start_with_name}
+use Rattle.pc_body_spec.specs.Expressions.{apply_name, apply_primitive, apply, call_named, Use, read, write, use_field, if_of, arm_place, sequence, expr_of}
+use Rattle.pc_body_spec.specs.Expressions.{assign_of, infix_of, operands_of, chain_of, named_of, roses_of_exprs, rose_of_arms, arm_of, other_of, whole_of}
+use Rattle.pc_body_spec.specs.Expressions.{seq_of, roses_of_items, item_of}
 use Rattle.pc_lists.specs.Places.{Has}
-use Rattle.pc_body_spec.specs.Faults.{Fault, unknown, double, unless_some, when, is_taken, name_faults, type_faults, written_faults, Next, arguments, name, end, next_of, start_faults, dot_faults, faults_of, exprs_faults, suffixes_faults, arms_faults, arm_faults, other_faults, seq_faults, items_faults, item_faults}
-use Rattle.pc_body_spec.specs.Meanings.{Every, EveryOf, IsOfKind, IsConstructor, Names}
+use Rattle.pc_body_spec.specs.Faults.{BodyNameFault, unknown, double, unless_some, fault_if, is_name_taken, bare_name_faults, type_name_faults, written_faults}
+use Rattle.pc_body_spec.specs.Faults.{Next, arguments, name, end, next_of, start_faults, dot_faults, faults_of, exprs_faults, suffixes_faults, arms_faults}
+use Rattle.pc_body_spec.specs.Faults.{arm_faults, other_faults, seq_faults, items_faults, item_faults}
+use Rattle.pc_body_spec.specs.Meanings.{Every, EveryOf, IsOfKind, IsConstructor, NamesWhatIsThere}
 use Rattle.pc_body_spec.specs.Laws.{NothingIsMissing}
 
-abbrev IsSome : List Fault → Type 0
+abbrev IsSome : List BodyNameFault → Type 0
 IsSome [] = ⊥
 IsSome (x ∷ xs) = Unit {0}
 
-pub some_fault : {x : Fault} {xs : List Fault} → x ∷ xs ≡ [] → ⊥
+pub some_fault : {x : BodyNameFault} {xs : List BodyNameFault} → x ∷ xs ≡ [] → ⊥
 some_fault h = subst IsSome h tt
 
-pub left_none : (xs ys : List Fault) → xs ++ ys ≡ [] → xs ≡ []
+pub left_none : (xs ys : List BodyNameFault) → xs ++ ys ≡ [] → xs ≡ []
 left_none [] ys h = refl
 left_none (x ∷ xs) ys h = absurd (some_fault h)
 
-pub right_none : (xs ys : List Fault) → xs ++ ys ≡ [] → ys ≡ []
+pub right_none : (xs ys : List BodyNameFault) → xs ++ ys ≡ [] → ys ≡ []
 right_none [] ys h = h
 right_none (x ∷ xs) ys h = absurd (some_fault h)
 
@@ -54,7 +62,7 @@ creator false = kind.Class
 
 abbrev TypeKnown : Context → TypeMeaning → Type 0
 TypeKnown c (primitive e) = (e ≡ 0) ⊎ ((6 ≤ e) × IsOfKind c kind.Primitive e)
-TypeKnown c (created actor cs) = (e : ℕ) × (x : Known) × (slice_get c.entities e ≡ Some x) × (x.kind ≡ creator actor) × (x.constructors ≡ cs)
+TypeKnown c (created actor cs) = (e : ℕ) × (x : KnownEntity) × (slice_get c.entities e ≡ Some x) × (x.kind ≡ creator actor) × (x.constructors ≡ cs)
 TypeKnown c no_value = Unit {0}
 
 own_number : (e : ℕ) → is_own e ≡ true → (e ≡ 0) ⊎ (6 ≤ e)
@@ -64,18 +72,18 @@ own_number e h = by (nat_eq e 0) refl h
     by true z k = inl (eqb-true e 0 z)
     by false z k = inr (leb-true first_own e k)
 
-kind_known : (c : Context) (e : ℕ) (x : Known) (k : EntityKind) → slice_get c.entities e ≡ Some x → x.kind ≡ k → (e ≡ 0) ⊎ (6 ≤ e) → TypeKnown c (by_kind k e x.constructors)
+kind_known : (c : Context) (e : ℕ) (x : KnownEntity) (k : EntityKind) → slice_get c.entities e ≡ Some x → x.kind ≡ k → (e ≡ 0) ⊎ (6 ≤ e) → TypeKnown c (by_kind k e x.constructors)
 kind_known c e x kind.Class g h o = (e, x, g, h, refl)
 kind_known c e x kind.Actor g h o = (e, x, g, h, refl)
 kind_known c e x kind.Primitive g h o = elim o [ inl z ↦ inl z | inr l ↦ inr (l, (x, g, h)) ]
 kind_known c e x kind.Trait g h o = tt
 kind_known c e x kind.Interface g h o = tt
 
-types_known : (c : Context) (at : ℕ) (xs : List Known) (n : List ℕ) → ((i : ℕ) (x : Known) → slice_get xs i ≡ Some x → slice_get c.entities (at + i) ≡ Some x) → TypeKnown c (type_from at xs n)
+types_known : (c : Context) (at : ℕ) (xs : List KnownEntity) (n : List ℕ) → ((i : ℕ) (x : KnownEntity) → slice_get xs i ≡ Some x → slice_get c.entities (at + i) ≡ Some x) → TypeKnown c (type_from at xs n)
 types_known c at [] n h = tt
 types_known c at (x ∷ xs) n h = by (bytes_eq x.name n) (types_known c (suc at) xs n later)
   where
-    later : (i : ℕ) (y : Known) → slice_get xs i ≡ Some y → slice_get c.entities (suc at + i) ≡ Some y
+    later : (i : ℕ) (y : KnownEntity) → slice_get xs i ≡ Some y → slice_get c.entities (suc at + i) ≡ Some y
     later i y e = let s : suc at + i ≡ at + suc i = omega arith in ap (slice_get c.entities) s ∙ h (suc i) y e
 
     here : slice_get c.entities at ≡ Some x
@@ -102,12 +110,12 @@ named_constructor (x ∷ xs) n m h = by (bytes_eq x.name n) (named_constructor x
 
 module _ (c : Context) (some_text : 0 < length c.texts) where
   abbrev Fine : Rose → Type 0
-  Fine = Every (Names c)
+  Fine = Every (NamesWhatIsThere c)
 
   abbrev AllFine : Roses → Type 0
-  AllFine = EveryOf (Names c)
+  AllFine = EveryOf (NamesWhatIsThere c)
 
-  pub text_ok : (n : List ℕ) → text_of c n < length c.texts
+  pub text_ok : (n : List ℕ) → number_of_text c n < length c.texts
   text_ok n = text_below 0 c.texts n (length c.texts) (omega arith) some_text
 
   pub last_ok : (rs : Roses) (r : Rose) → AllFine rs → Fine r → AllFine (and_last rs r)
@@ -139,7 +147,7 @@ module _ (c : Context) (some_text : 0 < length c.texts) where
   operation_ok op.Is s d a b h g = (tt, (h, (g, tt)))
   operation_ok op.Isnt s d a b h g = (tt, (h, (g, tt)))
 
-  read_name_ok : (n : Name) (d : ℕ) (m : Meaning) → name_faults m n.span ≡ [] → Fine (read_name c n d m)
+  read_name_ok : (n : Name) (d : ℕ) (m : Meaning) → bare_name_faults m n.span ≡ [] → Fine (read_name c n d m)
   read_name_ok n d (local x) h = (tt, tt)
   read_name_ok n d field h = (text_ok n.text, ((tt, tt), tt))
   read_name_ok n d method h = absurd (some_fault h)
@@ -149,25 +157,25 @@ module _ (c : Context) (some_text : 0 < length c.texts) where
   consumed_ok s place d (Some x) h = (tt, tt)
   consumed_ok s place d None h = absurd (some_fault h)
 
-  write_name_ok : (s : Span) (n : Name) (d : ℕ) (v : Rose) (m : Meaning) → name_faults m n.span ≡ [] → Fine v → Fine (write_name c s n d v m)
+  write_name_ok : (s : Span) (n : Name) (d : ℕ) (v : Rose) (m : Meaning) → bare_name_faults m n.span ≡ [] → Fine v → Fine (write_name c s n d v m)
   write_name_ok s n d v (local x) h g = (tt, (g, tt))
   write_name_ok s n d v field h g = (text_ok n.text, (g, ((tt, tt), tt)))
   write_name_ok s n d v method h g = absurd (some_fault h)
   write_name_ok s n d v nothing h g = absurd (some_fault h)
 
-  new_ok : (actor : Bool) (cs : List Constructor) (n : List ℕ) (place s : Span) (d : ℕ) (args : Roses) → TypeKnown c (created actor cs) → unless_some (constructor_named cs n) (unknown place) ≡ [] → AllFine args → Fine (new_object actor s d args (constructor_named cs n))
+  new_ok : (actor : Bool) (cs : List Constructor) (n : List ℕ) (place s : Span) (d : ℕ) (args : Roses) → TypeKnown c (created actor cs) → unless_some (constructor_named cs n) (unknown place) ≡ [] → AllFine args → Fine (new_object_rose actor s d args (constructor_named cs n))
   new_ok actor cs n place s d args k h g = by actor (constructor_named cs n) k refl h
     where
       there : (a : Bool) (m : ℕ) → TypeKnown c (created a cs) → constructor_named cs n ≡ Some m → IsConstructor c (creator a) m
       there a m t e = (t.0, t.1, t.2, t.3, subst (λ (xs : List Constructor). (y : Constructor) × Has xs y × (y.method ≡ m)) (sym t.4) (named_constructor cs n m e))
 
-      by : (a : Bool) (o : Option ℕ) → TypeKnown c (created a cs) → constructor_named cs n ≡ o → unless_some o (unknown place) ≡ [] → Fine (new_object a s d args o)
+      by : (a : Bool) (o : Option ℕ) → TypeKnown c (created a cs) → constructor_named cs n ≡ o → unless_some o (unknown place) ≡ [] → Fine (new_object_rose a s d args o)
       by true (Some m) t e z = (there true m t e, g)
       by false (Some m) t e z = (there false m t e, g)
       by true None t e z = absurd (some_fault z)
       by false None t e z = absurd (some_fault z)
 
-  read_type_ok : (n : Name) (d : ℕ) (m : TypeMeaning) → TypeKnown c m → type_faults m n.span ≡ [] → Fine (read_type n d m)
+  read_type_ok : (n : Name) (d : ℕ) (m : TypeMeaning) → TypeKnown c m → type_name_faults m n.span ≡ [] → Fine (read_type n d m)
   read_type_ok n d (primitive e) k h = (k, tt)
   read_type_ok n d (created actor cs) k h = new_ok actor cs create_name n.span n.span d no_roses k h tt
   read_type_ok n d no_value k h = absurd (some_fault h)
@@ -227,7 +235,7 @@ module _ (c : Context) (some_text : 0 < length c.texts) where
   field_next_ok (with_type no_value) n r b f = b
   field_next_ok with_value n r b f = b
 
-  name_begun : (n : Name) (d : ℕ) (m : Meaning) (x : Next) → start_faults (start_with_name n m) x (name_faults m n.span) ≡ [] → Begun (start_with_name n m) x (read_name c n d m)
+  name_begun : (n : Name) (d : ℕ) (m : Meaning) (x : Next) → start_faults (start_with_name n m) x (bare_name_faults m n.span) ≡ [] → Begun (start_with_name n m) x (read_name c n d m)
   name_begun n d (local y) x h = (tt, tt)
   name_begun n d field x h = (text_ok n.text, ((tt, tt), tt))
   name_begun n d method arguments h = tt
@@ -235,7 +243,7 @@ module _ (c : Context) (some_text : 0 < length c.texts) where
   name_begun n d method end h = absurd (some_fault h)
   name_begun n d nothing x h = absurd (some_fault h)
 
-  type_begun : (n : Name) (d : ℕ) (m : TypeMeaning) (x : Next) → TypeKnown c m → start_faults (with_type m) x (type_faults m n.span) ≡ [] → Begun (with_type m) x (read_type n d m)
+  type_begun : (n : Name) (d : ℕ) (m : TypeMeaning) (x : Next) → TypeKnown c m → start_faults (with_type m) x (type_name_faults m n.span) ≡ [] → Begun (with_type m) x (read_type n d m)
   type_begun n d (primitive e) x k h = (k, tt)
   type_begun n d (created actor cs) arguments k h = (n.span, h)
   type_begun n d (created actor cs) name k h = tt
@@ -248,7 +256,7 @@ module _ (c : Context) (some_text : 0 < length c.texts) where
   name_known n method = tt
   name_known n nothing = tt
 
-  start_known : (sc : Scope) (e : t.Expr) → StartKnown (start_of c sc e)
+  start_known : (sc : Scope) (e : t.Expr) → StartKnown (chain_start c sc e)
   start_known sc (t.name n) = name_known n (resolve c sc n.text)
   start_known sc (t.type_name n) = type_known c n.text
   start_known sc (t.number n s) = tt
@@ -285,7 +293,7 @@ module _ (c : Context) (some_text : 0 < length c.texts) where
   if_ok true s d a b r h g k = (tt, (h, (g, (k, tt))))
   if_ok false s d a b r h g k = (tt, ((tt, (h, (g, (k, tt)))), tt))
 
-  begun_ok : (sc : Scope) (d : ℕ) (e : t.Expr) (x : Next) → (faults_of c sc e ≡ [] → Fine (expr_of c sc d e)) → start_faults (start_of c sc e) x (faults_of c sc e) ≡ [] → Begun (start_of c sc e) x (expr_of c sc d e)
+  begun_ok : (sc : Scope) (d : ℕ) (e : t.Expr) (x : Next) → (faults_of c sc e ≡ [] → Fine (expr_of c sc d e)) → start_faults (chain_start c sc e) x (faults_of c sc e) ≡ [] → Begun (chain_start c sc e) x (expr_of c sc d e)
   begun_ok sc d (t.name n) x alone f = name_begun n d (resolve c sc n.text) x f
   begun_ok sc d (t.type_name n) x alone f = type_begun n d (type_meaning c n.text) x (type_known c n.text) f
   begun_ok sc d (t.number n s) x alone f = alone f
@@ -310,13 +318,13 @@ module _ (c : Context) (some_text : 0 < length c.texts) where
     expr_ok sc d (t.name n) f = read_name_ok n d (resolve c sc n.text) f
     expr_ok sc d (t.type_name n) f = read_type_ok n d (type_meaning c n.text) (type_known c n.text) f
     expr_ok sc d (t.this s) f = (tt, tt)
-    expr_ok sc d (t.consume n s) f = consumed_ok s n.span d (slot_of sc n.text) f
+    expr_ok sc d (t.consume n s) f = consumed_ok s n.span d (slot_named sc n.text) f
     expr_ok sc d (t.not_ e s) f = (tt, (expr_ok sc d e f, tt))
     expr_ok sc d (t.infix_ o es s) f = infix_ok sc d o s es f
     expr_ok sc d (t.chain h ss s) f =
-        let own = left_none (start_faults (start_of c sc h) (next_of ss) (faults_of c sc h)) (suffixes_faults c sc (start_of c sc h) ss) f in
-        let rest = right_none (start_faults (start_of c sc h) (next_of ss) (faults_of c sc h)) (suffixes_faults c sc (start_of c sc h) ss) f in
-        chain_ok sc d s read (start_of c sc h) (expr_of c sc d h) ss tt (start_known sc h) (begun_ok sc d h (next_of ss) (λ g. expr_ok sc d h g) own) rest
+        let own = left_none (start_faults (chain_start c sc h) (next_of ss) (faults_of c sc h)) (suffixes_faults c sc (chain_start c sc h) ss) f in
+        let rest = right_none (start_faults (chain_start c sc h) (next_of ss) (faults_of c sc h)) (suffixes_faults c sc (chain_start c sc h) ss) f in
+        chain_ok sc d s read (chain_start c sc h) (expr_of c sc d h) ss tt (start_known sc h) (begun_ok sc d h (next_of ss) (λ g. expr_ok sc d h g) own) rest
     expr_ok sc d (t.group b s) f = seq_ok sc d s b f
     expr_ok sc d (t.if_ as' o s) f = arms_ok sc d s true as' (other_of c sc d s o) (left_none (arms_faults c sc as') (other_faults c sc o) f) (other_ok sc d s o (right_none (arms_faults c sc as') (other_faults c sc o) f))
     expr_ok sc d (t.while_ cond b s) f = (tt, (whole_ok sc d cond (left_none (seq_faults c sc cond) (seq_faults c sc b) f), (whole_ok sc d b (right_none (seq_faults c sc cond) (seq_faults c sc b) f), tt)))
@@ -326,9 +334,9 @@ module _ (c : Context) (some_text : 0 < length c.texts) where
     assign_ok : (sc : Scope) (d : ℕ) (s : Span) (v left : Rose) (l : t.Expr) → faults_of c sc l ≡ [] → Fine v → Fine left → Fine (assign_of c sc d s v left l)
     assign_ok sc d s v left (t.name n) f h g = write_name_ok s n d v (resolve c sc n.text) f h
     assign_ok sc d s v left (t.chain e ss whole) f h g =
-        let own = left_none (start_faults (start_of c sc e) (next_of ss) (faults_of c sc e)) (suffixes_faults c sc (start_of c sc e) ss) f in
-        let rest = right_none (start_faults (start_of c sc e) (next_of ss) (faults_of c sc e)) (suffixes_faults c sc (start_of c sc e) ss) f in
-        chain_ok sc d whole (write s v) (start_of c sc e) (expr_of c sc d e) ss h (start_known sc e) (begun_ok sc d e (next_of ss) (λ g. expr_ok sc d e g) own) rest
+        let own = left_none (start_faults (chain_start c sc e) (next_of ss) (faults_of c sc e)) (suffixes_faults c sc (chain_start c sc e) ss) f in
+        let rest = right_none (start_faults (chain_start c sc e) (next_of ss) (faults_of c sc e)) (suffixes_faults c sc (chain_start c sc e) ss) f in
+        chain_ok sc d whole (write s v) (chain_start c sc e) (expr_of c sc d e) ss h (start_known sc e) (begun_ok sc d e (next_of ss) (λ g. expr_ok sc d e g) own) rest
     assign_ok sc d s v left (t.number x0 x1) f h g = value_then_ok s d v left h g
     assign_ok sc d s v left (t.truth x0 x1) f h g = value_then_ok s d v left h g
     assign_ok sc d s v left (t.text x0 x1) f h g = value_then_ok s d v left h g
@@ -349,29 +357,29 @@ module _ (c : Context) (some_text : 0 < length c.texts) where
 
     operands_ok : (sc : Scope) (d : ℕ) (o : Op) (s : Span) (left : Rose) (es : t.Exprs) → exprs_faults c sc es ≡ [] → Fine left → Fine (operands_of c sc d o s left es)
     operands_ok sc d o s left t.no_exprs f h = h
-    operands_ok sc d o s left (t.expr e es) f h = operands_ok sc d o s (rose (operation o) (join s (t.span_of e)) d (two left (expr_of c sc d e))) es (right_none (faults_of c sc e) (exprs_faults c sc es) f) (operation_ok o (join s (t.span_of e)) d left (expr_of c sc d e) h (expr_ok sc d e (left_none (faults_of c sc e) (exprs_faults c sc es) f)))
+    operands_ok sc d o s left (t.expr e es) f h = operands_ok sc d o s (rose (operation o) (joined_span s (t.span_of e)) d (two left (expr_of c sc d e))) es (right_none (faults_of c sc e) (exprs_faults c sc es) f) (operation_ok o (joined_span s (t.span_of e)) d left (expr_of c sc d e) h (expr_ok sc d e (left_none (faults_of c sc e) (exprs_faults c sc es) f)))
 
     chain_ok : (sc : Scope) (d : ℕ) (s : Span) (u : Use) (st : Start) (r : Rose) (ss : t.Suffixes) → UseFine u → StartKnown st → Begun st (next_of ss) r → suffixes_faults c sc st ss ≡ [] → Fine (chain_of c sc d s u st r ss)
     chain_ok sc d s u st r t.no_suffixes h k b f = other_use_ok u d r h (ended_ok st r b)
     chain_ok sc d s u st r (t.suffix (t.dot n) ss) h k b f = named_ok sc d s u st r n ss h k b (left_none (dot_faults st n (next_of ss)) (suffixes_faults c sc with_value ss) f) (right_none (dot_faults st n (next_of ss)) (suffixes_faults c sc with_value ss) f)
     chain_ok sc d s u st r (t.suffix (t.args es sp) ss) h k b f =
         let args = exprs_ok sc d es (left_none (exprs_faults c sc es) (suffixes_faults c sc with_value ss) f) in
-        chain_ok sc d s u with_value (apply c st (join s sp) d (exprs_of c sc d es) r) ss h tt (apply_ok st (join s sp) d (exprs_of c sc d es) r k b args) (right_none (exprs_faults c sc es) (suffixes_faults c sc with_value ss) f)
+        chain_ok sc d s u with_value (apply c st (joined_span s sp) d (roses_of_exprs c sc d es) r) ss h tt (apply_ok st (joined_span s sp) d (roses_of_exprs c sc d es) r k b args) (right_none (exprs_faults c sc es) (suffixes_faults c sc with_value ss) f)
 
     named_ok : (sc : Scope) (d : ℕ) (s : Span) (u : Use) (st : Start) (r : Rose) (n : Name) (ss : t.Suffixes) → UseFine u → StartKnown st → Begun st name r → dot_faults st n (next_of ss) ≡ [] → suffixes_faults c sc with_value ss ≡ [] → Fine (named_of c sc d s u st r n ss)
-    named_ok sc d s u st r n t.no_suffixes h k b g f = use_ok u (join s n.span) n d r h (field_last_ok st n r b g)
-    named_ok sc d s u st r n (t.suffix (t.dot m) ss) h k b g f = named_ok sc d s u with_value (read_field c (join s n.span) n d r) m ss h tt (text_ok n.text, (field_next_ok st n r b g, tt)) (left_none (dot_faults with_value m (next_of ss)) (suffixes_faults c sc with_value ss) f) (right_none (dot_faults with_value m (next_of ss)) (suffixes_faults c sc with_value ss) f)
+    named_ok sc d s u st r n t.no_suffixes h k b g f = use_ok u (joined_span s n.span) n d r h (field_last_ok st n r b g)
+    named_ok sc d s u st r n (t.suffix (t.dot m) ss) h k b g f = named_ok sc d s u with_value (read_field c (joined_span s n.span) n d r) m ss h tt (text_ok n.text, (field_next_ok st n r b g, tt)) (left_none (dot_faults with_value m (next_of ss)) (suffixes_faults c sc with_value ss) f) (right_none (dot_faults with_value m (next_of ss)) (suffixes_faults c sc with_value ss) f)
     named_ok sc d s u st r n (t.suffix (t.args es sp) ss) h k b g f =
         let args = exprs_ok sc d es (left_none (exprs_faults c sc es) (suffixes_faults c sc with_value ss) f) in
-        chain_ok sc d s u with_value (call_named c st (join s sp) n d (exprs_of c sc d es) r) ss h tt (call_named_ok st (join s sp) n d (exprs_of c sc d es) r k b g args) (right_none (exprs_faults c sc es) (suffixes_faults c sc with_value ss) f)
+        chain_ok sc d s u with_value (call_named c st (joined_span s sp) n d (roses_of_exprs c sc d es) r) ss h tt (call_named_ok st (joined_span s sp) n d (roses_of_exprs c sc d es) r k b g args) (right_none (exprs_faults c sc es) (suffixes_faults c sc with_value ss) f)
 
-    exprs_ok : (sc : Scope) (d : ℕ) (es : t.Exprs) → exprs_faults c sc es ≡ [] → AllFine (exprs_of c sc d es)
+    exprs_ok : (sc : Scope) (d : ℕ) (es : t.Exprs) → exprs_faults c sc es ≡ [] → AllFine (roses_of_exprs c sc d es)
     exprs_ok sc d t.no_exprs f = tt
     exprs_ok sc d (t.expr e es) f = (expr_ok sc d e (left_none (faults_of c sc e) (exprs_faults c sc es) f), exprs_ok sc d es (right_none (faults_of c sc e) (exprs_faults c sc es) f))
 
-    arms_ok : (sc : Scope) (d : ℕ) (s : Span) (first : Bool) (as' : t.Arms) (last : Rose) → arms_faults c sc as' ≡ [] → Fine last → Fine (arms_of c sc d s first as' last)
+    arms_ok : (sc : Scope) (d : ℕ) (s : Span) (first : Bool) (as' : t.Arms) (last : Rose) → arms_faults c sc as' ≡ [] → Fine last → Fine (rose_of_arms c sc d s first as' last)
     arms_ok sc d s first t.no_arms last f h = h
-    arms_ok sc d s first (t.arm a as') last f h = arm_ok sc d s first a (arms_of c sc d s false as' last) (left_none (arm_faults c sc a) (arms_faults c sc as') f) (arms_ok sc d s false as' last (right_none (arm_faults c sc a) (arms_faults c sc as') f) h)
+    arms_ok sc d s first (t.arm a as') last f h = arm_ok sc d s first a (rose_of_arms c sc d s false as' last) (left_none (arm_faults c sc a) (arms_faults c sc as') f) (arms_ok sc d s false as' last (right_none (arm_faults c sc a) (arms_faults c sc as') f) h)
 
     arm_ok : (sc : Scope) (d : ℕ) (s : Span) (first : Bool) (a : t.Arm) (rest : Rose) → arm_faults c sc a ≡ [] → Fine rest → Fine (arm_of c sc d s first a rest)
     arm_ok sc d s first (t.arm_of cond b sp) rest f h = if_ok first (arm_place first s sp) d (whole_of c sc d cond) (whole_of c sc d b) rest (whole_ok sc d cond (left_none (seq_faults c sc cond) (seq_faults c sc b) f)) (whole_ok sc d b (right_none (seq_faults c sc cond) (seq_faults c sc b) f)) h
@@ -381,18 +389,18 @@ module _ (c : Context) (some_text : 0 < length c.texts) where
     other_ok sc d s (t.other b) f = whole_ok sc d b f
 
     whole_ok : (sc : Scope) (d : ℕ) (b : t.Seq) → seq_faults c sc b ≡ [] → Fine (whole_of c sc d b)
-    whole_ok sc d (t.seq is s) f = sequence_ok s d (items_of c sc d is) (items_ok sc d is f)
+    whole_ok sc d (t.seq is s) f = sequence_ok s d (roses_of_items c sc d is) (items_ok sc d is f)
 
     seq_ok : (sc : Scope) (d : ℕ) (s : Span) (b : t.Seq) → seq_faults c sc b ≡ [] → Fine (seq_of c sc d s b)
-    seq_ok sc d s (t.seq is sp) f = sequence_ok s d (items_of c sc d is) (items_ok sc d is f)
+    seq_ok sc d s (t.seq is sp) f = sequence_ok s d (roses_of_items c sc d is) (items_ok sc d is f)
 
-    pub items_ok : (sc : Scope) (d : ℕ) (is : t.Items) → items_faults c sc is ≡ [] → AllFine (items_of c sc d is)
+    pub items_ok : (sc : Scope) (d : ℕ) (is : t.Items) → items_faults c sc is ≡ [] → AllFine (roses_of_items c sc d is)
     items_ok sc d t.no_items f = tt
     items_ok sc d (t.item i is) f = (item_ok sc d i (left_none (item_faults c sc i) (items_faults c (scope_after c sc i) is) f), items_ok (scope_after c sc i) d is (right_none (item_faults c sc i) (items_faults c (scope_after c sc i) is) f))
 
     item_ok : (sc : Scope) (d : ℕ) (i : t.Item) → item_faults c sc i ≡ [] → Fine (item_of c sc d i)
     item_ok sc d (t.local fixed n ty e s) f =
-        (tt, (expr_ok sc d e (right_none (when (is_taken (resolve c sc n.text)) (double n.span) ++ written_faults c ty) (faults_of c sc e) f), tt))
+        (tt, (expr_ok sc d e (right_none (fault_if (is_name_taken (resolve c sc n.text)) (double n.span) ++ written_faults c ty) (faults_of c sc e) f), tt))
     item_ok sc d (t.plain e) f = expr_ok sc d e f
 
 pub nothing_missing : NothingIsMissing

@@ -5,22 +5,22 @@ use Rattle.std.proofs.lemmas.Bool.{cases_lt}
 use Rattle.std.proofs.lemmas.Option.{same_Some, none-some}
 use Rattle.pc_caps.specs.declared.span.Span.{Span}
 use Rattle.pc_lists.proofs.Gets.{get_within}
-use Rattle.pc_tree.specs.declared.names.Name.{Name}
+use Rattle.pc_tree.specs.declared.written_names.Name.{Name}
 use Rattle.pc_core.specs.declared.nodes.Node.{Node}
 use Rattle.pc_body_spec.specs.Roses.{Rose, Numbered, put}
 use Rattle.pc_body_spec.specs.Bodies.{body_of, added_body}
-use Rattle.pc_body_spec.specs.Faults.{Fault, body_faults, initial_faults}
+use Rattle.pc_body_spec.specs.Faults.{BodyNameFault, body_faults, initial_faults}
 use Rattle.pc_body_spec.specs.Slots.{initial_locals}
-use Rattle.pc_body_spec.specs.Methods.{Outcome, slot_names, local_names, unless_fault, unless_name, unless_full, numbered, put_body}
+use Rattle.pc_body_spec.specs.Methods.{MethodOutcome, slot_names, local_names, unless_fault, unless_name, unless_full, numbered_or_full, put_body}
 use Rattle.pc_body_spec.specs.Laws.{MethodsStand, AddedMethodsStand}
 use Rattle.pc_body_spec.proofs.Bodies.{bodies_stand, added_bodies_stand}
 
-abbrev IsOk : Outcome → Type 0
+abbrev IsOk : MethodOutcome → Type 0
 IsOk (Ok a) = Unit {0}
 IsOk (Err e) = ⊥
 
 -- What has an outcome has no fault of its body, few enough slots, and its nodes.
-record Passed (fs : List Fault) (names : List Name) (rest : Outcome) (n : ℕ) (after : List Node) : Type 0 where
+record Passed (fs : List BodyNameFault) (names : List Name) (rest : MethodOutcome) (n : ℕ) (after : List Node) : Type 0 where
   no_fault : fs ≡ []
   few : 1 + length names ≤ 64
   put_is : rest ≡ Ok (Some n, after)
@@ -31,7 +31,7 @@ few_names names e = elim (cases_lt 63 (length names)) [
   | inr l ↦ omega (arith, l)
 ]
 
-passed : (fs : List Fault) (names : List Name) (rest : Outcome) (n : ℕ) (after : List Node) → unless_fault fs (unless_full names rest) ≡ Ok (Some n, after) → Passed fs names rest n after
+passed : (fs : List BodyNameFault) (names : List Name) (rest : MethodOutcome) (n : ℕ) (after : List Node) → unless_fault fs (unless_full names rest) ≡ Ok (Some n, after) → Passed fs names rest n after
 passed (f ∷ fs) names rest n after h = absurd (subst IsOk (sym h) tt)
 passed [] names rest n after h = by (slice_get names 63) refl h
   where
@@ -39,7 +39,7 @@ passed [] names rest n after h = by (slice_get names 63) refl h
     by None e g = record { no_fault = refl; few = few_names names e; put_is = g }
     by (Some x) e g = absurd (subst IsOk (sym g) tt)
 
-abbrev outcome : Outcome → Option (Option ℕ × List Node)
+abbrev outcome : MethodOutcome → Option (Option ℕ × List Node)
 outcome (Ok a) = Some a
 outcome (Err e) = None
 
@@ -51,7 +51,7 @@ abbrev IsBody : Option ℕ → Type 0
 IsBody None = ⊥
 IsBody (Some n) = Unit {0}
 
-numbered_is : (name : Span) (o : Numbered ℕ) (n : ℕ) (after : List Node) → numbered name o ≡ Ok (Some n, after) → o ≡ Some (n, after)
+numbered_is : (name : Span) (o : Numbered ℕ) (n : ℕ) (after : List Node) → numbered_or_full name o ≡ Ok (Some n, after) → o ≡ Some (n, after)
 numbered_is name None n after h = absurd (subst IsOk (sym h) tt)
 numbered_is name (Some r) n after h =
     let same : (Some r.0, r.1) ≡ (Some n, after) = same_Some _ _ (ap outcome h) in

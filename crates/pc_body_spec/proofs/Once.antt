@@ -5,7 +5,7 @@ use Rattle.std.proofs.lemmas.Option.{same_Some, none-some}
 use Rattle.std.proofs.lemmas.Bool.{eq-eqb, and_from}
 use Rattle.std.proofs.lemmas.Bool.Decides.{eqb_tells}
 use Rattle.pc_caps.specs.declared.span.Span.{Span}
-use Rattle.pc_tree.specs.declared.names.Name.{Name}
+use Rattle.pc_tree.specs.declared.written_names.Name.{Name}
 use Rattle.pc_tree.specs.Tree as t
 use Rattle.pc_core.specs.declared.nodes.Node.{Node}
 use Rattle.pc_core.specs.declared.nodes.NodeKind.{NodeKind}
@@ -13,7 +13,7 @@ use Rattle.pc_core.specs.declared.nodes.NodeKind.TheVariants as node
 use Rattle.pc_lists.proofs.Gets.{append_get, get_append}
 use Rattle.pc_body_spec.specs.Roses.{Rose, Roses, rose, more, no_roses, one, and_last, and_then, put, puts, push, node_of}
 use Rattle.pc_body_spec.specs.Scopes.{Context, slot_at, params_scope}
-use Rattle.pc_body_spec.specs.Expressions.{items_of, added_none}
+use Rattle.pc_body_spec.specs.Expressions.{roses_of_items, added_none}
 use Rattle.pc_body_spec.specs.Bodies.{initial_of, initials_then, initial_fields, gives_none, none_last, body_with, maybe_body, added_body}
 use Rattle.pc_body_spec.specs.Faults.{value_faults, initial_faults, written_body_faults}
 use Rattle.pc_body_spec.specs.Slots.{Local, value_locals, initial_locals, body_locals, method_locals, placed_from}
@@ -50,10 +50,10 @@ module _ (c : Context) (z : ℕ → ℕ → Bool) where
   body_n : (fs : List t.Field) (x : t.Method) (b : t.Seq) → initial_faults c (initial_fields x.word fs) ≡ [] → written_body_faults c (params_scope x.params) (Some b) ≡ [] → times z (body_with c fs x b) ≡ local_times c z (initial_locals (initial_fields x.word fs) ++ body_locals (Some b))
   body_n fs x (t.seq is s) f g =
       let sc = params_scope x.params in
-      let last = none_last (gives_none x.word x.result) x.name.span (items_of c sc 0 is) in
+      let last = none_last (gives_none x.word x.result) x.name.span (roses_of_items c sc 0 is) in
       let all = sequence_n c z s 0 (initials_then c (initial_fields x.word fs) last) in
       let first = initials_n (initial_fields x.word fs) last f in
-      let none = none_n (gives_none x.word x.result) x.name.span (items_of c sc 0 is) in
+      let none = none_n (gives_none x.word x.result) x.name.span (roses_of_items c sc 0 is) in
       let items = items_n c z sc 0 is g in
       let sum = join_n c z (initial_locals (initial_fields x.word fs)) (body_locals (Some (t.seq is s))) in
       omega (arith, all, first, none, items, sum)

@@ -4,14 +4,18 @@ use Rattle.std.specs.Prelude.{slice_get, nat_eq, nat_lt}
 use Rattle.std.proofs.lemmas.Option.{same_Some, none-some}
 use Rattle.std.proofs.lemmas.Bool.{eqb-true}
 use Rattle.pc_caps.specs.declared.span.Span.{Span}
-use Rattle.pc_tree.specs.declared.names.Name.{Name}
-use Rattle.pc_tree.specs.declared.names.TypeRef.{TypeRef}
+use Rattle.pc_tree.specs.declared.written_names.Name.{Name}
+use Rattle.pc_tree.specs.declared.written_names.TypeRef.{TypeRef}
 use Rattle.pc_tree.specs.Tree as t
 use Rattle.pc_lists.specs.Places.{Each, Ascends}
-use Rattle.pc_body_spec.specs.Scopes.{Context, Scope, Constructor, Meaning, local, field, method, nothing, TypeMeaning, primitive, created, no_value, slot_of, slot_at, resolve, type_meaning, constructor_named, scope_after, params_scope, deeper}
-use Rattle.pc_body_spec.specs.Expressions.{Start, with_method, with_type, with_value, start_of, create_name}
+use Rattle.pc_body_spec.specs.Scopes.{Context, Scope, Constructor, Meaning, local, field, method, nothing, TypeMeaning, primitive, created, no_value}
+use Rattle.pc_body_spec.specs.Scopes.{slot_named, slot_at, resolve, type_meaning, constructor_named, scope_after, params_scope, deeper}
+use Rattle.pc_body_spec.specs.Expressions.{Start, with_method, with_type, with_value, chain_start, create_name}
 use Rattle.pc_body_spec.specs.Bodies.{initial_fields}
-use Rattle.pc_body_spec.specs.Faults.{Fault, unknown, double, long_text, unless_some, when, is_taken, is_entity, name_faults, type_faults, written_faults, Next, arguments, name, end, next_of, start_faults, constructor_faults, dot_faults, faults_of, exprs_faults, suffixes_faults, arms_faults, arm_faults, other_faults, seq_faults, items_faults, item_faults, value_faults, initial_faults, written_body_faults, body_faults}
+use Rattle.pc_body_spec.specs.Faults.{BodyNameFault, unknown, double, long_text, unless_some, fault_if, is_name_taken, is_entity, bare_name_faults}
+use Rattle.pc_body_spec.specs.Faults.{type_name_faults, written_faults, Next, arguments, name, end, next_of, start_faults, constructor_faults, dot_faults}
+use Rattle.pc_body_spec.specs.Faults.{faults_of, exprs_faults, suffixes_faults, arms_faults, arm_faults, other_faults, seq_faults, items_faults, item_faults}
+use Rattle.pc_body_spec.specs.Faults.{value_faults, initial_faults, written_body_faults, body_faults}
 use Rattle.pc_caps.specs.Limits.{text_limit}
 use Rattle.pc_body_spec.specs.Slots.{Local, locals_of, exprs_locals, suffixes_locals, arm_locals, arms_locals, other_locals, seq_locals, items_locals, item_locals, value_locals, initial_locals, body_locals, method_locals, placed_from}
 use Rattle.pc_body_spec.specs.Places.{written_places, places, exprs_places, suffixes_places, arm_places, arms_places, other_places, seq_places, items_places, item_places, value_places, initial_places, written_body_places, body_places, fault_start, local_start}
@@ -64,33 +68,33 @@ module _ {A : Type 0} (f : A → ℕ) where
 
 -- ---- faults
 
-abbrev FaultsAt : List Fault → List ℕ → Type 0
+abbrev FaultsAt : List BodyNameFault → List ℕ → Type 0
 FaultsAt = Sub fault_start
 
-both : (gs hs : List Fault) (ns ms : List ℕ) → FaultsAt gs ns → FaultsAt hs ms → FaultsAt (gs ++ hs) (ns ++ ms)
+both : (gs hs : List BodyNameFault) (ns ms : List ℕ) → FaultsAt gs ns → FaultsAt hs ms → FaultsAt (gs ++ hs) (ns ++ ms)
 both = sub_join fault_start
 
-one_at : (g : Fault) → FaultsAt (g ∷ []) (fault_start g ∷ [])
+one_at : (g : BodyNameFault) → FaultsAt (g ∷ []) (fault_start g ∷ [])
 one_at g = take g [] [] none
 
 none_at : (n : ℕ) → FaultsAt [] (n ∷ [])
 none_at n = skip [] n [] none
 
-when_at : (b : Bool) (g : Fault) → FaultsAt (when b g) (fault_start g ∷ [])
+when_at : (b : Bool) (g : BodyNameFault) → FaultsAt (fault_if b g) (fault_start g ∷ [])
 when_at true g = one_at g
 when_at false g = none_at (fault_start g)
 
-some_at : {A : Type 0} (o : Option A) (g : Fault) → FaultsAt (unless_some o g) (fault_start g ∷ [])
+some_at : {A : Type 0} (o : Option A) (g : BodyNameFault) → FaultsAt (unless_some o g) (fault_start g ∷ [])
 some_at (Some a) g = none_at (fault_start g)
 some_at None g = one_at g
 
-name_at : (m : Meaning) (s : Span) → FaultsAt (name_faults m s) (s.start ∷ [])
+name_at : (m : Meaning) (s : Span) → FaultsAt (bare_name_faults m s) (s.start ∷ [])
 name_at (local x) s = none_at s.start
 name_at field s = none_at s.start
 name_at method s = one_at (unknown s)
 name_at nothing s = one_at (unknown s)
 
-type_at : (m : TypeMeaning) (s : Span) → FaultsAt (type_faults m s) (s.start ∷ [])
+type_at : (m : TypeMeaning) (s : Span) → FaultsAt (type_name_faults m s) (s.start ∷ [])
 type_at (primitive e) s = none_at s.start
 type_at (created actor cs) s = some_at (constructor_named cs create_name) (unknown s)
 type_at no_value s = one_at (unknown s)
@@ -103,7 +107,7 @@ written_at c (Some ty) = by (is_entity c.entities ty.name.text)
     by true = none_at ty.name.span.start
     by false = one_at (unknown ty.name.span)
 
-start_at : (st : Start) (x : Next) (gs : List Fault) (ns : List ℕ) → FaultsAt gs ns → FaultsAt (start_faults st x gs) ns
+start_at : (st : Start) (x : Next) (gs : List BodyNameFault) (ns : List ℕ) → FaultsAt gs ns → FaultsAt (start_faults st x gs) ns
 start_at (with_method n) arguments gs ns h = nothing_at fault_start ns
 start_at (with_method n) name gs ns h = h
 start_at (with_method n) end gs ns h = h
@@ -134,10 +138,10 @@ mutual
   expr_at c sc (t.name n) = name_at (resolve c sc n.text) n.span
   expr_at c sc (t.type_name n) = type_at (type_meaning c n.text) n.span
   expr_at c sc (t.this s) = none
-  expr_at c sc (t.consume n s) = some_at (slot_of sc n.text) (unknown n.span)
+  expr_at c sc (t.consume n s) = some_at (slot_named sc n.text) (unknown n.span)
   expr_at c sc (t.not_ e s) = expr_at c sc e
   expr_at c sc (t.infix_ o es s) = exprs_at c sc es
-  expr_at c sc (t.chain h ss s) = both (start_faults (start_of c sc h) (next_of ss) (faults_of c sc h)) (suffixes_faults c sc (start_of c sc h) ss) (places h) (suffixes_places ss) (start_at (start_of c sc h) (next_of ss) (faults_of c sc h) (places h) (expr_at c sc h)) (suffixes_at c sc (start_of c sc h) ss)
+  expr_at c sc (t.chain h ss s) = both (start_faults (chain_start c sc h) (next_of ss) (faults_of c sc h)) (suffixes_faults c sc (chain_start c sc h) ss) (places h) (suffixes_places ss) (start_at (chain_start c sc h) (next_of ss) (faults_of c sc h) (places h) (expr_at c sc h)) (suffixes_at c sc (chain_start c sc h) ss)
   expr_at c sc (t.group b s) = seq_at c sc b
   expr_at c sc (t.if_ as' o s) = both (arms_faults c sc as') (other_faults c sc o) (arms_places as') (other_places o) (arms_at c sc as') (other_at c sc o)
   expr_at c sc (t.while_ cond b s) = both (seq_faults c sc cond) (seq_faults c sc b) (seq_places cond) (seq_places b) (seq_at c sc cond) (seq_at c sc b)
@@ -172,7 +176,7 @@ mutual
   items_at c sc (t.item i is) = both (item_faults c sc i) (items_faults c (scope_after c sc i) is) (item_places i) (items_places is) (item_at c sc i) (items_at c (scope_after c sc i) is)
 
   item_at : (c : Context) (sc : Scope) (i : t.Item) → FaultsAt (item_faults c sc i) (item_places i)
-  item_at c sc (t.local fixed n ty e s) = both (when (is_taken (resolve c sc n.text)) (double n.span) ++ written_faults c ty) (faults_of c sc e) (n.span.start ∷ written_places ty) (places e) (both (when (is_taken (resolve c sc n.text)) (double n.span)) (written_faults c ty) (n.span.start ∷ []) (written_places ty) (when_at (is_taken (resolve c sc n.text)) (double n.span)) (written_at c ty)) (expr_at c sc e)
+  item_at c sc (t.local fixed n ty e s) = both (fault_if (is_name_taken (resolve c sc n.text)) (double n.span) ++ written_faults c ty) (faults_of c sc e) (n.span.start ∷ written_places ty) (places e) (both (fault_if (is_name_taken (resolve c sc n.text)) (double n.span)) (written_faults c ty) (n.span.start ∷ []) (written_places ty) (when_at (is_name_taken (resolve c sc n.text)) (double n.span)) (written_at c ty)) (expr_at c sc e)
   item_at c sc (t.plain e) = expr_at c sc e
 
 value_at : (c : Context) (v : Option t.Expr) → FaultsAt (value_faults c v) (value_places v)

@@ -3,25 +3,29 @@ use Rattle.std.proofs.Common.{◌≡◌, ℕ, List, [], ◌∷◌, ◌++◌, Opt
 use Rattle.pc_caps.specs.declared.span.Span.{Span}
 use Rattle.pc_tree.specs.declared.kinds.Op.{Op}
 use Rattle.pc_tree.specs.declared.kinds.Op.TheVariants as op
-use Rattle.pc_tree.specs.declared.names.Name.{Name}
+use Rattle.pc_tree.specs.declared.written_names.Name.{Name}
 use Rattle.pc_tree.specs.Tree as t
 use Rattle.pc_core.specs.declared.nodes.NodeKind.{NodeKind}
 use Rattle.pc_core.specs.declared.nodes.NodeKind.TheVariants as node
 use Rattle.pc_body_spec.specs.Roses.{Rose, Roses, rose, more, no_roses, one, and_last, two, three}
-use Rattle.pc_body_spec.specs.Scopes.{Context, Scope, Meaning, local, field, method, nothing, TypeMeaning, primitive, created, no_value, slot_of, resolve, type_meaning, constructor_named, deeper, defined, member, is_among, unless_local}
-use Rattle.pc_body_spec.specs.Expressions.{value_then, use_other, join, added_this, operation, read_field, read_name, consumed, write_name, new_object, create_name, read_type, Start, with_method, with_type, with_value, start_of, apply_primitive, apply, call_named, Use, read, write, use_field, if_of, arm_place, sequence, expr_of, assign_of, infix_of, operands_of, chain_of, named_of, exprs_of, arms_of, arm_of, other_of, whole_of, seq_of, items_of}
+use Rattle.pc_body_spec.specs.Scopes.{Context, Scope, Meaning, local, field, method, nothing, TypeMeaning, primitive, created, no_value, slot_named, resolve}
+use Rattle.pc_body_spec.specs.Scopes.{type_meaning, constructor_named, deeper, defined_local, member, is_among_names, unless_local}
+use Rattle.pc_body_spec.specs.Expressions.{value_then, use_other, joined_span, added_this, operation, read_field, read_name, consumed, write_name}
+use Rattle.pc_body_spec.specs.Expressions.{new_object_rose, create_name, read_type, Start, with_method, with_type, with_value, chain_start, apply_primitive}
+use Rattle.pc_body_spec.specs.Expressions.{apply, call_named, Use, read, write, use_field, if_of, arm_place, sequence, expr_of, assign_of, infix_of}
+use Rattle.pc_body_spec.specs.Expressions.{operands_of, chain_of, named_of, roses_of_exprs, rose_of_arms, arm_of, other_of, whole_of, seq_of, roses_of_items}
 use Rattle.std.proofs.lemmas.List.{map_push}
 use Rattle.std.proofs.lemmas.Option.{same_Some, none-some}
 use Rattle.std.specs.Str.{bytes_eq}
-use Rattle.pc_body_spec.specs.Visibility.{Asks, ItemAsks, Scoped, AllScoped, ItemsScoped, slots}
+use Rattle.pc_body_spec.specs.Visibility.{AsksVisible, ItemAsks, Scoped, AllScoped, ItemsScoped, slots}
 use Rattle.pc_lists.specs.Places.{IsIn}
 use Rattle.pc_body_spec.specs.Laws.{IsScoped}
 
-slot_in : (sc : Scope) (name : List ℕ) (s : ℕ) → slot_of sc name ≡ Some s → IsIn s (slots sc)
+slot_in : (sc : Scope) (name : List ℕ) (s : ℕ) → slot_named sc name ≡ Some s → IsIn s (slots sc)
 slot_in [] name s h = absurd (none-some s h)
 slot_in (v ∷ vs) name s h = by (bytes_eq v.name name) (slot_in vs name s) h
   where
-    by : (b : Bool) → (slot_of vs name ≡ Some s → IsIn s (slots vs)) → (if b then Some v.slot else slot_of vs name) ≡ Some s → IsIn s (slots (v ∷ vs))
+    by : (b : Bool) → (slot_named vs name ≡ Some s → IsIn s (slots vs)) → (if b then Some v.slot else slot_named vs name) ≡ Some s → IsIn s (slots (v ∷ vs))
     by true rec h = inl (sym (same_Some _ _ h))
     by false rec h = inr (rec h)
 
@@ -31,22 +35,23 @@ Meant vis (local x) = IsIn x vis
 Meant vis m = Unit {0}
 
 meant : (c : Context) (sc : Scope) (name : List ℕ) → Meant (slots sc) (resolve c sc name)
-meant c sc name = by (slot_of sc name) refl
+meant c sc name = by (slot_named sc name) refl
   where
     other : (a b : Bool) → Meant (slots sc) (member a b)
     other true b = tt
     other false true = tt
     other false false = tt
 
-    by : (o : Option ℕ) → slot_of sc name ≡ o → Meant (slots sc) (unless_local o (member (is_among c.fields name) (is_among c.methods name)))
+    by : (o : Option ℕ) → slot_named sc name ≡ o
+        → Meant (slots sc) (unless_local o (member (is_among_names c.fields name) (is_among_names c.methods name)))
     by (Some s) h = slot_in sc name s h
-    by None h = other (is_among c.fields name) (is_among c.methods name)
+    by None h = other (is_among_names c.fields name) (is_among_names c.methods name)
 
 -- An item that defines nothing.
 pub item_alone : (vis : List ℕ) (r : Rose) (rs : Roses) → Scoped vis r → ItemsScoped vis rs → ItemsScoped vis (more r rs)
 item_alone vis (rose k s d cs) rs h g = by k h
   where
-    by : (q : NodeKind) → Asks q vis (AllScoped vis cs) (ItemsScoped vis cs) → ItemAsks q vis (AllScoped vis cs) (Asks q vis (AllScoped vis cs) (ItemsScoped vis cs)) (λ v. ItemsScoped v rs)
+    by : (q : NodeKind) → AsksVisible q vis (AllScoped vis cs) (ItemsScoped vis cs) → ItemAsks q vis (AllScoped vis cs) (AsksVisible q vis (AllScoped vis cs) (ItemsScoped vis cs)) (λ v. ItemsScoped v rs)
     by (node.Define x) h = absurd h
     by (node.Number n) h = (h, g)
     by (node.Truth n) h = (h, g)
@@ -104,7 +109,7 @@ read_name_ok vis c n d field h = (tt, tt)
 read_name_ok vis c n d method h = (tt, tt)
 read_name_ok vis c n d nothing h = (tt, tt)
 
-consumed_ok : (sc : Scope) (name : List ℕ) (s : Span) (d : ℕ) (o : Option ℕ) → slot_of sc name ≡ o → Scoped (slots sc) (consumed s d o)
+consumed_ok : (sc : Scope) (name : List ℕ) (s : Span) (d : ℕ) (o : Option ℕ) → slot_named sc name ≡ o → Scoped (slots sc) (consumed s d o)
 consumed_ok sc name s d (Some x) h = (slot_in sc name x h, tt)
 consumed_ok sc name s d None h = (tt, tt)
 
@@ -114,7 +119,7 @@ write_name_ok vis c s n d v field h g = (g, (tt, tt))
 write_name_ok vis c s n d v method h g = (tt, tt)
 write_name_ok vis c s n d v nothing h g = (tt, tt)
 
-new_ok : (vis : List ℕ) (actor : Bool) (s : Span) (d : ℕ) (args : Roses) (o : Option ℕ) → AllScoped vis args → Scoped vis (new_object actor s d args o)
+new_ok : (vis : List ℕ) (actor : Bool) (s : Span) (d : ℕ) (args : Roses) (o : Option ℕ) → AllScoped vis args → Scoped vis (new_object_rose actor s d args o)
 new_ok vis true s d args (Some m) h = h
 new_ok vis false s d args (Some m) h = h
 new_ok vis true s d args None h = (tt, tt)
@@ -171,10 +176,10 @@ mutual
   expr_ok c sc d (t.name n) = read_name_ok (slots sc) c n d (resolve c sc n.text) (meant c sc n.text)
   expr_ok c sc d (t.type_name n) = read_type_ok (slots sc) n d (type_meaning c n.text)
   expr_ok c sc d (t.this s) = tt
-  expr_ok c sc d (t.consume n s) = consumed_ok sc n.text s d (slot_of sc n.text) refl
+  expr_ok c sc d (t.consume n s) = consumed_ok sc n.text s d (slot_named sc n.text) refl
   expr_ok c sc d (t.not_ e s) = (expr_ok c sc d e, tt)
   expr_ok c sc d (t.infix_ o es s) = infix_ok c sc d o s es
-  expr_ok c sc d (t.chain h ss s) = chain_ok c sc d s read (start_of c sc h) (expr_of c sc d h) ss tt (expr_ok c sc d h)
+  expr_ok c sc d (t.chain h ss s) = chain_ok c sc d s read (chain_start c sc h) (expr_of c sc d h) ss tt (expr_ok c sc d h)
   expr_ok c sc d (t.group b s) = seq_ok c sc d s b
   expr_ok c sc d (t.if_ as' o s) = arms_ok c sc d s true as' (other_of c sc d s o) (other_ok c sc d s o)
   expr_ok c sc d (t.while_ cond b s) = (whole_ok c sc d cond, (whole_ok c sc d b, tt))
@@ -183,7 +188,7 @@ mutual
 
   assign_ok : (c : Context) (sc : Scope) (d : ℕ) (s : Span) (v left : Rose) (l : t.Expr) → Scoped (slots sc) v → Scoped (slots sc) left → Scoped (slots sc) (assign_of c sc d s v left l)
   assign_ok c sc d s v left (t.name n) h g = write_name_ok (slots sc) c s n d v (resolve c sc n.text) (meant c sc n.text) h
-  assign_ok c sc d s v left (t.chain e ss whole) h g = chain_ok c sc d whole (write s v) (start_of c sc e) (expr_of c sc d e) ss h (expr_ok c sc d e)
+  assign_ok c sc d s v left (t.chain e ss whole) h g = chain_ok c sc d whole (write s v) (chain_start c sc e) (expr_of c sc d e) ss h (expr_ok c sc d e)
   assign_ok c sc d s v left (t.number n sp) h g = value_then_ok (slots sc) s d v left h g
   assign_ok c sc d s v left (t.truth n sp) h g = value_then_ok (slots sc) s d v left h g
   assign_ok c sc d s v left (t.text n sp) h g = value_then_ok (slots sc) s d v left h g
@@ -204,25 +209,25 @@ mutual
 
   operands_ok : (c : Context) (sc : Scope) (d : ℕ) (o : Op) (s : Span) (left : Rose) (es : t.Exprs) → Scoped (slots sc) left → Scoped (slots sc) (operands_of c sc d o s left es)
   operands_ok c sc d o s left t.no_exprs h = h
-  operands_ok c sc d o s left (t.expr e es) h = operands_ok c sc d o s (rose (operation o) (join s (t.span_of e)) d (two left (expr_of c sc d e))) es (operation_ok (slots sc) o (join s (t.span_of e)) d left (expr_of c sc d e) h (expr_ok c sc d e))
+  operands_ok c sc d o s left (t.expr e es) h = operands_ok c sc d o s (rose (operation o) (joined_span s (t.span_of e)) d (two left (expr_of c sc d e))) es (operation_ok (slots sc) o (joined_span s (t.span_of e)) d left (expr_of c sc d e) h (expr_ok c sc d e))
 
   chain_ok : (c : Context) (sc : Scope) (d : ℕ) (s : Span) (u : Use) (st : Start) (r : Rose) (ss : t.Suffixes) → UseScoped (slots sc) u → Scoped (slots sc) r → Scoped (slots sc) (chain_of c sc d s u st r ss)
   chain_ok c sc d s u st r t.no_suffixes h g = other_use_ok (slots sc) u d r h g
   chain_ok c sc d s u st r (t.suffix (t.dot n) ss) h g = named_ok c sc d s u st r n ss h g
-  chain_ok c sc d s u st r (t.suffix (t.args es sp) ss) h g = chain_ok c sc d s u with_value (apply c st (join s sp) d (exprs_of c sc d es) r) ss h (apply_ok (slots sc) c st (join s sp) d (exprs_of c sc d es) r (exprs_ok c sc d es) g)
+  chain_ok c sc d s u st r (t.suffix (t.args es sp) ss) h g = chain_ok c sc d s u with_value (apply c st (joined_span s sp) d (roses_of_exprs c sc d es) r) ss h (apply_ok (slots sc) c st (joined_span s sp) d (roses_of_exprs c sc d es) r (exprs_ok c sc d es) g)
 
   named_ok : (c : Context) (sc : Scope) (d : ℕ) (s : Span) (u : Use) (st : Start) (r : Rose) (n : Name) (ss : t.Suffixes) → UseScoped (slots sc) u → Scoped (slots sc) r → Scoped (slots sc) (named_of c sc d s u st r n ss)
-  named_ok c sc d s u st r n t.no_suffixes h g = use_ok (slots sc) c u (join s n.span) n d r h g
-  named_ok c sc d s u st r n (t.suffix (t.dot m) ss) h g = named_ok c sc d s u with_value (read_field c (join s n.span) n d r) m ss h (g, tt)
-  named_ok c sc d s u st r n (t.suffix (t.args es sp) ss) h g = chain_ok c sc d s u with_value (call_named c st (join s sp) n d (exprs_of c sc d es) r) ss h (call_named_ok (slots sc) c st (join s sp) n d (exprs_of c sc d es) r (exprs_ok c sc d es) g)
+  named_ok c sc d s u st r n t.no_suffixes h g = use_ok (slots sc) c u (joined_span s n.span) n d r h g
+  named_ok c sc d s u st r n (t.suffix (t.dot m) ss) h g = named_ok c sc d s u with_value (read_field c (joined_span s n.span) n d r) m ss h (g, tt)
+  named_ok c sc d s u st r n (t.suffix (t.args es sp) ss) h g = chain_ok c sc d s u with_value (call_named c st (joined_span s sp) n d (roses_of_exprs c sc d es) r) ss h (call_named_ok (slots sc) c st (joined_span s sp) n d (roses_of_exprs c sc d es) r (exprs_ok c sc d es) g)
 
-  exprs_ok : (c : Context) (sc : Scope) (d : ℕ) (es : t.Exprs) → AllScoped (slots sc) (exprs_of c sc d es)
+  exprs_ok : (c : Context) (sc : Scope) (d : ℕ) (es : t.Exprs) → AllScoped (slots sc) (roses_of_exprs c sc d es)
   exprs_ok c sc d t.no_exprs = tt
   exprs_ok c sc d (t.expr e es) = (expr_ok c sc d e, exprs_ok c sc d es)
 
-  arms_ok : (c : Context) (sc : Scope) (d : ℕ) (s : Span) (first : Bool) (as' : t.Arms) (last : Rose) → Scoped (slots sc) last → Scoped (slots sc) (arms_of c sc d s first as' last)
+  arms_ok : (c : Context) (sc : Scope) (d : ℕ) (s : Span) (first : Bool) (as' : t.Arms) (last : Rose) → Scoped (slots sc) last → Scoped (slots sc) (rose_of_arms c sc d s first as' last)
   arms_ok c sc d s first t.no_arms last h = h
-  arms_ok c sc d s first (t.arm a as') last h = arm_ok c sc d s first a (arms_of c sc d s false as' last) (arms_ok c sc d s false as' last h)
+  arms_ok c sc d s first (t.arm a as') last h = arm_ok c sc d s first a (rose_of_arms c sc d s false as' last) (arms_ok c sc d s false as' last h)
 
   arm_ok : (c : Context) (sc : Scope) (d : ℕ) (s : Span) (first : Bool) (a : t.Arm) (rest : Rose) → Scoped (slots sc) rest → Scoped (slots sc) (arm_of c sc d s first a rest)
   arm_ok c sc d s first (t.arm_of cond b sp) rest h = if_ok (slots sc) first (arm_place first s sp) d (whole_of c sc d cond) (whole_of c sc d b) rest (whole_ok c sc d cond) (whole_ok c sc d b) h
@@ -232,15 +237,15 @@ mutual
   other_ok c sc d s (t.other b) = whole_ok c sc d b
 
   whole_ok : (c : Context) (sc : Scope) (d : ℕ) (b : t.Seq) → Scoped (slots sc) (whole_of c sc d b)
-  whole_ok c sc d (t.seq is s) = sequence_ok (slots sc) s d (items_of c sc d is) (items_ok c sc d is)
+  whole_ok c sc d (t.seq is s) = sequence_ok (slots sc) s d (roses_of_items c sc d is) (items_ok c sc d is)
 
   seq_ok : (c : Context) (sc : Scope) (d : ℕ) (s : Span) (b : t.Seq) → Scoped (slots sc) (seq_of c sc d s b)
-  seq_ok c sc d s (t.seq is sp) = sequence_ok (slots sc) s d (items_of c sc d is) (items_ok c sc d is)
+  seq_ok c sc d s (t.seq is sp) = sequence_ok (slots sc) s d (roses_of_items c sc d is) (items_ok c sc d is)
 
-  pub items_ok : (c : Context) (sc : Scope) (d : ℕ) (is : t.Items) → ItemsScoped (slots sc) (items_of c sc d is)
+  pub items_ok : (c : Context) (sc : Scope) (d : ℕ) (is : t.Items) → ItemsScoped (slots sc) (roses_of_items c sc d is)
   items_ok c sc d t.no_items = tt
-  items_ok c sc d (t.item (t.local fixed n ty e s) is) = ((expr_ok c sc d e, tt), subst (λ v. ItemsScoped v (items_of c (sc ++ defined c n ∷ []) d is)) (map_push (λ v. v.slot) sc (defined c n)) (items_ok c (sc ++ defined c n ∷ []) d is))
-  items_ok c sc d (t.item (t.plain e) is) = item_alone (slots sc) (expr_of c sc d e) (items_of c sc d is) (expr_ok c sc d e) (items_ok c sc d is)
+  items_ok c sc d (t.item (t.local fixed n ty e s) is) = ((expr_ok c sc d e, tt), subst (λ v. ItemsScoped v (roses_of_items c (sc ++ defined_local c n ∷ []) d is)) (map_push (λ v. v.slot) sc (defined_local c n)) (items_ok c (sc ++ defined_local c n ∷ []) d is))
+  items_ok c sc d (t.item (t.plain e) is) = item_alone (slots sc) (expr_of c sc d e) (roses_of_items c sc d is) (expr_ok c sc d e) (items_ok c sc d is)
 
 pub scoped : IsScoped
 scoped = expr_ok

@@ -3,11 +3,15 @@ use Rattle.std.proofs.Common.{ℕ, ◌≤◌, List, Option, Some, None, Bool, tr
 use Rattle.pc_caps.specs.declared.span.Span.{Span}
 use Rattle.pc_tree.specs.declared.kinds.Op.{Op}
 use Rattle.pc_tree.specs.declared.kinds.Op.TheVariants as op
-use Rattle.pc_tree.specs.declared.names.Name.{Name}
+use Rattle.pc_tree.specs.declared.written_names.Name.{Name}
 use Rattle.pc_tree.specs.Tree as t
 use Rattle.pc_body_spec.specs.Roses.{Rose, Roses, rose, more, no_roses, and_last, two, three}
-use Rattle.pc_body_spec.specs.Scopes.{Context, Scope, Meaning, local, field, method, nothing, TypeMeaning, primitive, created, no_value, slot_of, resolve, type_meaning, constructor_named, scope_after, deeper}
-use Rattle.pc_body_spec.specs.Expressions.{use_other, join, added_this, operation, read_field, call, read_name, consumed, write_name, new_object, create_name, read_type, Start, with_method, with_type, with_value, start_of, apply_name, apply_primitive, apply, call_named, Use, read, write, use_field, if_of, arm_place, sequence, expr_of, assign_of, infix_of, operands_of, chain_of, named_of, exprs_of, arms_of, arm_of, other_of, whole_of, seq_of, items_of, item_of}
+use Rattle.pc_body_spec.specs.Scopes.{Context, Scope, Meaning, local, field, method, nothing, TypeMeaning, primitive, created, no_value, slot_named, resolve}
+use Rattle.pc_body_spec.specs.Scopes.{type_meaning, constructor_named, scope_after, deeper}
+use Rattle.pc_body_spec.specs.Expressions.{use_other, joined_span, added_this, operation, read_field, call, read_name, consumed, write_name, new_object_rose}
+use Rattle.pc_body_spec.specs.Expressions.{create_name, read_type, Start, with_method, with_type, with_value, chain_start, apply_name, apply_primitive, apply}
+use Rattle.pc_body_spec.specs.Expressions.{call_named, Use, read, write, use_field, if_of, arm_place, sequence, expr_of, assign_of, infix_of, operands_of}
+use Rattle.pc_body_spec.specs.Expressions.{chain_of, named_of, roses_of_exprs, rose_of_arms, arm_of, other_of, whole_of, seq_of, roses_of_items, item_of}
 use Rattle.pc_body_spec.specs.Shapes.{count, Shaped, AllShaped}
 use Rattle.pc_body_spec.specs.Laws.{IsShaped}
 
@@ -60,7 +64,7 @@ write_name_ok c s n d v field h = (refl, refl, (h, ((refl, refl, tt), tt)))
 write_name_ok c s n d v method h = (refl, refl, ((refl, refl, tt), tt))
 write_name_ok c s n d v nothing h = (refl, refl, ((refl, refl, tt), tt))
 
-new_ok : (actor : Bool) (s : Span) (d : ℕ) (args : Roses) (o : Option ℕ) → AllShaped d args → Shaped d (new_object actor s d args o)
+new_ok : (actor : Bool) (s : Span) (d : ℕ) (args : Roses) (o : Option ℕ) → AllShaped d args → Shaped d (new_object_rose actor s d args o)
 new_ok true s d args (Some m) h = (refl, tt, h)
 new_ok false s d args (Some m) h = (refl, tt, h)
 new_ok true s d args None h = (refl, refl, ((refl, refl, tt), tt))
@@ -114,10 +118,10 @@ mutual
   expr_ok c sc d (t.name n) = read_name_ok c n d (resolve c sc n.text)
   expr_ok c sc d (t.type_name n) = read_type_ok n d (type_meaning c n.text)
   expr_ok c sc d (t.this s) = (refl, refl, tt)
-  expr_ok c sc d (t.consume n s) = consumed_ok s d (slot_of sc n.text)
+  expr_ok c sc d (t.consume n s) = consumed_ok s d (slot_named sc n.text)
   expr_ok c sc d (t.not_ e s) = (refl, refl, (expr_ok c sc d e, tt))
   expr_ok c sc d (t.infix_ o es s) = infix_ok c sc d o s es
-  expr_ok c sc d (t.chain h ss s) = chain_ok c sc d s read (start_of c sc h) (expr_of c sc d h) ss tt (expr_ok c sc d h)
+  expr_ok c sc d (t.chain h ss s) = chain_ok c sc d s read (chain_start c sc h) (expr_of c sc d h) ss tt (expr_ok c sc d h)
   expr_ok c sc d (t.group b s) = seq_ok c sc d s b
   expr_ok c sc d (t.if_ as' o s) = arms_ok c sc d s true as' (other_of c sc d s o) (other_ok c sc d s o)
   expr_ok c sc d (t.while_ cond b s) = (refl, refl, (whole_ok c sc d cond, (whole_ok c sc d b, tt)))
@@ -126,7 +130,7 @@ mutual
 
   assign_ok : (c : Context) (sc : Scope) (d : ℕ) (s : Span) (v left : Rose) (l : t.Expr) → Shaped d v → Shaped d left → Shaped d (assign_of c sc d s v left l)
   assign_ok c sc d s v left (t.name n) h g = write_name_ok c s n d v (resolve c sc n.text) h
-  assign_ok c sc d s v left (t.chain e ss whole) h g = chain_ok c sc d whole (write s v) (start_of c sc e) (expr_of c sc d e) ss h (expr_ok c sc d e)
+  assign_ok c sc d s v left (t.chain e ss whole) h g = chain_ok c sc d whole (write s v) (chain_start c sc e) (expr_of c sc d e) ss h (expr_ok c sc d e)
   assign_ok c sc d s v left (t.number n sp) h g = (refl, omega arith, (h, (g, tt)))
   assign_ok c sc d s v left (t.truth n sp) h g = (refl, omega arith, (h, (g, tt)))
   assign_ok c sc d s v left (t.text n sp) h g = (refl, omega arith, (h, (g, tt)))
@@ -147,25 +151,26 @@ mutual
 
   operands_ok : (c : Context) (sc : Scope) (d : ℕ) (o : Op) (s : Span) (left : Rose) (es : t.Exprs) → Shaped d left → Shaped d (operands_of c sc d o s left es)
   operands_ok c sc d o s left t.no_exprs h = h
-  operands_ok c sc d o s left (t.expr e es) h = operands_ok c sc d o s (rose (operation o) (join s (t.span_of e)) d (two left (expr_of c sc d e))) es (operation_ok o (join s (t.span_of e)) d left (expr_of c sc d e) h (expr_ok c sc d e))
+  operands_ok c sc d o s left (t.expr e es) h = operands_ok c sc d o s (rose (operation o) (joined_span s (t.span_of e)) d (two left (expr_of c sc d e))) es (operation_ok o (joined_span s (t.span_of e)) d left (expr_of c sc d e) h (expr_ok c sc d e))
 
   chain_ok : (c : Context) (sc : Scope) (d : ℕ) (s : Span) (u : Use) (st : Start) (r : Rose) (ss : t.Suffixes) → UseShaped d u → Shaped d r → Shaped d (chain_of c sc d s u st r ss)
   chain_ok c sc d s u st r t.no_suffixes h g = other_use_ok u d r h g
   chain_ok c sc d s u st r (t.suffix (t.dot n) ss) h g = named_ok c sc d s u st r n ss h g
-  chain_ok c sc d s u st r (t.suffix (t.args es sp) ss) h g = chain_ok c sc d s u with_value (apply c st (join s sp) d (exprs_of c sc d es) r) ss h (apply_ok c st (join s sp) d (exprs_of c sc d es) r (exprs_ok c sc d es) g)
+  chain_ok c sc d s u st r (t.suffix (t.args es sp) ss) h g = chain_ok c sc d s u with_value (apply c st (joined_span s sp) d (roses_of_exprs c sc d es) r) ss h (apply_ok c st (joined_span s sp) d (roses_of_exprs c sc d es) r (exprs_ok c sc d es) g)
 
   named_ok : (c : Context) (sc : Scope) (d : ℕ) (s : Span) (u : Use) (st : Start) (r : Rose) (n : Name) (ss : t.Suffixes) → UseShaped d u → Shaped d r → Shaped d (named_of c sc d s u st r n ss)
-  named_ok c sc d s u st r n t.no_suffixes h g = use_ok c u (join s n.span) n d r h g
-  named_ok c sc d s u st r n (t.suffix (t.dot m) ss) h g = named_ok c sc d s u with_value (read_field c (join s n.span) n d r) m ss h (refl, refl, (g, tt))
-  named_ok c sc d s u st r n (t.suffix (t.args es sp) ss) h g = chain_ok c sc d s u with_value (call_named c st (join s sp) n d (exprs_of c sc d es) r) ss h (call_named_ok c st (join s sp) n d (exprs_of c sc d es) r (exprs_ok c sc d es) g)
+  named_ok c sc d s u st r n t.no_suffixes h g = use_ok c u (joined_span s n.span) n d r h g
+  named_ok c sc d s u st r n (t.suffix (t.dot m) ss) h g =
+      named_ok c sc d s u with_value (read_field c (joined_span s n.span) n d r) m ss h (refl, refl, (g, tt))
+  named_ok c sc d s u st r n (t.suffix (t.args es sp) ss) h g = chain_ok c sc d s u with_value (call_named c st (joined_span s sp) n d (roses_of_exprs c sc d es) r) ss h (call_named_ok c st (joined_span s sp) n d (roses_of_exprs c sc d es) r (exprs_ok c sc d es) g)
 
-  exprs_ok : (c : Context) (sc : Scope) (d : ℕ) (es : t.Exprs) → AllShaped d (exprs_of c sc d es)
+  exprs_ok : (c : Context) (sc : Scope) (d : ℕ) (es : t.Exprs) → AllShaped d (roses_of_exprs c sc d es)
   exprs_ok c sc d t.no_exprs = tt
   exprs_ok c sc d (t.expr e es) = (expr_ok c sc d e, exprs_ok c sc d es)
 
-  arms_ok : (c : Context) (sc : Scope) (d : ℕ) (s : Span) (first : Bool) (as' : t.Arms) (last : Rose) → Shaped d last → Shaped d (arms_of c sc d s first as' last)
+  arms_ok : (c : Context) (sc : Scope) (d : ℕ) (s : Span) (first : Bool) (as' : t.Arms) (last : Rose) → Shaped d last → Shaped d (rose_of_arms c sc d s first as' last)
   arms_ok c sc d s first t.no_arms last h = h
-  arms_ok c sc d s first (t.arm a as') last h = arm_ok c sc d s first a (arms_of c sc d s false as' last) (arms_ok c sc d s false as' last h)
+  arms_ok c sc d s first (t.arm a as') last h = arm_ok c sc d s first a (rose_of_arms c sc d s false as' last) (arms_ok c sc d s false as' last h)
 
   arm_ok : (c : Context) (sc : Scope) (d : ℕ) (s : Span) (first : Bool) (a : t.Arm) (rest : Rose) → Shaped d rest → Shaped d (arm_of c sc d s first a rest)
   arm_ok c sc d s first (t.arm_of cond b sp) rest h = if_ok first (arm_place first s sp) d (whole_of c sc d cond) (whole_of c sc d b) rest (whole_ok c sc d cond) (whole_ok c sc d b) h
@@ -175,12 +180,12 @@ mutual
   other_ok c sc d s (t.other b) = whole_ok c sc d b
 
   whole_ok : (c : Context) (sc : Scope) (d : ℕ) (b : t.Seq) → Shaped d (whole_of c sc d b)
-  whole_ok c sc d (t.seq is s) = sequence_ok s d (items_of c sc d is) (items_ok c sc d is)
+  whole_ok c sc d (t.seq is s) = sequence_ok s d (roses_of_items c sc d is) (items_ok c sc d is)
 
   seq_ok : (c : Context) (sc : Scope) (d : ℕ) (s : Span) (b : t.Seq) → Shaped d (seq_of c sc d s b)
-  seq_ok c sc d s (t.seq is sp) = sequence_ok s d (items_of c sc d is) (items_ok c sc d is)
+  seq_ok c sc d s (t.seq is sp) = sequence_ok s d (roses_of_items c sc d is) (items_ok c sc d is)
 
-  pub items_ok : (c : Context) (sc : Scope) (d : ℕ) (is : t.Items) → AllShaped d (items_of c sc d is)
+  pub items_ok : (c : Context) (sc : Scope) (d : ℕ) (is : t.Items) → AllShaped d (roses_of_items c sc d is)
   items_ok c sc d t.no_items = tt
   items_ok c sc d (t.item i is) = (item_ok c sc d i, items_ok c (scope_after c sc i) d is)
 

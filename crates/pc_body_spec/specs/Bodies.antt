@@ -3,13 +3,13 @@ use Rattle.std.specs.Prelude.{Bool, true, false, List, [], ◌∷◌, Option, So
 use Rattle.pc_caps.specs.declared.span.Span.{Span}
 use Rattle.pc_tree.specs.declared.kinds.MethodWord.{MethodWord}
 use Rattle.pc_tree.specs.declared.kinds.MethodWord.TheVariants as word
-use Rattle.pc_tree.specs.declared.names.Name.{Name}
-use Rattle.pc_tree.specs.declared.names.TypeRef.{TypeRef}
+use Rattle.pc_tree.specs.declared.written_names.Name.{Name}
+use Rattle.pc_tree.specs.declared.written_names.TypeRef.{TypeRef}
 use Rattle.pc_tree.specs.Tree as t
 use Rattle.pc_core.specs.declared.nodes.NodeKind.TheVariants as node
 use Rattle.pc_body_spec.specs.Roses.{Rose, Roses, rose, more, one, and_last}
 use Rattle.pc_body_spec.specs.Scopes.{Context, params_scope}
-use Rattle.pc_body_spec.specs.Expressions.{expr_of, items_of, write_field, added_this, added_none, sequence}
+use Rattle.pc_body_spec.specs.Expressions.{expr_of, roses_of_items, write_field, added_this, added_none, sequence}
 
 -- The initial values of fields are written to the fields of `this`, in order, before what follows. No parameter is
 -- visible in them.
@@ -44,7 +44,7 @@ abbrev pub body_around : Span → Span → Roses → Rose
 body_around name s items = rose node.Body name 0 (one (sequence s 0 items))
 
 abbrev pub body_with : Context → List t.Field → t.Method → t.Seq → Rose
-body_with c fs m (t.seq is s) = body_around m.name.span s (initials_then c (initial_fields m.word fs) (none_last (gives_none m.word m.result) m.name.span (items_of c (params_scope m.params) 0 is)))
+body_with c fs m (t.seq is s) = body_around m.name.span s (initials_then c (initial_fields m.word fs) (none_last (gives_none m.word m.result) m.name.span (roses_of_items c (params_scope m.params) 0 is)))
 
 abbrev pub maybe_body : Context → List t.Field → t.Method → Option t.Seq → Option Rose
 maybe_body c fs m None = None

@@ -5,15 +5,15 @@ use Rattle.pc_caps.specs.declared.capability.Cap.TheVariants as cap
 use Rattle.pc_tree.specs.declared.kinds.EntityKind.TheVariants as kind
 use Rattle.pc_tree.specs.declared.kinds.MethodWord.TheVariants as word
 use Rattle.pc_tree.specs.declared.kinds.Op.TheVariants as op
-use Rattle.pc_tree.specs.declared.names.Name.{Name}
-use Rattle.pc_tree.specs.declared.names.TypeRef.{TypeRef}
+use Rattle.pc_tree.specs.declared.written_names.Name.{Name}
+use Rattle.pc_tree.specs.declared.written_names.TypeRef.{TypeRef}
 use Rattle.pc_tree.specs.Tree as t
 use Rattle.pc_tree.specs.BuiltIn.{none_entity}
 use Rattle.pc_core.specs.declared.nodes.SlotKind.TheVariants as slot
 use Rattle.pc_core.specs.declared.nodes.Node.{Node}
 use Rattle.pc_core.specs.declared.nodes.NodeKind.TheVariants as node
 use Rattle.pc_body_spec.specs.Roses.{put, node_of}
-use Rattle.pc_body_spec.specs.Scopes.{Context, Known, Constructor, Placed}
+use Rattle.pc_body_spec.specs.Scopes.{Context, KnownEntity, Constructor, PlacedLocal}
 use Rattle.pc_body_spec.specs.Bodies.{body_with}
 use Rattle.pc_body_spec.specs.Faults.{body_faults}
 use Rattle.pc_body_spec.specs.Slots.{slots_of, method_locals, local_slot}
@@ -27,14 +27,14 @@ name text s = record { text = text; span = s }
 abbrev sort : List ℕ → Span → TypeRef
 sort text s = record { name = name text s; cap = None; hat = false }
 
-abbrev known : List ℕ → Known
+abbrev known : List ℕ → KnownEntity
 known text = record { name = text; kind = kind.Primitive; cap = cap.Val; constructors = [] }
 
 abbrev constructor : ℕ → Constructor
 constructor m = record { name = codes "create"; method = m }
 
 -- The built-in entities, and then `class C` and `actor Main`, whose constructors are methods 1 and 2.
-abbrev entities : List Known
+abbrev entities : List KnownEntity
 entities = known (codes "None") ∷ known (codes "U64") ∷ known (codes "Bool") ∷ known (codes "String")
     ∷ record { name = codes "Env"; kind = kind.Class; cap = cap.Val; constructors = [] }
     ∷ record { name = codes "OutStream"; kind = kind.Actor; cap = cap.Tag; constructors = [] }
@@ -44,10 +44,10 @@ entities = known (codes "None") ∷ known (codes "U64") ∷ known (codes "Bool")
 abbrev texts : List (List ℕ)
 texts = codes "out" ∷ codes "print" ∷ codes "create" ∷ codes "f" ∷ codes "g" ∷ codes "m" ∷ codes "go" ∷ codes "make" ∷ codes "apply" ∷ []
 
-abbrev context : List Placed → Context
+abbrev context : List PlacedLocal → Context
 context slots = record { fields = codes "f" ∷ []; methods = codes "m" ∷ codes "go" ∷ codes "make" ∷ codes "create" ∷ []; entities = entities; texts = texts; slots = slots }
 
-abbrev placed : (start slot : ℕ) → Placed
+abbrev placed : (start slot : ℕ) → PlacedLocal
 placed start slot = record { start = start; slot = slot }
 
 -- The body of this `create`, whose `C` is `C.create()`:
@@ -61,7 +61,7 @@ first_body = t.seq (t.item (t.local true (name (codes "a") (at 53 54)) (Some (re
 abbrev pub first : t.Method
 first = record { word = word.New; cap = None; name = (name (codes "create") (at 25 31)); params = record { name = (name (codes "env") (at 32 35)); ty = (sort (codes "Env") (at 37 40)) } ∷ []; result = None; body = Some first_body }
 
-abbrev pub first_slots : List Placed
+abbrev pub first_slots : List PlacedLocal
 first_slots = placed 53 2 ∷ []
 
 abbrev pub first_nodes : List Node
@@ -89,7 +89,7 @@ second_body = t.seq (t.item (t.plain (t.if_ (t.arm (t.arm_of (t.seq (t.item (t.p
 abbrev pub second : t.Method
 second = record { word = word.Fun; cap = None; name = (name (codes "go") (at 6 8)); params = record { name = (name (codes "b") (at 9 10)); ty = (sort (codes "Bool") (at 12 16)) } ∷ []; result = None; body = Some second_body }
 
-abbrev pub second_slots : List Placed
+abbrev pub second_slots : List PlacedLocal
 second_slots = []
 
 abbrev pub second_nodes : List Node
@@ -131,7 +131,7 @@ third_body = t.seq (t.item (t.plain (t.recover (Some cap.Iso) (t.seq (t.item (t.
 abbrev pub third : t.Method
 third = record { word = word.Fun; cap = Some cap.Ref; name = (name (codes "make") (at 10 14)); params = []; result = (Some (sort (codes "C") (at 18 19))); body = Some third_body }
 
-abbrev pub third_slots : List Placed
+abbrev pub third_slots : List PlacedLocal
 third_slots = placed 39 1 ∷ []
 
 abbrev pub third_nodes : List Node

@@ -3,17 +3,18 @@ use Rattle.std.specs.Prelude.{ℕ, ◌-◌, Bool, true, false, List, Option, Som
 use Rattle.pc_caps.specs.declared.span.Span.{Span}
 use Rattle.pc_tree.specs.declared.kinds.Op.{Op}
 use Rattle.pc_tree.specs.declared.kinds.Op.TheVariants as op
-use Rattle.pc_tree.specs.declared.names.Name.{Name}
+use Rattle.pc_tree.specs.declared.written_names.Name.{Name}
 use Rattle.pc_tree.specs.Tree as t
 use Rattle.pc_tree.specs.BuiltIn.{none_entity}
 use Rattle.pc_core.specs.declared.nodes.NodeKind.{NodeKind}
 use Rattle.pc_core.specs.declared.nodes.NodeKind.TheVariants as node
 use Rattle.pc_body_spec.specs.Roses.{Rose, Roses, rose, leaf, no_roses, more, one, two, three, and_last}
-use Rattle.pc_body_spec.specs.Scopes.{Context, Scope, Meaning, local, field, method, TypeMeaning, primitive, created, no_value, slot_of, slot_at, text_of, resolve, type_meaning, constructor_named, scope_after, deeper}
+use Rattle.pc_body_spec.specs.Scopes.{Context, Scope, Meaning, local, field, method, TypeMeaning, primitive, created, no_value, slot_named, slot_at}
+use Rattle.pc_body_spec.specs.Scopes.{number_of_text, resolve, type_meaning, constructor_named, scope_after, deeper}
 
 -- From the start of the first to the end of the second.
-abbrev pub join : Span → Span → Span
-join a b = record { start = a.start; end = b.end }
+abbrev pub joined_span : Span → Span → Span
+joined_span a b = record { start = a.start; end = b.end }
 
 -- The word `end` of an `if`, which is the last word of its span.
 abbrev pub end_word : Span → Span
@@ -38,15 +39,15 @@ operation o = node.Binary o
 
 -- Reading a field of its origin.
 abbrev pub read_field : Context → Span → Name → ℕ → Rose → Rose
-read_field c s n d origin = rose (node.Field (text_of c n.text)) s d (one origin)
+read_field c s n d origin = rose (node.Field (number_of_text c n.text)) s d (one origin)
 
 -- Writing a field: the value is evaluated before the origin.
 abbrev pub write_field : Context → Span → Name → ℕ → Rose → Rose → Rose
-write_field c s n d value origin = rose (node.SetField (text_of c n.text)) s d (two value origin)
+write_field c s n d value origin = rose (node.SetField (number_of_text c n.text)) s d (two value origin)
 
 -- A call evaluates its arguments, and then its receiver.
 abbrev pub call : Context → Span → List ℕ → ℕ → Roses → Rose → Rose
-call c s name d args receiver = rose (node.Call (text_of c name)) s d (and_last args receiver)
+call c s name d args receiver = rose (node.Call (number_of_text c name)) s d (and_last args receiver)
 
 -- Reading a bare name.
 abbrev pub read_name : Context → Name → ℕ → Meaning → Rose
@@ -65,10 +66,10 @@ write_name c s n d value field = write_field c s n d value (added_this n d)
 write_name c s n d value m = gap s d
 
 -- A new object by a constructor: of an actor, or of a class.
-abbrev pub new_object : Bool → Span → ℕ → Roses → Option ℕ → Rose
-new_object true s d args (Some m) = rose (node.Spawn m) s d args
-new_object false s d args (Some m) = rose (node.New m) s d args
-new_object actor s d args None = gap s d
+abbrev pub new_object_rose : Bool → Span → ℕ → Roses → Option ℕ → Rose
+new_object_rose true s d args (Some m) = rose (node.Spawn m) s d args
+new_object_rose false s d args (Some m) = rose (node.New m) s d args
+new_object_rose actor s d args None = gap s d
 
 abbrev pub create_name : List ℕ
 create_name = codes "create"
@@ -76,7 +77,7 @@ create_name = codes "create"
 -- A type name without suffixes: a primitive's value, or a new object by `create`.
 abbrev pub read_type : Name → ℕ → TypeMeaning → Rose
 read_type n d (primitive e) = leaf (node.Prim e) n.span d
-read_type n d (created actor cs) = new_object actor n.span d no_roses (constructor_named cs create_name)
+read_type n d (created actor cs) = new_object_rose actor n.span d no_roses (constructor_named cs create_name)
 read_type n d no_value = gap n.span d
 
 -- How a chain of suffixes starts.
@@ -92,10 +93,10 @@ abbrev pub start_with_name : Name → Meaning → Start
 start_with_name n method = with_method n
 start_with_name n m = with_value
 
-abbrev pub start_of : Context → Scope → t.Expr → Start
-start_of c scope (t.name n) = start_with_name n (resolve c scope n.text)
-start_of c scope (t.type_name n) = with_type (type_meaning c n.text)
-start_of c scope e = with_value
+abbrev pub chain_start : Context → Scope → t.Expr → Start
+chain_start c scope (t.name n) = start_with_name n (resolve c scope n.text)
+chain_start c scope (t.type_name n) = with_type (type_meaning c n.text)
+chain_start c scope e = with_value
 
 abbrev pub apply_name : List ℕ
 apply_name = codes "apply"
@@ -109,12 +110,12 @@ apply_primitive c e s d (more x xs) origin = call c s apply_name d (more x xs) o
 abbrev pub apply : Context → Start → Span → ℕ → Roses → Rose → Rose
 apply c (with_method n) s d args origin = call c s n.text d args (added_this n d)
 apply c (with_type (primitive e)) s d args origin = apply_primitive c e s d args origin
-apply c (with_type (created actor cs)) s d args origin = new_object actor s d args (constructor_named cs create_name)
+apply c (with_type (created actor cs)) s d args origin = new_object_rose actor s d args (constructor_named cs create_name)
 apply c start s d args origin = call c s apply_name d args origin
 
 -- `.n` and arguments, after the start of a chain or after another suffix.
 abbrev pub call_named : Context → Start → Span → Name → ℕ → Roses → Rose → Rose
-call_named c (with_type (created actor cs)) s n d args origin = new_object actor s d args (constructor_named cs n.text)
+call_named c (with_type (created actor cs)) s n d args origin = new_object_rose actor s d args (constructor_named cs n.text)
 call_named c start s n d args origin = call c s n.text d args origin
 
 -- Whether the field at the end of a chain is read, or written with this value by an assignment with this span.
@@ -144,19 +145,19 @@ if_of false s d parts = rose node.Seq s d (one (rose node.If s d parts))
 -- The span of an arm: that of the whole for the first, else from its `elseif` through `end`.
 abbrev pub arm_place : Bool → Span → Span → Span
 arm_place true whole arm = whole
-arm_place false whole arm = join arm whole
+arm_place false whole arm = joined_span arm whole
 
 -- The value None, if nothing is written.
 abbrev pub added_none : Span → ℕ → Rose
 added_none s d = leaf (node.Prim none_entity) s d
 
 -- A sequence has an item; without items, which no text spells, it gives None.
-abbrev pub or_none : Span → ℕ → Roses → Roses
-or_none s d no_roses = one (added_none s d)
-or_none s d (more r rs) = more r rs
+abbrev pub or_added_none : Span → ℕ → Roses → Roses
+or_added_none s d no_roses = one (added_none s d)
+or_added_none s d (more r rs) = more r rs
 
 abbrev pub sequence : Span → ℕ → Roses → Rose
-sequence s d items = rose node.Seq s d (or_none s d items)
+sequence s d items = rose node.Seq s d (or_added_none s d items)
 
 -- A missing `else` gives None, with the span of the word `end`.
 abbrev pub no_else : Span → ℕ → Rose
@@ -171,12 +172,12 @@ abbrev mutual
   expr_of c sc d (t.name n) = read_name c n d (resolve c sc n.text)
   expr_of c sc d (t.type_name n) = read_type n d (type_meaning c n.text)
   expr_of c sc d (t.this s) = leaf node.This s d
-  expr_of c sc d (t.consume n s) = consumed s d (slot_of sc n.text)
+  expr_of c sc d (t.consume n s) = consumed s d (slot_named sc n.text)
   expr_of c sc d (t.not_ e s) = rose node.Not s d (one (expr_of c sc d e))
   expr_of c sc d (t.infix_ o es s) = infix_of c sc d o s es
-  expr_of c sc d (t.chain h ss s) = chain_of c sc d s read (start_of c sc h) (expr_of c sc d h) ss
+  expr_of c sc d (t.chain h ss s) = chain_of c sc d s read (chain_start c sc h) (expr_of c sc d h) ss
   expr_of c sc d (t.group b s) = seq_of c sc d s b
-  expr_of c sc d (t.if_ as' o s) = arms_of c sc d s true as' (other_of c sc d s o)
+  expr_of c sc d (t.if_ as' o s) = rose_of_arms c sc d s true as' (other_of c sc d s o)
   expr_of c sc d (t.while_ cond b s) = rose node.While s d (two (whole_of c sc d cond) (whole_of c sc d b))
   expr_of c sc d (t.recover cap b s) = rose (node.Recover cap) s d (one (whole_of c sc (deeper d) b))
   expr_of c sc d (t.assign l r s) = assign_of c sc d s (expr_of c sc d r) (expr_of c sc d l) l
@@ -184,7 +185,7 @@ abbrev mutual
   -- What is left of `=` gets the value. Only names and fields can be there; `left` is what it would be on its own.
   pub assign_of : Context → Scope → ℕ → Span → Rose → Rose → t.Expr → Rose
   assign_of c sc d s value left (t.name n) = write_name c s n d value (resolve c sc n.text)
-  assign_of c sc d s value left (t.chain h ss whole) = chain_of c sc d whole (write s value) (start_of c sc h) (expr_of c sc d h) ss
+  assign_of c sc d s value left (t.chain h ss whole) = chain_of c sc d whole (write s value) (chain_start c sc h) (expr_of c sc d h) ss
   assign_of c sc d s value left e = value_then s d value left
 
   -- Chains of operators nest to the left, and the span of each reaches from the start of the chain to its own right
@@ -195,29 +196,31 @@ abbrev mutual
 
   pub operands_of : Context → Scope → ℕ → Op → Span → Rose → t.Exprs → Rose
   operands_of c sc d o s left t.no_exprs = left
-  operands_of c sc d o s left (t.expr e es) = operands_of c sc d o s (rose (operation o) (join s (t.span_of e)) d (two left (expr_of c sc d e))) es
+  operands_of c sc d o s left (t.expr e es) = operands_of c sc d o s (rose (operation o) (joined_span s (t.span_of e)) d (two left (expr_of c sc d e))) es
 
   -- So do chains of suffixes: a name directly followed by arguments is a call, and a name alone a field. `origin` is
   -- what comes before the suffixes, and s is the span of the whole chain.
   pub chain_of : Context → Scope → ℕ → Span → Use → Start → Rose → t.Suffixes → Rose
   chain_of c sc d s u st origin t.no_suffixes = use_other u d origin
   chain_of c sc d s u st origin (t.suffix (t.dot n) ss) = named_of c sc d s u st origin n ss
-  chain_of c sc d s u st origin (t.suffix (t.args es sp) ss) = chain_of c sc d s u with_value (apply c st (join s sp) d (exprs_of c sc d es) origin) ss
+  chain_of c sc d s u st origin (t.suffix (t.args es sp) ss) =
+      chain_of c sc d s u with_value (apply c st (joined_span s sp) d (roses_of_exprs c sc d es) origin) ss
 
   -- The suffixes after `.n`.
   pub named_of : Context → Scope → ℕ → Span → Use → Start → Rose → Name → t.Suffixes → Rose
-  named_of c sc d s u st origin n t.no_suffixes = use_field c u (join s n.span) n d origin
-  named_of c sc d s u st origin n (t.suffix (t.dot m) ss) = named_of c sc d s u with_value (read_field c (join s n.span) n d origin) m ss
-  named_of c sc d s u st origin n (t.suffix (t.args es sp) ss) = chain_of c sc d s u with_value (call_named c st (join s sp) n d (exprs_of c sc d es) origin) ss
+  named_of c sc d s u st origin n t.no_suffixes = use_field c u (joined_span s n.span) n d origin
+  named_of c sc d s u st origin n (t.suffix (t.dot m) ss) = named_of c sc d s u with_value (read_field c (joined_span s n.span) n d origin) m ss
+  named_of c sc d s u st origin n (t.suffix (t.args es sp) ss) =
+      chain_of c sc d s u with_value (call_named c st (joined_span s sp) n d (roses_of_exprs c sc d es) origin) ss
 
-  pub exprs_of : Context → Scope → ℕ → t.Exprs → Roses
-  exprs_of c sc d t.no_exprs = no_roses
-  exprs_of c sc d (t.expr e es) = more (expr_of c sc d e) (exprs_of c sc d es)
+  pub roses_of_exprs : Context → Scope → ℕ → t.Exprs → Roses
+  roses_of_exprs c sc d t.no_exprs = no_roses
+  roses_of_exprs c sc d (t.expr e es) = more (expr_of c sc d e) (roses_of_exprs c sc d es)
 
   -- The arms of an `if`, each as the `else` of the one before it. `last` is the value of the last `else`.
-  pub arms_of : Context → Scope → ℕ → Span → Bool → t.Arms → Rose → Rose
-  arms_of c sc d s first t.no_arms last = last
-  arms_of c sc d s first (t.arm a as') last = arm_of c sc d s first a (arms_of c sc d s false as' last)
+  pub rose_of_arms : Context → Scope → ℕ → Span → Bool → t.Arms → Rose → Rose
+  rose_of_arms c sc d s first t.no_arms last = last
+  rose_of_arms c sc d s first (t.arm a as') last = arm_of c sc d s first a (rose_of_arms c sc d s false as' last)
 
   pub arm_of : Context → Scope → ℕ → Span → Bool → t.Arm → Rose → Rose
   arm_of c sc d s first (t.arm_of cond b sp) otherwise = if_of first (arm_place first s sp) d (three (whole_of c sc d cond) (whole_of c sc d b) otherwise)
@@ -228,15 +231,15 @@ abbrev mutual
 
   -- A sequence, with the span from its first item to its last.
   pub whole_of : Context → Scope → ℕ → t.Seq → Rose
-  whole_of c sc d (t.seq is s) = sequence s d (items_of c sc d is)
+  whole_of c sc d (t.seq is s) = sequence s d (roses_of_items c sc d is)
 
   -- A sequence with another span: that of its parentheses.
   pub seq_of : Context → Scope → ℕ → Span → t.Seq → Rose
-  seq_of c sc d s (t.seq is sp) = sequence s d (items_of c sc d is)
+  seq_of c sc d s (t.seq is sp) = sequence s d (roses_of_items c sc d is)
 
-  pub items_of : Context → Scope → ℕ → t.Items → Roses
-  items_of c sc d t.no_items = no_roses
-  items_of c sc d (t.item i is) = more (item_of c sc d i) (items_of c (scope_after c sc i) d is)
+  pub roses_of_items : Context → Scope → ℕ → t.Items → Roses
+  roses_of_items c sc d t.no_items = no_roses
+  roses_of_items c sc d (t.item i is) = more (item_of c sc d i) (roses_of_items c (scope_after c sc i) d is)
 
   pub item_of : Context → Scope → ℕ → t.Item → Rose
   item_of c sc d (t.local fixed n ty e s) = rose (node.Define (slot_at c.slots n.span.start)) s d (one (expr_of c sc d e))

@@ -2,12 +2,12 @@
 use Rattle.std.specs.Prelude.{◌≡◌, ◌⊎◌, ℕ, Bool, ◌+◌, ◌<◌, ◌≤◌, List, [], ◌∷◌, ◌++◌, length, Some, Ok, slice_get}
 use Rattle.pc_core.specs.declared.nodes.Node.{Node}
 use Rattle.pc_lists.specs.Places.{Each, Has, Ascends, IsIn}
-use Rattle.pc_core.specs.Methods.{PostOrder, Uses}
+use Rattle.pc_core.specs.Methods.{PostOrder, UsesSlot}
 use Rattle.pc_core.specs.declared.nodes.NodeKind.TheVariants as node
 use Rattle.pc_caps.specs.declared.span.Span.{Span}
 use Rattle.pc_core.specs.Nodes.{HasArity, inner_depth}
 use Rattle.pc_caps.specs.declared.capability.Cap.{Cap}
-use Rattle.pc_tree.specs.declared.names.TypeRef.{TypeRef}
+use Rattle.pc_tree.specs.declared.written_names.TypeRef.{TypeRef}
 use Rattle.pc_tree.specs.Tree as t
 use Rattle.pc_body_spec.specs.Roses.{Rose, put}
 use Rattle.pc_caps.specs.Limits.{node_limit, slot_limit}
@@ -20,8 +20,8 @@ use Rattle.pc_body_spec.specs.Methods.{slot_names, local_names, method_of, added
 use Rattle.pc_body_spec.specs.Slots.{Local, locals_of, initial_locals, method_locals, slots_of, added_slots, written_of}
 use Rattle.pc_body_spec.specs.Counts.{times, local_times}
 use Rattle.pc_body_spec.specs.Places.{body_places, initial_places, fault_start, local_start}
-use Rattle.pc_body_spec.specs.Faults.{Fault, faults_of, written_faults, body_faults, initial_faults}
-use Rattle.pc_body_spec.specs.Meanings.{Every, Names}
+use Rattle.pc_body_spec.specs.Faults.{BodyNameFault, faults_of, written_faults, body_faults, initial_faults}
+use Rattle.pc_body_spec.specs.Meanings.{Every, NamesWhatIsThere}
 
 -- The result of appending a rose of method m to some nodes: `own` are its nodes, and n is the last of them.
 pub record WasPut (m n : ℕ) (before after : List Node) : Type 0 where
@@ -44,7 +44,7 @@ IsScoped = (c : Context) (scope : Scope) (d : ℕ) (e : t.Expr) → Scoped (slot
 
 -- Every program has texts, for example the built-in names.
 abbrev pub NothingIsMissing : Type 0
-NothingIsMissing = (c : Context) (scope : Scope) (d : ℕ) (e : t.Expr) → 0 < length c.texts → faults_of c scope e ≡ [] → Every (Names c) (expr_of c scope d e)
+NothingIsMissing = (c : Context) (scope : Scope) (d : ℕ) (e : t.Expr) → 0 < length c.texts → faults_of c scope e ≡ [] → Every (NamesWhatIsThere c) (expr_of c scope d e)
 
 -- A node has as many children as its kind requires, and each of them is in the list, at the required depth.
 pub record HasChildren (nodes : List Node) (x : Node) : Type 0 where
@@ -64,7 +64,7 @@ pub record BodyStands (c : Context) (m n : ℕ) (before after : List Node) : Typ
   pub is_body : root.kind ≡ node.Body
   pub depth : root.depth ≡ 0
   pub children : (i : ℕ) (x : Node) → length before ≤ i → slice_get after i ≡ Some x → HasChildren after x
-  pub names : (i : ℕ) (x : Node) → length before ≤ i → i < n → slice_get after i ≡ Some x → Names c x.kind
+  pub names : (i : ℕ) (x : Node) → length before ≤ i → i < n → slice_get after i ≡ Some x → NamesWhatIsThere c x.kind
 
 abbrev pub BodiesStand : Type 0
 BodiesStand = (c : Context) (fs : List t.Field) (x : t.Method) (r : Rose) (m n : ℕ) (before after : List Node) → 0 < length c.texts → body_faults c fs x ≡ [] → body_of c fs x ≡ Some r → put m r before ≡ Some (n, after) → BodyStands c m n before after
@@ -110,12 +110,12 @@ abbrev pub LocalsAreDefined : Type 0
 LocalsAreDefined =
     (visible : List ℕ) (m : ℕ) (r : Rose) (n : ℕ) (before after : List Node) → Scoped visible r → put m r before ≡ Some (n, after)
     → (i : ℕ) (x : Node) → length before ≤ i → slice_get after i ≡ Some x
-    → ((s : ℕ) → Uses s x.kind → IsIn s visible ⊎ IsDefined after i s) × ((s : ℕ) → x.kind ≡ node.Define s → IsItem after i)
+    → ((s : ℕ) → UsesSlot s x.kind → IsIn s visible ⊎ IsDefined after i s) × ((s : ℕ) → x.kind ≡ node.Define s → IsItem after i)
 
 -- If the names of a body are in the order of the text, as they are in a tree that a text spells, the first fault is the
 -- one with the smallest start.
 abbrev pub FirstIsLeast : Type 0
-FirstIsLeast = (c : Context) (fs : List t.Field) (x : t.Method) (g : Fault) (rest : List Fault) → Ascends (body_places fs x) → body_faults c fs x ≡ g ∷ rest → Each (λ i h. fault_start g ≤ fault_start h) (body_faults c fs x)
+FirstIsLeast = (c : Context) (fs : List t.Field) (x : t.Method) (g : BodyNameFault) (rest : List BodyNameFault) → Ascends (body_places fs x) → body_faults c fs x ≡ g ∷ rest → Each (λ i h. fault_start g ≤ fault_start h) (body_faults c fs x)
 
 -- Then each local has the slot given by its place among the locals, and no other local has it.
 abbrev pub LocalsHaveSlots : Type 0

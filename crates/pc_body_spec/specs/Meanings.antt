@@ -8,7 +8,7 @@ use Rattle.pc_core.specs.declared.nodes.NodeKind.TheVariants as node
 use Rattle.pc_lists.specs.Places.{Has}
 use Rattle.pc_core.specs.Nodes.{is_binary}
 use Rattle.pc_body_spec.specs.Roses.{Rose, Roses, rose, more, no_roses}
-use Rattle.pc_body_spec.specs.Scopes.{Context, Known, Constructor}
+use Rattle.pc_body_spec.specs.Scopes.{Context, KnownEntity, Constructor}
 
 -- Each node of a rose has this property.
 abbrev mutual
@@ -21,21 +21,21 @@ abbrev mutual
 
 -- Entity number e is of this kind.
 abbrev pub IsOfKind : Context → EntityKind → ℕ → Type 0
-IsOfKind c k e = (x : Known) × (slice_get c.entities e ≡ Some x) × (x.kind ≡ k)
+IsOfKind c k e = (x : KnownEntity) × (slice_get c.entities e ≡ Some x) × (x.kind ≡ k)
 
 -- The number of a constructor of an entity of this kind.
 abbrev pub IsConstructor : Context → EntityKind → ℕ → Type 0
-IsConstructor c k m = (e : ℕ) × (x : Known) × (slice_get c.entities e ≡ Some x) × (x.kind ≡ k) × ((y : Constructor) × Has x.constructors y × (y.method ≡ m))
+IsConstructor c k m = (e : ℕ) × (x : KnownEntity) × (slice_get c.entities e ≡ Some x) × (x.kind ≡ k) × ((y : Constructor) × Has x.constructors y × (y.method ≡ m))
 
 -- A node of this kind refers to something that exists: None or a primitive of the program, a constructor of a class or
 -- of an actor, or a text; an operator is one without a node kind of its own. There is no body among them.
-abbrev pub Names : Context → NodeKind → Type 0
-Names c (node.Prim e) = (e ≡ none_entity) ⊎ ((first_own ≤ e) × IsOfKind c kind.Primitive e)
-Names c (node.New m) = IsConstructor c kind.Class m
-Names c (node.Spawn m) = IsConstructor c kind.Actor m
-Names c (node.Field f) = f < length c.texts
-Names c (node.SetField f) = f < length c.texts
-Names c (node.Call f) = f < length c.texts
-Names c (node.Binary o) = is_binary o ≡ true
-Names c node.Body = ⊥
-Names c k = Unit {0}
+abbrev pub NamesWhatIsThere : Context → NodeKind → Type 0
+NamesWhatIsThere c (node.Prim e) = (e ≡ none_entity) ⊎ ((first_own ≤ e) × IsOfKind c kind.Primitive e)
+NamesWhatIsThere c (node.New m) = IsConstructor c kind.Class m
+NamesWhatIsThere c (node.Spawn m) = IsConstructor c kind.Actor m
+NamesWhatIsThere c (node.Field f) = f < length c.texts
+NamesWhatIsThere c (node.SetField f) = f < length c.texts
+NamesWhatIsThere c (node.Call f) = f < length c.texts
+NamesWhatIsThere c (node.Binary o) = is_binary o ≡ true
+NamesWhatIsThere c node.Body = ⊥
+NamesWhatIsThere c k = Unit {0}

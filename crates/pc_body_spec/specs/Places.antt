@@ -1,9 +1,9 @@
 -- The places at which a body can have faults and locals, in the order of the text.
 use Rattle.std.specs.Prelude.{ℕ, List, [], ◌∷◌, ◌++◌, Option, Some, None}
-use Rattle.pc_tree.specs.declared.names.TypeRef.{TypeRef}
+use Rattle.pc_tree.specs.declared.written_names.TypeRef.{TypeRef}
 use Rattle.pc_tree.specs.Tree as t
 use Rattle.pc_body_spec.specs.Bodies.{initial_fields}
-use Rattle.pc_body_spec.specs.Faults.{Fault, unknown, double, long_text}
+use Rattle.pc_body_spec.specs.Faults.{BodyNameFault, unknown, double, long_text}
 use Rattle.pc_body_spec.specs.Slots.{Local}
 
 -- The places of names, type names and texts.
@@ -77,7 +77,7 @@ abbrev pub body_places : List t.Field → t.Method → List ℕ
 body_places fs m = initial_places (initial_fields m.word fs) ++ written_body_places m.body
 
 -- The start of a fault.
-abbrev pub fault_start : Fault → ℕ
+abbrev pub fault_start : BodyNameFault → ℕ
 fault_start (unknown s) = s.start
 fault_start (double s) = s.start
 fault_start (long_text s) = s.start

@@ -4,7 +4,7 @@ use Rattle.std.specs.Str.{bytes_eq}
 use Rattle.pc_caps.specs.declared.capability.Cap.{Cap}
 use Rattle.pc_tree.specs.declared.kinds.EntityKind.{EntityKind}
 use Rattle.pc_tree.specs.declared.kinds.EntityKind.TheVariants as kind
-use Rattle.pc_tree.specs.declared.names.Name.{Name}
+use Rattle.pc_tree.specs.declared.written_names.Name.{Name}
 use Rattle.pc_tree.specs.declared.file.ParamDef.{ParamDef}
 use Rattle.pc_tree.specs.Tree as t
 use Rattle.pc_tree.specs.BuiltIn.{none_entity, first_own}
@@ -16,7 +16,7 @@ pub record Constructor : Type 0 where
 
 -- What a body knows of an entity of the program. A constructor that is added because none is written is among the
 -- constructors.
-pub record Known : Type 0 where
+pub record KnownEntity : Type 0 where
   pub name : List ℕ
   pub kind : EntityKind
   -- the capability of its type if none is written
@@ -24,7 +24,7 @@ pub record Known : Type 0 where
   pub constructors : List Constructor
 
 -- The slot of a local, found by the place of its name in its definition.
-pub record Placed : Type 0 where
+pub record PlacedLocal : Type 0 where
   pub start : ℕ
   pub slot : ℕ
 
@@ -34,11 +34,11 @@ pub record Context : Type 0 where
   pub fields : List (List ℕ)
   pub methods : List (List ℕ)
   -- the entities of the program by their numbers, the built-in ones first
-  pub entities : List Known
+  pub entities : List KnownEntity
   -- the texts of the program by their numbers
   pub texts : List (List ℕ)
   -- the slots of the method's locals
-  pub slots : List Placed
+  pub slots : List PlacedLocal
 
 -- A local or parameter that is visible, and its slot.
 pub record Visible : Type 0 where
@@ -49,15 +49,15 @@ pub record Visible : Type 0 where
 abbrev pub Scope : Type 0
 Scope = List Visible
 
-abbrev pub is_among : List (List ℕ) → List ℕ → Bool
-is_among [] name = false
-is_among (x ∷ xs) name = if bytes_eq x name then true else is_among xs name
+abbrev pub is_among_names : List (List ℕ) → List ℕ → Bool
+is_among_names [] name = false
+is_among_names (x ∷ xs) name = if bytes_eq x name then true else is_among_names xs name
 
-abbrev pub slot_of : Scope → List ℕ → Option ℕ
-slot_of [] name = None
-slot_of (v ∷ vs) name = if bytes_eq v.name name then Some v.slot else slot_of vs name
+abbrev pub slot_named : Scope → List ℕ → Option ℕ
+slot_named [] name = None
+slot_named (v ∷ vs) name = if bytes_eq v.name name then Some v.slot else slot_named vs name
 
-abbrev pub slot_at : List Placed → ℕ → ℕ
+abbrev pub slot_at : List PlacedLocal → ℕ → ℕ
 slot_at [] start = 0
 slot_at (p ∷ ps) start = if nat_eq p.start start then p.slot else slot_at ps start
 
@@ -66,8 +66,8 @@ abbrev pub text_from : ℕ → List (List ℕ) → List ℕ → ℕ
 text_from at [] name = 0
 text_from at (x ∷ xs) name = if bytes_eq x name then at else text_from (suc at) xs name
 
-abbrev pub text_of : Context → List ℕ → ℕ
-text_of c name = text_from 0 c.texts name
+abbrev pub number_of_text : Context → List ℕ → ℕ
+number_of_text c name = text_from 0 c.texts name
 
 -- The meaning of a bare name.
 pub data Meaning : Type 0 where
@@ -88,7 +88,7 @@ unless_local (Some s) m = local s
 unless_local None m = m
 
 abbrev pub resolve : Context → Scope → List ℕ → Meaning
-resolve c scope name = unless_local (slot_of scope name) (member (is_among c.fields name) (is_among c.methods name))
+resolve c scope name = unless_local (slot_named scope name) (member (is_among_names c.fields name) (is_among_names c.methods name))
 
 -- The meaning of a type name as an expression.
 pub data TypeMeaning : Type 0 where
@@ -109,7 +109,7 @@ by_kind kind.Primitive e cs = primitive e
 by_kind kind.Trait e cs = no_value
 by_kind kind.Interface e cs = no_value
 
-abbrev pub type_from : ℕ → List Known → List ℕ → TypeMeaning
+abbrev pub type_from : ℕ → List KnownEntity → List ℕ → TypeMeaning
 type_from at [] name = no_value
 type_from at (x ∷ xs) name = if bytes_eq x.name name then (if is_own at then by_kind x.kind at x.constructors else no_value) else type_from (suc at) xs name
 
@@ -121,12 +121,12 @@ constructor_named [] name = None
 constructor_named (x ∷ xs) name = if bytes_eq x.name name then Some x.method else constructor_named xs name
 
 -- The local that a definition introduces.
-abbrev pub defined : Context → Name → Visible
-defined c n = record { name = n.text; slot = slot_at c.slots n.span.start }
+abbrev pub defined_local : Context → Name → Visible
+defined_local c n = record { name = n.text; slot = slot_at c.slots n.span.start }
 
 -- A local is visible after its definition, up to the end of its sequence.
 abbrev pub scope_after : Context → Scope → t.Item → Scope
-scope_after c scope (t.local fixed n ty value s) = scope ++ defined c n ∷ []
+scope_after c scope (t.local fixed n ty value s) = scope ++ defined_local c n ∷ []
 scope_after c scope (t.plain e) = scope
 
 -- The parameters, whose slots come after that of `this`.

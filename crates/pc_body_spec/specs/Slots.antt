@@ -2,13 +2,13 @@
 use Rattle.std.specs.Prelude.{ℕ, suc, ◌+◌, Bool, true, false, List, [], ◌∷◌, ◌++◌, length, Option, Some, None, if◌then◌else◌}
 use Rattle.std.specs.Str.{bytes_eq}
 use Rattle.pc_caps.specs.declared.capability.Cap.{Cap}
-use Rattle.pc_tree.specs.declared.names.Name.{Name}
-use Rattle.pc_tree.specs.declared.names.TypeRef.{TypeRef}
+use Rattle.pc_tree.specs.declared.written_names.Name.{Name}
+use Rattle.pc_tree.specs.declared.written_names.TypeRef.{TypeRef}
 use Rattle.pc_tree.specs.Tree as t
 use Rattle.pc_core.specs.declared.nodes.Slot.{Slot}
 use Rattle.pc_core.specs.declared.nodes.SlotKind.{SlotKind}
 use Rattle.pc_core.specs.declared.nodes.SlotKind.TheVariants as slot
-use Rattle.pc_body_spec.specs.Scopes.{Context, Known, Placed, deeper}
+use Rattle.pc_body_spec.specs.Scopes.{Context, KnownEntity, PlacedLocal, deeper}
 use Rattle.pc_body_spec.specs.Bodies.{initial_fields}
 
 -- A local at its definition.
@@ -92,16 +92,16 @@ abbrev pub method_locals : List t.Field → t.Method → List Local
 method_locals fs m = initial_locals (initial_fields m.word fs) ++ body_locals m.body
 
 -- Locals with the slots from this one on.
-abbrev pub placed_from : ℕ → List Local → List Placed
+abbrev pub placed_from : ℕ → List Local → List PlacedLocal
 placed_from at [] = []
 placed_from at (x ∷ xs) = record { start = x.name.span.start; slot = at } ∷ placed_from (suc at) xs
 
 -- The slots of a method's locals come after those of `this` and of the parameters.
-abbrev pub slots_of : List t.Field → t.Method → List Placed
+abbrev pub slots_of : List t.Field → t.Method → List PlacedLocal
 slots_of fs m = placed_from (1 + length m.params) (method_locals fs m)
 
 -- An added `create` has only those of the initial values, after the slot of `this`.
-abbrev pub added_slots : List t.Field → List Placed
+abbrev pub added_slots : List t.Field → List PlacedLocal
 added_slots fs = placed_from 1 (initial_locals fs)
 
 -- The capability that is written, or else that of the entity.
@@ -110,13 +110,13 @@ cap_or (Some k) own = k
 cap_or None own = own
 
 -- The type with this name among entities whose numbers start with this one.
-abbrev pub type_of : ℕ → List Known → TypeRef → Option (ℕ × Cap)
-type_of at [] ty = None
-type_of at (x ∷ xs) ty = if bytes_eq x.name ty.name.text then Some (at, cap_or ty.cap x.cap) else type_of (suc at) xs ty
+abbrev pub type_of_name : ℕ → List KnownEntity → TypeRef → Option (ℕ × Cap)
+type_of_name at [] ty = None
+type_of_name at (x ∷ xs) ty = if bytes_eq x.name ty.name.text then Some (at, cap_or ty.cap x.cap) else type_of_name (suc at) xs ty
 
 abbrev pub written_of : Context → Option TypeRef → Option (ℕ × Cap)
 written_of c None = None
-written_of c (Some ty) = type_of 0 c.entities ty
+written_of c (Some ty) = type_of_name 0 c.entities ty
 
 abbrev pub local_kind : Bool → SlotKind
 local_kind true = slot.Let

@@ -8,13 +8,13 @@ use Rattle.pc_lists.specs.Places.{IsIn}
 
 -- The requirement for a node of this kind: `all` says that its children refer only to what is visible, and `items` that
 -- they do so as the items of a sequence. A definition may only be such an item.
-abbrev pub Asks : NodeKind → List ℕ → Type 0 → Type 0 → Type 0
-Asks (node.Local s) visible all items = IsIn s visible × all
-Asks (node.Consume s) visible all items = IsIn s visible × all
-Asks (node.Assign s) visible all items = IsIn s visible × all
-Asks (node.Define s) visible all items = ⊥
-Asks node.Seq visible all items = items
-Asks k visible all items = all
+abbrev pub AsksVisible : NodeKind → List ℕ → Type 0 → Type 0 → Type 0
+AsksVisible (node.Local s) visible all items = IsIn s visible × all
+AsksVisible (node.Consume s) visible all items = IsIn s visible × all
+AsksVisible (node.Assign s) visible all items = IsIn s visible × all
+AsksVisible (node.Define s) visible all items = ⊥
+AsksVisible node.Seq visible all items = items
+AsksVisible k visible all items = all
 
 -- An item that defines a local makes it visible to the later ones.
 abbrev pub ItemAsks : NodeKind → List ℕ → Type 0 → Type 0 → (List ℕ → Type 0) → Type 0
@@ -24,7 +24,7 @@ ItemAsks k visible all part rest = part × rest visible
 -- A rose refers only to locals whose slots are visible.
 abbrev mutual
   pub Scoped : List ℕ → Rose → Type 0
-  Scoped visible (rose k s d rs) = Asks k visible (AllScoped visible rs) (ItemsScoped visible rs)
+  Scoped visible (rose k s d rs) = AsksVisible k visible (AllScoped visible rs) (ItemsScoped visible rs)
 
   pub AllScoped : List ℕ → Roses → Type 0
   AllScoped visible no_roses = Unit {0}
@@ -32,7 +32,7 @@ abbrev mutual
 
   pub ItemsScoped : List ℕ → Roses → Type 0
   ItemsScoped visible no_roses = Unit {0}
-  ItemsScoped visible (more (rose k s d cs) rs) = ItemAsks k visible (AllScoped visible cs) (Asks k visible (AllScoped visible cs) (ItemsScoped visible cs)) (λ v. ItemsScoped v rs)
+  ItemsScoped visible (more (rose k s d cs) rs) = ItemAsks k visible (AllScoped visible cs) (AsksVisible k visible (AllScoped visible cs) (ItemsScoped visible cs)) (λ v. ItemsScoped v rs)
 
 abbrev pub slots : Scope → List ℕ
 slots = map (λ v. v.slot)

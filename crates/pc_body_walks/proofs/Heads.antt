@@ -1,13 +1,13 @@
 -- The faults at the start of a chain.
 use Rattle.std.proofs.Common.{◌≡◌, [], ◌++◌, Result, refl, ap, sym, ◌∙◌, subst}
 use Rattle.pc_caps.specs.declared.span.Span.{Span}
-use Rattle.pc_tree.specs.declared.names.Name.{Name}
+use Rattle.pc_tree.specs.declared.written_names.Name.{Name}
 use Rattle.pc_tree.specs.Tree as t
 use Rattle.pc_body_spec.specs.Scopes.{Context, Scope, Meaning, local, field, method, nothing, resolve, type_meaning}
-use Rattle.pc_body_spec.specs.Expressions.{start_of, start_with_name, with_type, with_value}
+use Rattle.pc_body_spec.specs.Expressions.{chain_start, start_with_name, with_type, with_value}
 use Rattle.pc_body_spec.specs.Faults.{faults_of, start_faults, dot_faults, suffixes_faults, exprs_faults, next_of}
 use Rattle.pc_body_walks.specs.declared.fault.BodyFault.{BodyFault}
-use Rattle.pc_body_walks.specs.Checking.{IsFirst, Tells, head_name_faults, args_faults}
+use Rattle.pc_body_walks.specs.Checking.{IsFirstBodyFault, TellsFirstBodyFault, head_name_faults, args_faults}
 use Rattle.pc_body_walks.proofs.Firsts.{is_first_on}
 
 later : (c : Context) (sc : Scope) (ss : t.Suffixes) → suffixes_faults c sc with_value ss ≡ args_faults c sc ss
@@ -29,7 +29,7 @@ behind_type c sc m (t.suffix (t.dot n) ss) = ap (λ l. dot_faults (with_type (ty
 behind_type c sc m (t.suffix (t.args es s) ss) = ap (λ l. exprs_faults c sc es ++ l) (later c sc ss)
 
 -- Only the name after a type name can have a fault, and the arguments.
-in_parts : (c : Context) (sc : Scope) (h : t.Expr) (ss : t.Suffixes) → suffixes_faults c sc (start_of c sc h) ss ≡ head_name_faults c h ss ++ args_faults c sc ss
+in_parts : (c : Context) (sc : Scope) (h : t.Expr) (ss : t.Suffixes) → suffixes_faults c sc (chain_start c sc h) ss ≡ head_name_faults c h ss ++ args_faults c sc ss
 in_parts c sc (t.number n s) ss = later c sc ss
 in_parts c sc (t.truth b s) ss = later c sc ss
 in_parts c sc (t.text b s) ss = later c sc ss
@@ -47,9 +47,9 @@ in_parts c sc (t.recover k b s) ss = later c sc ss
 in_parts c sc (t.assign l r s) ss = later c sc ss
 
 -- A fault of the name after a type name is the first one if the start has none.
-pub chain_first : (c : Context) (sc : Scope) (h : t.Expr) (ss : t.Suffixes) (s : Span) (f : BodyFault) → start_faults (start_of c sc h) (next_of ss) (faults_of c sc h) ≡ [] → IsFirst f (head_name_faults c h ss) → IsFirst f (faults_of c sc (t.chain h ss s))
-chain_first c sc h ss s f e is = subst (IsFirst f) (sym (ap (λ l. l ++ suffixes_faults c sc (start_of c sc h) ss) e ∙ in_parts c sc h ss)) (is_first_on f (head_name_faults c h ss) (args_faults c sc ss) is)
+pub chain_first : (c : Context) (sc : Scope) (h : t.Expr) (ss : t.Suffixes) (s : Span) (f : BodyFault) → start_faults (chain_start c sc h) (next_of ss) (faults_of c sc h) ≡ [] → IsFirstBodyFault f (head_name_faults c h ss) → IsFirstBodyFault f (faults_of c sc (t.chain h ss s))
+chain_first c sc h ss s f e is = subst (IsFirstBodyFault f) (sym (ap (λ l. l ++ suffixes_faults c sc (chain_start c sc h) ss) e ∙ in_parts c sc h ss)) (is_first_on f (head_name_faults c h ss) (args_faults c sc ss) is)
 
 -- If neither has one, the arguments determine the faults of the whole chain.
-pub chain_tells : (c : Context) (sc : Scope) (h : t.Expr) (ss : t.Suffixes) (s : Span) (r : Result Unit BodyFault) → start_faults (start_of c sc h) (next_of ss) (faults_of c sc h) ≡ [] → head_name_faults c h ss ≡ [] → Tells r (args_faults c sc ss) → Tells r (faults_of c sc (t.chain h ss s))
-chain_tells c sc h ss s r e g is = subst (Tells r) (sym (ap (λ l. l ++ suffixes_faults c sc (start_of c sc h) ss) e ∙ (in_parts c sc h ss ∙ ap (λ l. l ++ args_faults c sc ss) g))) is
+pub chain_tells : (c : Context) (sc : Scope) (h : t.Expr) (ss : t.Suffixes) (s : Span) (r : Result Unit BodyFault) → start_faults (chain_start c sc h) (next_of ss) (faults_of c sc h) ≡ [] → head_name_faults c h ss ≡ [] → TellsFirstBodyFault r (args_faults c sc ss) → TellsFirstBodyFault r (faults_of c sc (t.chain h ss s))
+chain_tells c sc h ss s r e g is = subst (TellsFirstBodyFault r) (sym (ap (λ l. l ++ suffixes_faults c sc (chain_start c sc h) ss) e ∙ (in_parts c sc h ss ∙ ap (λ l. l ++ args_faults c sc ss) g))) is

@@ -1,9 +1,9 @@
 //! Which single names and texts are allowed in a body.
 ghost use Rattle.std.specs.Prelude.{◌∷◌, [], length, nat_lt, if◌then◌else◌};
 ghost use Rattle.pc_caps.specs.Limits.{text_limit};
-ghost use Rattle.pc_body_spec.specs.Scopes.{constructor_named as constructor_in, resolve, slot_of as slot_in, type_meaning};
+ghost use Rattle.pc_body_spec.specs.Scopes.{constructor_named as constructor_in, resolve, slot_named as slot_in, type_meaning};
 ghost use Rattle.pc_body_spec.specs.Faults as spec;
-ghost use Rattle.pc_body_walks.specs.Checking.{Tells};
+ghost use Rattle.pc_body_walks.specs.Checking.{TellsFirstBodyFault};
 
 use crate::fault::BodyFault;
 use pc_caps::{Span, TEXT_LIMIT};
@@ -12,7 +12,7 @@ use pc_tree::{Name, TypeRef};
 
 /// A text is not too long.
 pub(crate) fn check_text(bytes: &[u8], span: Span) -> Result<(), BodyFault>
-    ensures { Tells result (spec.when (nat_lt text_limit (length bytes.now)) (spec.long_text span)) }
+    ensures { TellsFirstBodyFault result (spec.fault_if (nat_lt text_limit (length bytes.now)) (spec.long_text span)) }
 {
     if bytes.len() > TEXT_LIMIT as usize {
         Err(BodyFault::LongText(span))
@@ -23,7 +23,7 @@ pub(crate) fn check_text(bytes: &[u8], span: Span) -> Result<(), BodyFault>
 
 /// A bare name without arguments after it is a visible local or parameter, or a field.
 pub(crate) fn check_name(context: &Context, scope: &Scope, name: &Name) -> Result<(), BodyFault>
-    ensures { Tells result (spec.name_faults (resolve context.now scope.now name.now.text) name.now.span) }
+    ensures { TellsFirstBodyFault result (spec.bare_name_faults (resolve context.now scope.now name.now.text) name.now.span) }
 {
     match context.meaning(scope.find(name.text.as_slice()), name.text.as_slice()) {
         Meaning::Local(_) | Meaning::Field => Ok(()),
@@ -33,7 +33,7 @@ pub(crate) fn check_name(context: &Context, scope: &Scope, name: &Name) -> Resul
 
 /// A type name without suffixes is that of a primitive, or of an entity with a constructor `create`.
 pub(crate) fn check_type_name(context: &Context, name: &Name) -> Result<(), BodyFault>
-    ensures { Tells result (spec.type_faults (type_meaning context.now name.now.text) name.now.span) }
+    ensures { TellsFirstBodyFault result (spec.type_name_faults (type_meaning context.now name.now.text) name.now.span) }
 {
     match context.type_meaning(name.text.as_slice()) {
         TypeMeaning::Primitive(_) => Ok(()),
@@ -50,7 +50,7 @@ pub(crate) fn check_constructor(
     name: &[u8],
     span: Span,
 ) -> Result<(), BodyFault>
-    ensures { Tells result (spec.unless_some (constructor_in constructors.now name.now) (spec.unknown span)) }
+    ensures { TellsFirstBodyFault result (spec.unless_some (constructor_in constructors.now name.now) (spec.unknown span)) }
 {
     match constructors.find(name) {
         Some(_) => Ok(()),
@@ -60,7 +60,7 @@ pub(crate) fn check_constructor(
 
 /// What is consumed is a visible local or parameter.
 pub(crate) fn check_consumed(scope: &Scope, name: &Name) -> Result<(), BodyFault>
-    ensures { Tells result (spec.unless_some (slot_in scope.now name.now.text) (spec.unknown name.now.span)) }
+    ensures { TellsFirstBodyFault result (spec.unless_some (slot_in scope.now name.now.text) (spec.unknown name.now.span)) }
 {
     match scope.find(name.text.as_slice()) {
         Some(_) => Ok(()),
@@ -70,7 +70,7 @@ pub(crate) fn check_consumed(scope: &Scope, name: &Name) -> Result<(), BodyFault
 
 /// A new local has the name of no visible local or parameter, and of no field.
 pub(crate) fn check_new(context: &Context, scope: &Scope, name: &Name) -> Result<(), BodyFault>
-    ensures { Tells result (spec.when (spec.is_taken (resolve context.now scope.now name.now.text)) (spec.double name.now.span)) }
+    ensures { TellsFirstBodyFault result (spec.fault_if (spec.is_name_taken (resolve context.now scope.now name.now.text)) (spec.double name.now.span)) }
 {
     match context.meaning(scope.find(name.text.as_slice()), name.text.as_slice()) {
         Meaning::Local(_) | Meaning::Field => Err(BodyFault::Double(name.span)),
@@ -80,7 +80,7 @@ pub(crate) fn check_new(context: &Context, scope: &Scope, name: &Name) -> Result
 
 /// The type of a local, if one is written, names an entity.
 pub(crate) fn check_written(context: &Context, ty: &Option<TypeRef>) -> Result<(), BodyFault>
-    ensures { Tells result (spec.written_faults context.now ty.now) }
+    ensures { TellsFirstBodyFault result (spec.written_faults context.now ty.now) }
 {
     match ty {
         None => Ok(()),
@@ -90,7 +90,7 @@ pub(crate) fn check_written(context: &Context, ty: &Option<TypeRef>) -> Result<(
 
 // A type names an entity.
 fn check_type(context: &Context, name: &Name) -> Result<(), BodyFault>
-    ensures { Tells result (if spec.is_entity context.now.entities name.now.text then [] else spec.unknown name.now.span ∷ []) }
+    ensures { TellsFirstBodyFault result (if spec.is_entity context.now.entities name.now.text then [] else spec.unknown name.now.span ∷ []) }
 {
     if context.has_entity(name.text.as_slice()) {
         Ok(())

@@ -3,8 +3,8 @@ ghost use Rattle.std.specs.Prelude.{◌≡◌, IfOk, OnOk, length, map, take};
 ghost use Rattle.pc_tree.specs.View.{arm_view, arms_view, expr_view, exprs_view, field_view, item_view, items_view, maybe_expr, maybe_seq, method_view, other_view, seq_view, suffix_view, suffixes_view};
 ghost use Rattle.pc_body_spec.specs.Scopes.{params_scope as params_visible, scope_after};
 ghost use Rattle.pc_body_spec.specs.Faults as spec;
-ghost use Rattle.pc_body_spec.specs.Expressions.{start_of};
-ghost use Rattle.pc_body_walks.specs.Checking.{Tells, args_faults, next_view, suffix_faults};
+ghost use Rattle.pc_body_spec.specs.Expressions.{chain_start};
+ghost use Rattle.pc_body_walks.specs.Checking.{TellsFirstBodyFault, args_faults, next_view, suffix_faults};
 
 use crate::checks::{
     check_consumed, check_name, check_new, check_text, check_type_name, check_written,
@@ -25,7 +25,7 @@ pub fn check(
     fields: &[FieldDef],
     method: &MethodDef,
 ) -> Result<(), BodyFault>
-    ensures { Tells result (spec.body_faults context.now (map field_view fields.now) (method_view method.now)) }
+    ensures { TellsFirstBodyFault result (spec.body_faults context.now (map field_view fields.now) (method_view method.now)) }
 {
     match method.word {
         MethodWord::New => check_added(alloc, context, fields)?,
@@ -36,7 +36,7 @@ pub fn check(
 
 // The written body of a method, in which its parameters are visible.
 fn check_body(alloc: Global, context: &Context, method: &MethodDef) -> Result<(), BodyFault>
-    ensures { Tells result (spec.written_body_faults context.now (params_visible method.now.params) (maybe_seq method.now.body)) }
+    ensures { TellsFirstBodyFault result (spec.written_body_faults context.now (params_visible method.now.params) (maybe_seq method.now.body)) }
 {
     let mut scope = param_scope(alloc, context, method.params.as_slice())?;
     body(alloc, context, &mut scope, &method.body)
@@ -54,7 +54,7 @@ fn param_scope(alloc: Global, context: &Context, params: &[ParamDef]) -> Result<
 /// `Err` iff it has a fault, and then the first in the order of the text. Memory may run out at any time.
 #[tactic(auto, using(crate::proofs::Firsts::is_first_on))]
 pub fn check_added(alloc: Global, context: &Context, fields: &[FieldDef]) -> Result<(), BodyFault>
-    ensures { Tells result (spec.initial_faults context.now (map field_view fields.now)) }
+    ensures { TellsFirstBodyFault result (spec.initial_faults context.now (map field_view fields.now)) }
 {
     for field in fields {
         initial_value(alloc, context, &field.value)?;
@@ -64,7 +64,7 @@ pub fn check_added(alloc: Global, context: &Context, fields: &[FieldDef]) -> Res
 
 // The initial value of a field, in which no parameter is visible.
 fn initial_value(alloc: Global, context: &Context, value: &Option<Expr>) -> Result<(), BodyFault>
-    ensures { Tells result (spec.value_faults context.now (maybe_expr value.now)) }
+    ensures { TellsFirstBodyFault result (spec.value_faults context.now (maybe_expr value.now)) }
 {
     match value {
         None => Ok(()),
@@ -82,7 +82,7 @@ fn body(
     scope: &mut Scope,
     body: &Option<Seq>,
 ) -> Result<(), BodyFault>
-    ensures { Tells result (spec.written_body_faults context.now scope.old (maybe_seq body.now)) }
+    ensures { TellsFirstBodyFault result (spec.written_body_faults context.now scope.old (maybe_seq body.now)) }
 {
     match body {
         None => Ok(()),
@@ -98,7 +98,7 @@ fn expr(
     scope: &mut Scope,
     expression: &Expr,
 ) -> Result<(), BodyFault>
-    ensures tells { Tells result (spec.faults_of context.now scope.old (expr_view expression.now)) }
+    ensures tells { TellsFirstBodyFault result (spec.faults_of context.now scope.old (expr_view expression.now)) }
     ensures scope { OnOk result (scope.new ≡ scope.old) }
 {
     match expression {
@@ -142,7 +142,7 @@ fn chain_head(
     expression: &Expr,
     next: Next,
 ) -> Result<(), BodyFault>
-    ensures tells { Tells result (spec.start_faults (start_of context.now scope.old (expr_view expression.now)) (next_view next) (spec.faults_of context.now scope.old (expr_view expression.now))) }
+    ensures tells { TellsFirstBodyFault result (spec.start_faults (chain_start context.now scope.old (expr_view expression.now)) (next_view next) (spec.faults_of context.now scope.old (expr_view expression.now))) }
     ensures scope { OnOk result (scope.new ≡ scope.old) }
 {
     if is_called(context, scope, expression, next) {
@@ -154,7 +154,7 @@ fn chain_head(
 #[cycle(walk)]
 #[tactic(auto, using(crate::proofs::Firsts::is_first_on))]
 fn exprs(alloc: Global, context: &Context, scope: &mut Scope, xs: &[Expr]) -> Result<(), BodyFault>
-    ensures tells { Tells result (spec.exprs_faults context.now scope.old (exprs_view xs.now)) }
+    ensures tells { TellsFirstBodyFault result (spec.exprs_faults context.now scope.old (exprs_view xs.now)) }
     ensures scope { OnOk result (scope.new ≡ scope.old) }
 {
     for x in xs {
@@ -172,7 +172,7 @@ fn suffix_list(
     scope: &mut Scope,
     xs: &[Suffix],
 ) -> Result<(), BodyFault>
-    ensures tells { Tells result (args_faults context.now scope.old (suffixes_view xs.now)) }
+    ensures tells { TellsFirstBodyFault result (args_faults context.now scope.old (suffixes_view xs.now)) }
     ensures scope { OnOk result (scope.new ≡ scope.old) }
 {
     for x in xs {
@@ -188,7 +188,7 @@ fn suffix(
     scope: &mut Scope,
     part: &Suffix,
 ) -> Result<(), BodyFault>
-    ensures tells { Tells result (suffix_faults context.now scope.old (suffix_view part.now)) }
+    ensures tells { TellsFirstBodyFault result (suffix_faults context.now scope.old (suffix_view part.now)) }
     ensures scope { OnOk result (scope.new ≡ scope.old) }
 {
     match part {
@@ -205,7 +205,7 @@ fn arm_list(
     scope: &mut Scope,
     xs: &[Arm],
 ) -> Result<(), BodyFault>
-    ensures tells { Tells result (spec.arms_faults context.now scope.old (arms_view xs.now)) }
+    ensures tells { TellsFirstBodyFault result (spec.arms_faults context.now scope.old (arms_view xs.now)) }
     ensures scope { OnOk result (scope.new ≡ scope.old) }
 {
     for x in xs {
@@ -217,7 +217,7 @@ fn arm_list(
 #[cycle(walk)]
 #[tactic(auto, using(crate::proofs::Firsts::is_first_on))]
 fn arm(alloc: Global, context: &Context, scope: &mut Scope, part: &Arm) -> Result<(), BodyFault>
-    ensures tells { Tells result (spec.arm_faults context.now scope.old (arm_view part.now)) }
+    ensures tells { TellsFirstBodyFault result (spec.arm_faults context.now scope.old (arm_view part.now)) }
     ensures scope { OnOk result (scope.new ≡ scope.old) }
 {
     sequence(alloc, context, scope, &part.cond)?;
@@ -231,7 +231,7 @@ fn otherwise(
     scope: &mut Scope,
     other: &Option<Box<Seq>>,
 ) -> Result<(), BodyFault>
-    ensures tells { Tells result (spec.other_faults context.now scope.old (other_view other.now)) }
+    ensures tells { TellsFirstBodyFault result (spec.other_faults context.now scope.old (other_view other.now)) }
     ensures scope { OnOk result (scope.new ≡ scope.old) }
 {
     match other {
@@ -243,7 +243,7 @@ fn otherwise(
 // The locals of a sequence are visible up to its end.
 #[cycle(walk)]
 fn sequence(alloc: Global, context: &Context, scope: &mut Scope, seq: &Seq) -> Result<(), BodyFault>
-    ensures tells { Tells result (spec.seq_faults context.now scope.old (seq_view seq.now)) }
+    ensures tells { TellsFirstBodyFault result (spec.seq_faults context.now scope.old (seq_view seq.now)) }
     ensures scope { OnOk result (scope.new ≡ scope.old) }
 {
     let before = scope.len();
@@ -255,7 +255,7 @@ fn sequence(alloc: Global, context: &Context, scope: &mut Scope, seq: &Seq) -> R
 #[cycle(walk)]
 #[tactic(auto, using(crate::proofs::Firsts::is_first_on))]
 fn items(alloc: Global, context: &Context, scope: &mut Scope, xs: &[Item]) -> Result<(), BodyFault>
-    ensures tells { Tells result (spec.items_faults context.now scope.old (items_view xs.now)) }
+    ensures tells { TellsFirstBodyFault result (spec.items_faults context.now scope.old (items_view xs.now)) }
     ensures scope { OnOk result (take (length scope.old) scope.new ≡ scope.old) }
 {
     for x in xs {
@@ -267,7 +267,7 @@ fn items(alloc: Global, context: &Context, scope: &mut Scope, xs: &[Item]) -> Re
 #[cycle(walk)]
 #[tactic(auto, using(crate::proofs::Firsts::is_first_on))]
 fn item(alloc: Global, context: &Context, scope: &mut Scope, part: &Item) -> Result<(), BodyFault>
-    ensures tells { Tells result (spec.item_faults context.now scope.old (item_view part.now)) }
+    ensures tells { TellsFirstBodyFault result (spec.item_faults context.now scope.old (item_view part.now)) }
     ensures scope { OnOk result (scope.new ≡ scope_after context.now scope.old (item_view part.now)) }
 {
     match part {

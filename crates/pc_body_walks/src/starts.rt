@@ -2,11 +2,11 @@
 ghost use Rattle.std.specs.Prelude.{◌≡◌, [], List, if◌then◌else◌};
 ghost use Rattle.pc_tree.specs.Tree as t;
 ghost use Rattle.pc_tree.specs.View.{expr_view, suffix_view, suffixes_view};
-ghost use Rattle.pc_body_spec.specs.Expressions.{start_of, start_with_name, with_type};
+ghost use Rattle.pc_body_spec.specs.Expressions.{chain_start, start_with_name, with_type};
 ghost use Rattle.pc_body_spec.specs.Scopes.{resolve, type_meaning};
 ghost use Rattle.pc_body_spec.specs.Faults as spec;
-ghost use Rattle.pc_body_spec.specs.Faults.{Fault};
-ghost use Rattle.pc_body_walks.specs.Checking.{Tells, head_name_faults, next_view};
+ghost use Rattle.pc_body_spec.specs.Faults.{BodyNameFault};
+ghost use Rattle.pc_body_walks.specs.Checking.{TellsFirstBodyFault, head_name_faults, next_view};
 
 use crate::checks::check_constructor;
 use crate::fault::BodyFault;
@@ -44,7 +44,7 @@ fn next_is(first: &Suffix) -> Next
 /// Whether the head of a chain is nothing on its own, but belongs to what follows it: the bare name of a method before
 /// arguments, or the name of a class or an actor before `.m`.
 pub(crate) fn is_called(context: &Context, scope: &Scope, head: &Expr, next: Next) -> bool
-    ensures { (alone : List Fault) → spec.start_faults (start_of context.now scope.now (expr_view head.now)) (next_view next) alone ≡ if result then [] else alone }
+    ensures { (alone : List BodyNameFault) → spec.start_faults (chain_start context.now scope.now (expr_view head.now)) (next_view next) alone ≡ if result then [] else alone }
 {
     match head {
         Expr::Name(name) => is_called_method(context, scope, name, next),
@@ -66,7 +66,7 @@ pub(crate) fn is_called(context: &Context, scope: &Scope, head: &Expr, next: Nex
 }
 
 fn is_called_method(context: &Context, scope: &Scope, name: &Name, next: Next) -> bool
-    ensures { (alone : List Fault) → spec.start_faults (start_with_name name.now (resolve context.now scope.now name.now.text)) (next_view next) alone ≡ if result then [] else alone }
+    ensures { (alone : List BodyNameFault) → spec.start_faults (start_with_name name.now (resolve context.now scope.now name.now.text)) (next_view next) alone ≡ if result then [] else alone }
 {
     match context.meaning(scope.find(name.text.as_slice()), name.text.as_slice()) {
         Meaning::Method => matches!(next, Next::Arguments),
@@ -75,7 +75,7 @@ fn is_called_method(context: &Context, scope: &Scope, name: &Name, next: Next) -
 }
 
 fn is_called_type(context: &Context, name: &Name, next: Next) -> bool
-    ensures { (alone : List Fault) → spec.start_faults (with_type (type_meaning context.now name.now.text)) (next_view next) alone ≡ if result then [] else alone }
+    ensures { (alone : List BodyNameFault) → spec.start_faults (with_type (type_meaning context.now name.now.text)) (next_view next) alone ≡ if result then [] else alone }
 {
     match context.type_meaning(name.text.as_slice()) {
         TypeMeaning::Created { .. } => matches!(next, Next::Name),
@@ -89,7 +89,7 @@ pub(crate) fn check_head_name(
     head: &Expr,
     suffixes: &[Suffix],
 ) -> Result<(), BodyFault>
-    ensures { Tells result (head_name_faults context.now (expr_view head.now) (suffixes_view suffixes.now)) }
+    ensures { TellsFirstBodyFault result (head_name_faults context.now (expr_view head.now) (suffixes_view suffixes.now)) }
 {
     match head {
         Expr::TypeName(head) => check_type_suffixes(context, head, suffixes),
@@ -112,7 +112,7 @@ pub(crate) fn check_head_name(
 
 // What comes directly after a type name.
 fn check_type_suffixes(context: &Context, head: &Name, suffixes: &[Suffix]) -> Result<(), BodyFault>
-    ensures { Tells result (head_name_faults context.now (t.type_name head.now) (suffixes_view suffixes.now)) }
+    ensures { TellsFirstBodyFault result (head_name_faults context.now (t.type_name head.now) (suffixes_view suffixes.now)) }
 {
     let Some((first, rest)) = suffixes.split_first() else {
         return Ok(());
@@ -125,7 +125,7 @@ fn check_type_suffixes(context: &Context, head: &Name, suffixes: &[Suffix]) -> R
 
 // `.name` directly after a type name.
 fn check_type_dot(context: &Context, head: &Name, name: &Name, next: Next) -> Result<(), BodyFault>
-    ensures { Tells result (spec.dot_faults (with_type (type_meaning context.now head.now.text)) name.now (next_view next)) }
+    ensures { TellsFirstBodyFault result (spec.dot_faults (with_type (type_meaning context.now head.now.text)) name.now (next_view next)) }
 {
     match context.type_meaning(head.text.as_slice()) {
         TypeMeaning::Created { constructors, .. } => check_called(constructors, name, next),
@@ -135,7 +135,7 @@ fn check_type_dot(context: &Context, head: &Name, name: &Name, next: Next) -> Re
 
 // The name of one of these constructors, followed by arguments.
 fn check_called(constructors: &Constructors, name: &Name, next: Next) -> Result<(), BodyFault>
-    ensures { Tells result (spec.constructor_faults constructors.now name.now (next_view next)) }
+    ensures { TellsFirstBodyFault result (spec.constructor_faults constructors.now name.now (next_view next)) }
 {
     match next {
         Next::Arguments => check_constructor(constructors, name.text.as_slice(), name.span),

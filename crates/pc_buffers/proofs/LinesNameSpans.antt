@@ -10,9 +10,9 @@ use Rattle.pc_explain.specs.Explanation.{decl_span, entity_span, method_span, ow
 use Rattle.pc_lex.specs.Answers.{TokenList}
 use Rattle.pc_lex.specs.declared.fault.LexFault.{LexFault}
 use Rattle.pc_lex.specs.declared.fault.LexFault.TheVariants as lexing
-use Rattle.pc_lex.specs.Pieces.{FirstFault}
+use Rattle.pc_lex.specs.Pieces.{FirstLexFault}
 use Rattle.pc_lists.specs.Texts.{Text}
-use Rattle.pc_names.specs.Names.{OfFile}
+use Rattle.pc_names.specs.Names.{IsNotMemory}
 use Rattle.pc_names.specs.declared.fault.NameFault.{NameFault}
 use Rattle.pc_names.specs.declared.fault.NameFault.TheVariants as naming
 use Rattle.pc_refusals.specs.Accepting.{Typing}
@@ -69,7 +69,7 @@ module _ (name source : Text) where
   abbrev Refuses : Text → Type 0
   Refuses line = (span : Option Span) × IsRefusedAt source span × NamesSpan name source line span
 
-  lex_named : (f : LexFault) → FirstFault source f → NamesSpan name source (fault_line name source f) (lex_span source f)
+  lex_named : (f : LexFault) → FirstLexFault source f → NamesSpan name source (fault_line name source f) (lex_span source f)
   lex_named (lexing.BadByte p) h = (codes "bad byte", refl)
   lex_named (lexing.Unclosed p) h = (codes "not closed", refl)
   lex_named (lexing.BadNumber p) h = (codes "bad number", refl)
@@ -77,7 +77,7 @@ module _ (name source : Text) where
   lex_named (lexing.TooMany p) h = (codes "too many tokens", refl)
   lex_named lexing.Memory h = absurd h.6
 
-  name_named : (f : NameFault) → OfFile f → NamesSpan name source (name_line name source f) (name_span f)
+  name_named : (f : NameFault) → IsNotMemory f → NamesSpan name source (name_line name source f) (name_span f)
   name_named (naming.Double s) o = (codes "name twice", refl)
   name_named (naming.Unknown s) o = (codes "name unknown", refl)
   name_named naming.NoMain o = refl

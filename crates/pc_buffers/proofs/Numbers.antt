@@ -2,7 +2,7 @@
 use Rattle.std.proofs.Common.{◌≡◌, ℕ, true, ◌∷◌, ◌++◌, Option, Some, None, sym, ap, ◌∙◌, append_assoc}
 use Rattle.std.specs.Prelude.{is_some, codes, decimal, take}
 use Rattle.std.proofs.lemmas.Option.{same_Some}
-use Rattle.pc_deriv.specs.Reading.{after}
+use Rattle.pc_deriv.specs.Reading.{after_bytes}
 use Rattle.pc_deriv.proofs.NameReading.{after_sound, after_own}
 use Rattle.pc_lists.specs.Options.{◌>>=◌}
 use Rattle.pc_lists.specs.Texts.{Text}
@@ -19,12 +19,12 @@ use Rattle.pc_buffers.proofs.Options.{some_is}
 pub word_sound : (word text rest : Text) → after_word word text ≡ Some rest → text ≡ word ++ (58 ∷ rest)
 unfolding after_word
 word_sound word text rest e =
-    let h = bind_some (after word text) (after (codes ":")) rest e in
+    let h = bind_some (after_bytes word text) (after_bytes (codes ":")) rest e in
     after_sound word text h.0 h.1 ∙ ap (λ l. word ++ l) (after_sound (codes ":") h.0 rest h.2)
 
 pub word_own : (word rest : Text) → after_word word (word ++ (58 ∷ rest)) ≡ Some rest
 unfolding after_word
-word_own word rest = bind_is (after word (word ++ (58 ∷ rest))) (after (codes ":")) (58 ∷ rest) (after_own word (58 ∷ rest)) ∙ after_own (codes ":") rest
+word_own word rest = bind_is (after_bytes word (word ++ (58 ∷ rest))) (after_bytes (codes ":")) (58 ∷ rest) (after_own word (58 ∷ rest)) ∙ after_own (codes ":") rest
 
 -- ---- two numbers
 
@@ -35,8 +35,8 @@ numbered line column rest = decimal line ++ (58 ∷ (decimal column ++ (58 ∷ (
 numbers_sound : (line column : ℕ) (numbers rest : Text) → after_numbers line column numbers ≡ Some rest → numbers ≡ numbered line column rest
 unfolding after_numbers
 numbers_sound line column numbers rest e =
-    let h = bind_some (after_word (decimal line) numbers) (λ r. after_word (decimal column) r >>= after (codes " ")) rest e in
-    let k = bind_some (after_word (decimal column) h.0) (after (codes " ")) rest h.2 in
+    let h = bind_some (after_word (decimal line) numbers) (λ r. after_word (decimal column) r >>= after_bytes (codes " ")) rest e in
+    let k = bind_some (after_word (decimal column) h.0) (after_bytes (codes " ")) rest h.2 in
     word_sound (decimal line) numbers h.0 h.1
     ∙ ap (λ l. decimal line ++ (58 ∷ l)) (word_sound (decimal column) h.0 k.0 k.1 ∙ ap (λ l. decimal column ++ (58 ∷ l)) (after_sound (codes " ") k.0 rest k.2))
 
@@ -44,8 +44,9 @@ numbers_own : (line column : ℕ) (rest : Text) → after_numbers line column (n
 unfolding after_numbers
 numbers_own line column rest =
     let more : Text = decimal column ++ (58 ∷ (32 ∷ rest)) in
-    bind_is (after_word (decimal line) (numbered line column rest)) (λ r. after_word (decimal column) r >>= after (codes " ")) more (word_own (decimal line) more)
-    ∙ (bind_is (after_word (decimal column) more) (after (codes " ")) (32 ∷ rest) (word_own (decimal column) (32 ∷ rest)) ∙ after_own (codes " ") rest)
+    bind_is (after_word (decimal line) (numbered line column rest)) (λ r. after_word (decimal column) r >>= after_bytes (codes " ")) more (word_own (decimal line) more)
+    ∙ (bind_is (after_word (decimal column) more) (after_bytes (codes " ")) (32 ∷ rest) (word_own (decimal column) (32 ∷ rest))
+        ∙ after_own (codes " ") rest)
 
 -- ---- a line
 

@@ -9,12 +9,12 @@ use Rattle.pc_core.specs.CoreData.{CoreData}
 use Rattle.pc_core.specs.Formed.{Formed}
 use Rattle.pc_core.specs.declared.declarations.Method.{Method}
 use Rattle.pc_core.specs.declared.nodes.Node.{Node}
-use Rattle.pc_elab.specs.Cores.{CoresAreFormed, Spelled}
+use Rattle.pc_elab.specs.Cores.{CoresAreFormed, IsSpelledFile}
 use Rattle.pc_explain.specs.Explanation.{decl_span}
 use Rattle.pc_file_spec.specs.Cores.{Stands}
 use Rattle.pc_grammar.specs.FileAnswers as answer
 use Rattle.pc_lists.specs.Places.{Ascends}
-use Rattle.pc_names.specs.Names.{OfFile}
+use Rattle.pc_names.specs.Names.{IsNotMemory}
 use Rattle.pc_names.specs.declared.fault.NameFault.{NameFault}
 use Rattle.pc_refusals.proofs.OneSource.{SourceLaws}
 use Rattle.pc_valid.specs.Valid.{NoRule, Unset}
@@ -95,12 +95,12 @@ module _ (laws : Laws) where
 
   -- ---- the tree
 
-  module _ (file : t.File) (spelled : Spelled file) where
-    not_both : {C : Type 0} (core : CoreData) (f : NameFault) → Stands file core → OfFile f → IsFileFault file f → C
+  module _ (file : t.File) (spelled : IsSpelledFile file) where
+    not_both : {C : Type 0} (core : CoreData) (f : NameFault) → Stands file core → IsNotMemory f → IsFileFault file f → C
     not_both core f s o (inl h) = absurd (laws.source.misnamed file f s.0 o h s.1)
     not_both core f s o (inr h) = absurd (laws.source.misused file core f s h)
 
-    one_fault : (f g : NameFault) → OfFile f → OfFile g → IsFileFault file f → IsFileFault file g → f ≡ g
+    one_fault : (f g : NameFault) → IsNotMemory f → IsNotMemory g → IsFileFault file f → IsFileFault file g → f ≡ g
     one_fault f g o p (inl h) (inl i) = laws.source.name_fault file f g o p h i
     one_fault f g o p (inl h) (inr i) = absurd (laws.source.misnamed file f i.0 o h i.1)
     one_fault f g o p (inr h) (inl i) = absurd (laws.source.misnamed file g h.0 p i h.1)

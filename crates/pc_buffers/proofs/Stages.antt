@@ -4,7 +4,7 @@ use Rattle.std.proofs.Common.{inr, ap, sym, subst, ◌∙◌, arith}
 use Rattle.std.proofs.lemmas.Bool.{eq-eqb, ne_eqb}
 use Rattle.std.proofs.lemmas.Option.{same_Some}
 use Rattle.pc_caps.specs.declared.span.Span.{Span}
-use Rattle.pc_check.specs.Faults.{Refuses}
+use Rattle.pc_check.specs.Faults.{RefusesCore}
 use Rattle.pc_check.specs.declared.fault.CheckFault.{CheckFault}
 use Rattle.pc_check.specs.declared.fault.CheckFault.TheVariants as fault
 use Rattle.pc_core.specs.CoreData.{CoreData}
@@ -23,7 +23,7 @@ use Rattle.pc_lex.specs.declared.fault.LexFault.TheVariants as lexing
 use Rattle.pc_lists.proofs.Gets.{get_map}
 use Rattle.pc_lists.specs.Places.{Ascends}
 use Rattle.pc_lists.specs.Texts.{Text}
-use Rattle.pc_names.specs.Names.{OfFile}
+use Rattle.pc_names.specs.Names.{IsNotMemory}
 use Rattle.pc_names.specs.declared.fault.NameFault.{NameFault}
 use Rattle.pc_names.specs.declared.fault.NameFault.TheVariants as naming
 use Rattle.pc_parse.specs.Answers as parser
@@ -40,7 +40,7 @@ use Rattle.pc_buffers.specs.Spans.{IsCoreSpan, IsLexSpan, IsNameSpan, IsTokenSpa
 
 -- ---- a core
 
-pub core_refused : (core : CoreData) (f : CheckFault) (span : Option Span) → Refuses core f → IsCoreSpan core f span → IsCoreRefusedAt core span
+pub core_refused : (core : CoreData) (f : CheckFault) (span : Option Span) → RefusesCore core f → IsCoreSpan core f span → IsCoreRefusedAt core span
 core_refused core (fault.Decl d) span r h = subst (IsCoreRefusedAt core) (sym h) (declared d r)
 core_refused core (fault.NoRule n l s ann) span r h = subst (IsCoreRefusedAt core) (sym (h ∙ ap (λ (o : Option Node). Some (node_span o)) r.0.is_at)) (no_rule ann n r.0)
 core_refused core (fault.Unset m ann) span r h = subst (IsCoreRefusedAt core) (sym (h ∙ ap (λ (o : Option Method). Some (method_span o)) r.0.is_method)) (unset ann m r.0)
@@ -48,7 +48,7 @@ core_refused core fault.Memory span r h = absurd h
 
 -- ---- a file
 
-member_fault : (file : t.File) (f : NameFault) → OfFile f → IsFirstFault file f → IsElabFault file f
+member_fault : (file : t.File) (f : NameFault) → IsNotMemory f → IsFirstFault file f → IsElabFault file f
 member_fault file (naming.Double s) o r = r
 member_fault file (naming.Unknown s) o r = r
 member_fault file naming.NoMain o r = r
@@ -58,15 +58,16 @@ member_fault file (naming.TooMany w s) o r = r
 member_fault file naming.Memory o r = absurd (o refl)
 
 -- a fault of its methods
-pub members_fault : {C : Type 0} (file : t.File) (r : Result C NameFault) → IfErr r (IsFirstFault file) → IfErr r (λ f. OfFile f → IsFileFault file f)
+pub members_fault : {C : Type 0} (file : t.File) (r : Result C NameFault) → IfErr r (IsFirstFault file)
+    → IfErr r (λ f. IsNotMemory f → IsFileFault file f)
 members_fault file (Ok core) h = tt
 members_fault file (Err f) h = λ o. inr (member_fault file f o h)
 
 module _ (file : t.File) (span : Option Span) where
-  refused_by : (f : NameFault) → OfFile f → (OfFile f → IsFileFault file f) → span ≡ name_span f → IsFileRefusedAt file span
+  refused_by : (f : NameFault) → IsNotMemory f → (IsNotMemory f → IsFileFault file f) → span ≡ name_span f → IsFileRefusedAt file span
   refused_by f o of h = subst (IsFileRefusedAt file) (sym h) (has_fault f o (of o))
 
-  pub name_refused : (f : NameFault) → (OfFile f → IsFileFault file f) → IsNameSpan f span → IsFileRefusedAt file span
+  pub name_refused : (f : NameFault) → (IsNotMemory f → IsFileFault file f) → IsNameSpan f span → IsFileRefusedAt file span
   name_refused (naming.Double s) of h = refused_by (naming.Double s) (λ (e : naming.Double s ≡ naming.Memory). cc) of h
   name_refused (naming.Unknown s) of h = refused_by (naming.Unknown s) (λ (e : naming.Unknown s ≡ naming.Memory). cc) of h
   name_refused naming.NoMain of h = refused_by naming.NoMain (λ (e : naming.NoMain ≡ naming.Memory). cc) of h
@@ -101,7 +102,7 @@ module _ (ts : List Token) (rising : Ascends (starts ts)) where
   span_is : (p k : ℕ) (x : Token) (more : List Token) → drop k ts ≡ x ∷ more → x.span.start ≡ p → token_span ts p ≡ Some x.span
   span_is p k x more e at = ap (λ (o : Option Token). option_map (λ (u : Token). u.span) o) (found_at ts p k x more e at rising)
 
-  pub tokens_refused : (f : ParseFault) (span : Option Span) → parser.Refuses ts f → IsTokenSpan ts f span → AreRefusedAt ts span
+  pub tokens_refused : (f : ParseFault) (span : Option Span) → parser.RefusesFile ts f → IsTokenSpan ts f span → AreRefusedAt ts span
   tokens_refused (syntax.Unexpected p) span r h =
       let at = r.1 in
       subst (AreRefusedAt ts) (sym (h ∙ span_is p r.0 at.0 at.1 at.2 at.3)) (unexpected {x = at.0} {rest = at.1} (subst (λ (l : List Token). IsFileAnswer ts (answer.unexpected l)) at.2 r.2))
@@ -113,7 +114,7 @@ module _ (ts : List Token) (rising : Ascends (starts ts)) where
 -- ---- a text
 
 module _ (text : Text) (short : length text ≤ source_limit) (span : Option Span) where
-  pub lex_refused : (f : LexFault) → lexer.Refuses text f → IsLexSpan text f span → IsRefusedAt text span
+  pub lex_refused : (f : LexFault) → lexer.RefusesTokens text f → IsLexSpan text f span → IsRefusedAt text span
   lex_refused (lexing.BadByte p) r h = subst (IsRefusedAt text) (sym h) (faulty (lexing.BadByte p) short r)
   lex_refused (lexing.Unclosed p) r h = subst (IsRefusedAt text) (sym h) (faulty (lexing.Unclosed p) short r)
   lex_refused (lexing.BadNumber p) r h = subst (IsRefusedAt text) (sym h) (faulty (lexing.BadNumber p) short r)

@@ -17,8 +17,8 @@ abbrev pub buffer : (before now : List ℕ) → ℕ → Buffer
 buffer before now answered = record { before = before; now = now; answered = answered }
 
 -- The text's whole length is returned, and the text was copied into the buffer.
-abbrev pub Holds : Buffer → Text → Type 0
-Holds b text = (b.answered ≡ length text) × (b.now ≡ laid text b.before)
+abbrev pub BufferHolds : Buffer → Text → Type 0
+BufferHolds b text = (b.answered ≡ length text) × (b.now ≡ laid text b.before)
 
 -- No text is returned, and the buffer is unchanged.
 abbrev pub IsUntouched : Buffer → Type 0

@@ -10,11 +10,11 @@ use Rattle.pc_file_spec.specs.Cores.{IsElabFault, Stands}
 use Rattle.pc_grammar.specs.FileAnswers as answer
 use Rattle.pc_grammar.specs.FileAnswers.{IsFileAnswer}
 use Rattle.pc_lex.specs.Answers.{TokenList}
-use Rattle.pc_lex.specs.Pieces.{FirstFault}
+use Rattle.pc_lex.specs.Pieces.{FirstLexFault}
 use Rattle.pc_lex.specs.declared.fault.LexFault.{LexFault}
 use Rattle.pc_lex.specs.declared.fault.LexFault.TheVariants as lexing
 use Rattle.pc_lists.specs.Texts.{Text}
-use Rattle.pc_names.specs.Names.{OfFile, IsNameFault}
+use Rattle.pc_names.specs.Names.{IsNotMemory, IsNameFault}
 use Rattle.pc_names.specs.declared.fault.NameFault.{NameFault}
 use Rattle.pc_names.specs.declared.fault.NameFault.TheVariants as naming
 use Rattle.pc_refusals.specs.Source.{source_limit}
@@ -52,7 +52,7 @@ IsFileFault file f = IsNameFault file f ⊎ IsElabFault file f
 
 pub data IsFileRefusedAt (file : t.File) : Option Span → Type 0 where
   has_core : {core : CoreData} {span : Option Span} → Stands file core → IsCoreRefusedAt core span → IsFileRefusedAt file span
-  has_fault : (f : NameFault) → OfFile f → IsFileFault file f → IsFileRefusedAt file (name_span f)
+  has_fault : (f : NameFault) → IsNotMemory f → IsFileFault file f → IsFileRefusedAt file (name_span f)
 
 -- ---- the tokens
 
@@ -80,4 +80,4 @@ lex_span bytes lexing.Memory = None
 pub data IsRefusedAt (source : Text) : Option Span → Type 0 where
   longer : source_limit < length source → IsRefusedAt source None
   lexed : {ts : List Token} {span : Option Span} → length source ≤ source_limit → TokenList source ts → AreRefusedAt ts span → IsRefusedAt source span
-  faulty : (f : LexFault) → length source ≤ source_limit → FirstFault source f → IsRefusedAt source (lex_span source f)
+  faulty : (f : LexFault) → length source ≤ source_limit → FirstLexFault source f → IsRefusedAt source (lex_span source f)

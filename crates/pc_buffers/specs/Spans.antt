@@ -5,7 +5,7 @@ use Rattle.pc_check.specs.declared.fault.CheckFault.{CheckFault}
 use Rattle.pc_check.specs.declared.fault.CheckFault.TheVariants as fault
 use Rattle.pc_core.specs.CoreData.{CoreData}
 use Rattle.pc_core.specs.declared.nodes.Node.{Node}
-use Rattle.pc_explain.specs.Explanation.{decl_span, method_span, no_span}
+use Rattle.pc_explain.specs.Explanation.{decl_span, method_span, missing_span}
 use Rattle.pc_expr.specs.declared.fault.ParseFault.{ParseFault}
 use Rattle.pc_expr.specs.declared.fault.ParseFault.TheVariants as syntax
 use Rattle.pc_lex.specs.declared.fault.LexFault.{LexFault}
@@ -17,7 +17,7 @@ use Rattle.pc_token.specs.declared.kinds.Token.{Token}
 use Rattle.pc_buffers.specs.Refused.{lex_span, name_span}
 
 abbrev pub node_span : Option Node → Span
-node_span None = no_span
+node_span None = missing_span
 node_span (Some x) = x.span
 
 -- The first token that begins at this byte.

@@ -32,7 +32,7 @@ pub fn span_end(alloc: Global, source: &[u8], start: usize) -> Result<usize, All
 }
 
 fn is_blank(byte: u8) -> bool
-    ensures { result ≡ schedules.is_blank byte }
+    ensures { result ≡ schedules.is_separator byte }
 {
     byte == b' ' || byte == b'\t' || byte == b'\r' || byte == b'\n'
 }

@@ -6,9 +6,9 @@ ghost use Rattle.pc_buffers.specs.Fronts as fronts;
 use itoa::Buffer;
 
 // What follows this front.
-#[tactic(auto, unfolding(pc_deriv::specs::Reading::after))]
+#[tactic(auto, unfolding(pc_deriv::specs::Reading::after_bytes))]
 fn after<'a>(text: &'a [u8], front: &[u8]) -> Option<&'a [u8]>
-    ensures { option_map (λ r. r.now) result ≡ reading.after front.now text.now }
+    ensures { option_map (λ r. r.now) result ≡ reading.after_bytes front.now text.now }
 {
     if text.starts_with(front) {
         Some(&text[front.len()..])

@@ -1,6 +1,6 @@
 //! What is handed to a caller.
 ghost use Rattle.std.specs.Prelude.{◌≡◌, ◌≢◌};
-ghost use Rattle.pc_buffers.specs.Laying.{Holds, IsUntouched, buffer};
+ghost use Rattle.pc_buffers.specs.Laying.{BufferHolds, IsUntouched, buffer};
 ghost use Rattle.pc_buffers.specs.Places.{no_place};
 ghost use Rattle.pc_buffers.specs.Points.{Points};
 
@@ -25,7 +25,7 @@ pub fn hand_over(
     answer: &mut Answer,
 ) -> u8
     ensures status { result ≢ 11 → result ≡ status }
-    ensures texts { result ≢ 11 → Holds (buffer out.old out.new answer.new.out_length) written.now × Holds (buffer err.old err.new answer.new.err_length) line.now × Points source.now beside.entry line.now answer.new.place }
+    ensures texts { result ≢ 11 → BufferHolds (buffer out.old out.new answer.new.out_length) written.now × BufferHolds (buffer err.old err.new answer.new.err_length) line.now × Points source.now beside.entry line.now answer.new.place }
     ensures memory { result ≡ 11 → IsUntouched (buffer out.old out.new answer.new.out_length) × IsUntouched (buffer err.old err.new answer.new.err_length) × (answer.new.place ≡ no_place) }
 {
     if status == OUT_OF_MEMORY {

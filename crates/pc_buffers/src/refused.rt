@@ -1,11 +1,11 @@
 //! Where a source is refused: its stages are repeated up to the first fault and its span.
 ghost use Rattle.std.specs.Prelude.{◌≡◌, ◌≤◌, IfErr, IfOk, length};
-ghost use Rattle.pc_elab.specs.Cores.{Spelled};
+ghost use Rattle.pc_elab.specs.Cores.{IsSpelledFile};
 ghost use Rattle.pc_expr.specs.Gives.{EndsWithEnd};
 ghost use Rattle.pc_file_spec.specs.Cores.{Stands};
 ghost use Rattle.pc_lex.specs.Limits.{bytes_limit};
 ghost use Rattle.pc_lists.specs.Places.{Ascends};
-ghost use Rattle.pc_names.specs.Names.{OfFile};
+ghost use Rattle.pc_names.specs.Names.{IsNotMemory};
 ghost use Rattle.pc_text_order.specs.Laws.{starts};
 ghost use Rattle.pc_tree.specs.View.{file_view};
 ghost use Rattle.pc_buffers.specs.Refused as spec;
@@ -91,9 +91,9 @@ fn name_span(fault: NameFault) -> Result<Option<Span>, AllocError>
 
 // The core of a tree, or the fault because of which it has none.
 fn core_of(alloc: Global, file: &File) -> Result<Core, NameFault>
-    requires { Spelled (file_view file.now) }
+    requires { IsSpelledFile (file_view file.now) }
     ensures core { IfOk result (Stands (file_view file.now)) }
-    ensures fault { IfErr result (λ f. OfFile f → IsFileFault (file_view file.now) f) }
+    ensures fault { IfErr result (λ f. IsNotMemory f → IsFileFault (file_view file.now) f) }
 {
     let names = collect(alloc, file)?;
     elaborate(alloc, file, &names)
@@ -111,7 +111,7 @@ fn refused_core(alloc: Global, core: &Core) -> Result<Option<Span>, AllocError>
 
 // Where a file is refused.
 fn refused_file(alloc: Global, file: &File) -> Result<Option<Span>, AllocError>
-    requires { Spelled (file_view file.now) }
+    requires { IsSpelledFile (file_view file.now) }
     ensures { IfOk result (IsFileRefusedAt (file_view file.now)) }
 {
     match core_of(alloc, file) {

@@ -11,7 +11,7 @@ ghost use Rattle.pc_top.specs.IsolatedCore.{HasIsolatedCore};
 ghost use Rattle.pc_top.specs.Exact.{IsDerivationOf};
 ghost use Rattle.pc_buffers.specs.Laying.{buffer};
 ghost use Rattle.pc_buffers.specs.Points.{PointsIntoBoth, PointsIntoSource};
-ghost use Rattle.pc_call.specs.Answers.{Answers};
+ghost use Rattle.pc_call.specs.Answers.{CallAnswers};
 ghost use Rattle.pc_call.specs.Verdicts.{IsChecked, IsEventsOf, IsExplained, IsJudged, IsOutcomesOf, IsPlacesOf, IsPlayed, IsRunOf, IsScheduleOf, IsSendsOf, IsShown, IsSwapped, IsTraced, IsUpgraded, MayBeCount, MayBePlace};
 
 use pc_buffers::Answer;
@@ -26,7 +26,7 @@ pub extern "C" fn rcap_check(
     err: &mut [u8],
     answer: &mut Answer,
 ) -> u8
-    ensures answers { Answers (IsChecked source.now) (PointsIntoSource source.now) result (buffer out.old out.new answer.new.out_length) (buffer err.old err.new answer.new.err_length) answer.new.place }
+    ensures answers { CallAnswers (IsChecked source.now) (PointsIntoSource source.now) result (buffer out.old out.new answer.new.out_length) (buffer err.old err.new answer.new.err_length) answer.new.place }
     ensures exact { result ≢ 11 → ((result ≡ 0) ↔ IsDerivable source.now) × ((result ≡ 1) ↔ IsUnderivable source.now) }
     ensures safe { IsAccepting result → HasSafeCore source.now }
     ensures isolated { IsAccepting result → HasIsolatedCore source.now }
@@ -44,7 +44,7 @@ pub extern "C" fn rcap_judge(
     err: &mut [u8],
     answer: &mut Answer,
 ) -> u8
-    ensures answers { Answers (IsJudged source.now derivation.now) (PointsIntoSource source.now) result (buffer out.old out.new answer.new.out_length) (buffer err.old err.new answer.new.err_length) answer.new.place }
+    ensures answers { CallAnswers (IsJudged source.now derivation.now) (PointsIntoSource source.now) result (buffer out.old out.new answer.new.out_length) (buffer err.old err.new answer.new.err_length) answer.new.place }
     ensures exact { result ≢ 11 → (result ≡ 0) ↔ IsDerivationOf source.now derivation.now }
     ensures accepted { IsAccepting result → IsDerivable source.now }
     ensures safe { IsAccepting result → HasSafeCore source.now }
@@ -64,7 +64,7 @@ pub extern "C" fn rcap_upgrade(
     err: &mut [u8],
     answer: &mut Answer,
 ) -> u8
-    ensures answers { Answers (IsUpgraded source.now derivation.now) (PointsIntoSource source.now) result (buffer out.old out.new answer.new.out_length) (buffer err.old err.new answer.new.err_length) answer.new.place }
+    ensures answers { CallAnswers (IsUpgraded source.now derivation.now) (PointsIntoSource source.now) result (buffer out.old out.new answer.new.out_length) (buffer err.old err.new answer.new.err_length) answer.new.place }
     ensures exact { result ≢ 11 → (result ≡ 0) ↔ IsDerivationOf source.now derivation.now }
     ensures accepted { IsAccepting result → IsDerivable source.now }
     ensures safe { IsAccepting result → HasSafeCore source.now }
@@ -83,7 +83,7 @@ pub extern "C" fn rcap_run(
     err: &mut [u8],
     answer: &mut Answer,
 ) -> u8
-    ensures answers { Answers (IsRunOf source.now schedule.now) (PointsIntoBoth source.now schedule.now) result (buffer out.old out.new answer.new.out_length) (buffer err.old err.new answer.new.err_length) answer.new.place }
+    ensures answers { CallAnswers (IsRunOf source.now schedule.now) (PointsIntoBoth source.now schedule.now) result (buffer out.old out.new answer.new.out_length) (buffer err.old err.new answer.new.err_length) answer.new.place }
     ensures exact { result ≢ 11 → (result ≡ 1) ↔ IsUnderivable source.now }
     ensures accepted { IsAccepting result → IsDerivable source.now }
     ensures safe { IsAccepting result → HasSafeCore source.now }
@@ -101,7 +101,7 @@ pub extern "C" fn rcap_show(
     err: &mut [u8],
     answer: &mut Answer,
 ) -> u8
-    ensures { Answers (IsShown source.now) (PointsIntoSource source.now) result (buffer out.old out.new answer.new.out_length) (buffer err.old err.new answer.new.err_length) answer.new.place }
+    ensures { CallAnswers (IsShown source.now) (PointsIntoSource source.now) result (buffer out.old out.new answer.new.out_length) (buffer err.old err.new answer.new.err_length) answer.new.place }
 {
     pc_call::show(alloc, source, out, err, answer)
 }
@@ -116,7 +116,7 @@ pub extern "C" fn rcap_trace(
     err: &mut [u8],
     answer: &mut Answer,
 ) -> u8
-    ensures answers { Answers (IsTraced source.now schedule.now) (PointsIntoBoth source.now schedule.now) result (buffer out.old out.new answer.new.out_length) (buffer err.old err.new answer.new.err_length) answer.new.place }
+    ensures answers { CallAnswers (IsTraced source.now schedule.now) (PointsIntoBoth source.now schedule.now) result (buffer out.old out.new answer.new.out_length) (buffer err.old err.new answer.new.err_length) answer.new.place }
     ensures exact { result ≢ 11 → (result ≡ 1) ↔ IsUnderivable source.now }
     ensures accepted { IsAccepting result → IsDerivable source.now }
     ensures safe { IsAccepting result → HasSafeCore source.now }
@@ -137,7 +137,7 @@ pub extern "C" fn rcap_swap(
     err: &mut [u8],
     answer: &mut Answer,
 ) -> u8
-    ensures answers { Answers (IsSwapped source.now schedule.now place) (PointsIntoBoth source.now schedule.now) result (buffer out.old out.new answer.new.out_length) (buffer err.old err.new answer.new.err_length) answer.new.place }
+    ensures answers { CallAnswers (IsSwapped source.now schedule.now place) (PointsIntoBoth source.now schedule.now) result (buffer out.old out.new answer.new.out_length) (buffer err.old err.new answer.new.err_length) answer.new.place }
     ensures exact { MayBePlace place → result ≢ 11 → (result ≡ 1) ↔ IsUnderivable source.now }
     ensures accepted { IsAccepting result → IsDerivable source.now }
     ensures safe { IsAccepting result → HasSafeCore source.now }
@@ -155,7 +155,7 @@ pub extern "C" fn rcap_sends(
     err: &mut [u8],
     answer: &mut Answer,
 ) -> u8
-    ensures answers { Answers (IsSendsOf source.now) (PointsIntoSource source.now) result (buffer out.old out.new answer.new.out_length) (buffer err.old err.new answer.new.err_length) answer.new.place }
+    ensures answers { CallAnswers (IsSendsOf source.now) (PointsIntoSource source.now) result (buffer out.old out.new answer.new.out_length) (buffer err.old err.new answer.new.err_length) answer.new.place }
     ensures exact { result ≢ 11 → (result ≡ 1) ↔ IsUnderivable source.now }
     ensures accepted { IsAccepting result → IsDerivable source.now }
     ensures safe { IsAccepting result → HasSafeCore source.now }
@@ -174,7 +174,7 @@ pub extern "C" fn rcap_schedule(
     err: &mut [u8],
     answer: &mut Answer,
 ) -> u8
-    ensures answers { Answers (IsScheduleOf source.now seed) (PointsIntoSource source.now) result (buffer out.old out.new answer.new.out_length) (buffer err.old err.new answer.new.err_length) answer.new.place }
+    ensures answers { CallAnswers (IsScheduleOf source.now seed) (PointsIntoSource source.now) result (buffer out.old out.new answer.new.out_length) (buffer err.old err.new answer.new.err_length) answer.new.place }
     ensures exact { result ≢ 11 → (result ≡ 1) ↔ IsUnderivable source.now }
     ensures accepted { IsAccepting result → IsDerivable source.now }
     ensures safe { IsAccepting result → HasSafeCore source.now }
@@ -193,7 +193,7 @@ pub extern "C" fn rcap_play(
     err: &mut [u8],
     answer: &mut Answer,
 ) -> u8
-    ensures answers { Answers (IsPlayed source.now seed) (PointsIntoSource source.now) result (buffer out.old out.new answer.new.out_length) (buffer err.old err.new answer.new.err_length) answer.new.place }
+    ensures answers { CallAnswers (IsPlayed source.now seed) (PointsIntoSource source.now) result (buffer out.old out.new answer.new.out_length) (buffer err.old err.new answer.new.err_length) answer.new.place }
     ensures exact { result ≢ 11 → (result ≡ 1) ↔ IsUnderivable source.now }
     ensures accepted { IsAccepting result → IsDerivable source.now }
     ensures safe { IsAccepting result → HasSafeCore source.now }
@@ -213,7 +213,7 @@ pub extern "C" fn rcap_outcomes(
     err: &mut [u8],
     answer: &mut Answer,
 ) -> u8
-    ensures answers { Answers (IsOutcomesOf source.now count) (PointsIntoSource source.now) result (buffer out.old out.new answer.new.out_length) (buffer err.old err.new answer.new.err_length) answer.new.place }
+    ensures answers { CallAnswers (IsOutcomesOf source.now count) (PointsIntoSource source.now) result (buffer out.old out.new answer.new.out_length) (buffer err.old err.new answer.new.err_length) answer.new.place }
     ensures exact { MayBeCount count → result ≢ 11 → (result ≡ 1) ↔ IsUnderivable source.now }
     ensures accepted { IsAccepting result → IsDerivable source.now }
     ensures safe { IsAccepting result → HasSafeCore source.now }
@@ -231,7 +231,7 @@ pub extern "C" fn rcap_places(
     err: &mut [u8],
     answer: &mut Answer,
 ) -> u8
-    ensures { Answers (IsPlacesOf source.now) (PointsIntoSource source.now) result (buffer out.old out.new answer.new.out_length) (buffer err.old err.new answer.new.err_length) answer.new.place }
+    ensures { CallAnswers (IsPlacesOf source.now) (PointsIntoSource source.now) result (buffer out.old out.new answer.new.out_length) (buffer err.old err.new answer.new.err_length) answer.new.place }
 {
     pc_call::places(alloc, source, out, err, answer)
 }
@@ -246,7 +246,7 @@ pub extern "C" fn rcap_events(
     err: &mut [u8],
     answer: &mut Answer,
 ) -> u8
-    ensures answers { Answers (IsEventsOf source.now schedule.now) (PointsIntoBoth source.now schedule.now) result (buffer out.old out.new answer.new.out_length) (buffer err.old err.new answer.new.err_length) answer.new.place }
+    ensures answers { CallAnswers (IsEventsOf source.now schedule.now) (PointsIntoBoth source.now schedule.now) result (buffer out.old out.new answer.new.out_length) (buffer err.old err.new answer.new.err_length) answer.new.place }
     ensures exact { result ≢ 11 → (result ≡ 1) ↔ IsUnderivable source.now }
     ensures accepted { IsAccepting result → IsDerivable source.now }
     ensures safe { IsAccepting result → HasSafeCore source.now }
@@ -265,7 +265,7 @@ pub extern "C" fn rcap_explain(
     err: &mut [u8],
     answer: &mut Answer,
 ) -> u8
-    ensures { Answers (IsExplained source.now) (PointsIntoSource source.now) result (buffer out.old out.new answer.new.out_length) (buffer err.old err.new answer.new.err_length) answer.new.place }
+    ensures { CallAnswers (IsExplained source.now) (PointsIntoSource source.now) result (buffer out.old out.new answer.new.out_length) (buffer err.old err.new answer.new.err_length) answer.new.place }
 {
     pc_call::explain(alloc, source, out, err, answer)
 }

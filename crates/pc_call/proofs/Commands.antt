@@ -16,7 +16,7 @@ use Rattle.pc_refusals.specs.Source.{FileStage, SourceStage}
 use Rattle.pc_refusals.specs.Verdict.{EndsWith, Verdict}
 use Rattle.pc_top.specs.Commands.{IsVerdictOf}
 use Rattle.pc_top.specs.Commands.Check.{Derived, IsCheck}
-use Rattle.pc_top.specs.Commands.Events.{IsEvents, Telling}
+use Rattle.pc_top.specs.Commands.Events.{IsEvents, EventsTelling}
 use Rattle.pc_top.specs.Commands.Explain.{Explained, ExplainedStage, IsExplain}
 use Rattle.pc_top.specs.Commands.Judge.{IsJudge, accepted_text}
 use Rattle.pc_top.specs.Commands.Outcomes.{IsCount, IsOutcomes, Tabled}
@@ -151,7 +151,7 @@ module _ (forms : WrittenFormsAreTaken) (source : Text) where
   pub happened : (schedule : Bor Text) (v : Verdict) → IsVerdictOn source (Schedule schedule) (events_words (codes "source") (codes "schedule")) v → IsEventsOf source schedule.now v
   happened schedule v h =
       let t = together IsEvents (events (codes "source") (codes "schedule")) (events_words (codes "source") (codes "schedule")) source (codes "schedule") schedule.now (Schedule schedule) events_asks (λ files w k. k) (λ entries e. e) v h in
-      scheduled_as (λ name core list. EndsWith (Telling name core list)) source schedule.now t.0 v t.1
+      scheduled_as (λ name core list. EndsWith (EventsTelling name core list)) source schedule.now t.0 v t.1
 
   pub swapped : (schedule : Bor Text) (n : ℕ) (place : Text) → place ≡ decimal n → n < 2 ^ 64 → (v : Verdict) → IsVerdictOn source (Schedule schedule) (swap_words (codes "source") (codes "schedule") place) v
       → IsSwapped source schedule.now n v

@@ -20,7 +20,7 @@ use Rattle.pc_top.specs.Commands.Swap.{IsPlace}
 use Rattle.pc_top.specs.CoreOf.{IsDerivable, IsUnderivable}
 use Rattle.pc_top.specs.Exact.{IsDerivationOf, JudgedAreExact, ReadsBoth, ReadsSource, StatusesAreExact}
 use Rattle.pc_buffers.specs.Laying.{Buffer}
-use Rattle.pc_call.specs.Answers.{Answers, no_memory, verdict}
+use Rattle.pc_call.specs.Answers.{CallAnswers, no_memory, verdict}
 use Rattle.pc_call.specs.Inner.Shelves.{IsVerdictOn, OfSourceOn, shelf}
 use Rattle.pc_buffers.specs.Points.{Pointing}
 use Rattle.pc_buffers.specs.declared.beside.Beside.{Beside}
@@ -47,7 +47,7 @@ module _ (exact : StatusesAreExact) (asked : Asked) (words : List Text) (source 
   }
 
   -- 1 exactly when the source has a core without a derivation, for what looks for one
-  pub underivable : HasNumber asked → IsTrue (infers asked) → (P : Pointing) (status : ℕ) (a b : Buffer) (place : Place) → Answers (IsVerdictOn source beside words) P status a b place → status ≢ 11
+  pub underivable : HasNumber asked → IsTrue (infers asked) → (P : Pointing) (status : ℕ) (a b : Buffer) (place : Place) → CallAnswers (IsVerdictOn source beside words) P status a b place → status ≢ 11
       → (status ≡ 1) ↔ IsUnderivable source
   underivable number infer P status a b place (verdict v h e l m p) other =
       subst (λ (s : ℕ). (s ≡ 1) ↔ IsUnderivable source) (sym e) (exact.refused (shelf h.0 h.2) words asked (codes "source") source v (reads number v h) infer)
@@ -55,7 +55,7 @@ module _ (exact : StatusesAreExact) (asked : Asked) (words : List Text) (source 
 
 -- 0 exactly when it has a core with one, for `check`
 pub derivable : StatusesAreExact → (words : List Text) (source : Text) (beside : Beside) → command_of words ≡ Some (check (codes "source")) → HasNumber (check (codes "source")) → (P : Pointing) (status : ℕ) (a b : Buffer) (place : Place)
-    → Answers (IsVerdictOn source beside words) P status a b place → status ≢ 11 → (status ≡ 0) ↔ IsDerivable source
+    → CallAnswers (IsVerdictOn source beside words) P status a b place → status ≢ 11 → (status ≡ 0) ↔ IsDerivable source
 derivable exact words source beside asks number P status a b place (verdict v h e l m p) other =
     subst (λ (s : ℕ). (s ≡ 0) ↔ IsDerivable source) (sym e) (exact.accepted (shelf h.0 h.2) words (codes "source") source v (reads exact (check (codes "source")) words source beside asks refl number v h))
 derivable exact words source beside asks number P status a b place (no_memory e l m p) other = absurd (other e)
@@ -75,14 +75,14 @@ module _ (exact : JudgedAreExact) (words : List Text) (source : Text) (derivatio
   }
 
   pub judge_exactly : command_of words ≡ Some (judge (codes "source") (codes "derivation")) → (P : Pointing) (status : ℕ) (a b : Buffer) (place : Place)
-      → Answers (IsVerdictOn source (Derivation derivation) words) P status a b place → status ≢ 11 → (status ≡ 0) ↔ IsDerivationOf source derivation.now
+      → CallAnswers (IsVerdictOn source (Derivation derivation) words) P status a b place → status ≢ 11 → (status ≡ 0) ↔ IsDerivationOf source derivation.now
   judge_exactly asks P status a b place (verdict v h e l m p) other =
       subst (λ (s : ℕ). (s ≡ 0) ↔ IsDerivationOf source derivation.now) (sym e)
       (exact.judged (shelf h.0 h.2) words (codes "source") (codes "derivation") source derivation.now v (reads_both (judge (codes "source") (codes "derivation")) asks v h))
   judge_exactly asks P status a b place (no_memory e l m p) other = absurd (other e)
 
   pub upgrade_exactly : command_of words ≡ Some (upgrade (codes "source") (codes "derivation")) → (P : Pointing) (status : ℕ) (a b : Buffer) (place : Place)
-      → Answers (IsVerdictOn source (Derivation derivation) words) P status a b place → status ≢ 11 → (status ≡ 0) ↔ IsDerivationOf source derivation.now
+      → CallAnswers (IsVerdictOn source (Derivation derivation) words) P status a b place → status ≢ 11 → (status ≡ 0) ↔ IsDerivationOf source derivation.now
   upgrade_exactly asks P status a b place (verdict v h e l m p) other =
       subst (λ (s : ℕ). (s ≡ 0) ↔ IsDerivationOf source derivation.now) (sym e)
       (exact.upgraded (shelf h.0 h.2) words (codes "source") (codes "derivation") source derivation.now v (reads_both (upgrade (codes "source") (codes "derivation")) asks v h))

@@ -1,14 +1,14 @@
 -- What a call returns, and what it leaves in its buffers.
 use Rattle.std.specs.Prelude.{ℕ, ◌≡◌}
-use Rattle.pc_buffers.specs.Laying.{Buffer, Holds, IsUntouched}
+use Rattle.pc_buffers.specs.Laying.{Buffer, BufferHolds, IsUntouched}
 use Rattle.pc_buffers.specs.Places.{no_place}
 use Rattle.pc_buffers.specs.declared.place.Place.{Place}
 use Rattle.pc_lists.specs.Texts.{Text}
 use Rattle.pc_refusals.specs.Verdict.{Verdict}
 
 -- What a call returns: a status, two buffers and a place.
-pub data Answers (V : Verdict → Type 0) (Points : Text → Place → Type 0) (status : ℕ) (out err : Buffer) (place : Place) : Type 0 where
+pub data CallAnswers (V : Verdict → Type 0) (Points : Text → Place → Type 0) (status : ℕ) (out err : Buffer) (place : Place) : Type 0 where
   -- the status is the verdict's, both of its texts are in the buffers, and its line points at the place
-  verdict : (v : Verdict) → V v → status ≡ v.status → Holds out v.out → Holds err v.err → Points v.err place → Answers V Points status out err place
+  verdict : (v : Verdict) → V v → status ≡ v.status → BufferHolds out v.out → BufferHolds err v.err → Points v.err place → CallAnswers V Points status out err place
   -- memory ran out
-  no_memory : status ≡ 11 → IsUntouched out → IsUntouched err → place ≡ no_place → Answers V Points status out err place
+  no_memory : status ≡ 11 → IsUntouched out → IsUntouched err → place ≡ no_place → CallAnswers V Points status out err place

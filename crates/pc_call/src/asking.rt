@@ -7,7 +7,7 @@ ghost use Rattle.pc_top.specs.IsolatedCore.{HasIsolatedCore};
 ghost use Rattle.pc_buffers.specs.Holding.{HoldsTexts};
 ghost use Rattle.pc_buffers.specs.Laying.{buffer};
 ghost use Rattle.pc_buffers.specs.Points.{Points};
-ghost use Rattle.pc_call.specs.Answers.{Answers};
+ghost use Rattle.pc_call.specs.Answers.{CallAnswers};
 ghost use Rattle.pc_call.specs.Inner.Shelves.{IsVerdictOn, OfSourceOn};
 
 use pc_buffers::{Answer, Beside, hand_over, make_files, refuse_memory};
@@ -28,7 +28,7 @@ fn ask_files(
     answer: &mut Answer,
 ) -> u8
     requires { HoldsTexts files.old.entries source.now beside }
-    ensures answers { Answers (IsVerdictOn source.now beside.entry (texts words.now)) (Points source.now beside.entry) result (buffer out.old out.new answer.new.out_length) (buffer err.old err.new answer.new.err_length) answer.new.place }
+    ensures answers { CallAnswers (IsVerdictOn source.now beside.entry (texts words.now)) (Points source.now beside.entry) result (buffer out.old out.new answer.new.out_length) (buffer err.old err.new answer.new.err_length) answer.new.place }
     ensures accepted { IsAccepting result → OfSourceOn IsDerivable source.now beside.entry (texts words.now) }
     ensures safe { IsAccepting result → OfSourceOn HasSafeCore source.now beside.entry (texts words.now) }
     ensures isolated { IsAccepting result → OfSourceOn HasIsolatedCore source.now beside.entry (texts words.now) }
@@ -60,7 +60,7 @@ pub fn ask(
     err: &mut [u8],
     answer: &mut Answer,
 ) -> u8
-    ensures answers { Answers (IsVerdictOn source.now beside.entry (texts words.now)) (Points source.now beside.entry) result (buffer out.old out.new answer.new.out_length) (buffer err.old err.new answer.new.err_length) answer.new.place }
+    ensures answers { CallAnswers (IsVerdictOn source.now beside.entry (texts words.now)) (Points source.now beside.entry) result (buffer out.old out.new answer.new.out_length) (buffer err.old err.new answer.new.err_length) answer.new.place }
     ensures accepted { IsAccepting result → OfSourceOn IsDerivable source.now beside.entry (texts words.now) }
     ensures safe { IsAccepting result → OfSourceOn HasSafeCore source.now beside.entry (texts words.now) }
     ensures isolated { IsAccepting result → OfSourceOn HasIsolatedCore source.now beside.entry (texts words.now) }

@@ -5,7 +5,7 @@ ghost use Rattle.pc_top.specs.CoreOf.{HasSafeCore, IsDerivable, IsUnderivable};
 ghost use Rattle.pc_top.specs.IsolatedCore.{HasIsolatedCore};
 ghost use Rattle.pc_buffers.specs.Laying.{buffer};
 ghost use Rattle.pc_buffers.specs.Points.{PointsIntoSource};
-ghost use Rattle.pc_call.specs.Answers.{Answers};
+ghost use Rattle.pc_call.specs.Answers.{CallAnswers};
 ghost use Rattle.pc_call.specs.Verdicts.{IsOutcomesOf, IsPlayed, IsScheduleOf, MayBeCount};
 
 use crate::asking::ask;
@@ -24,7 +24,7 @@ pub fn schedule(
     err: &mut [u8],
     answer: &mut Answer,
 ) -> u8
-    ensures answers { Answers (IsScheduleOf source.now seed) (PointsIntoSource source.now) result (buffer out.old out.new answer.new.out_length) (buffer err.old err.new answer.new.err_length) answer.new.place }
+    ensures answers { CallAnswers (IsScheduleOf source.now seed) (PointsIntoSource source.now) result (buffer out.old out.new answer.new.out_length) (buffer err.old err.new answer.new.err_length) answer.new.place }
     ensures exact { result ≢ 11 → (result ≡ 1) ↔ IsUnderivable source.now }
     ensures accepted { IsAccepting result → IsDerivable source.now }
     ensures safe { IsAccepting result → HasSafeCore source.now }
@@ -54,7 +54,7 @@ pub fn play(
     err: &mut [u8],
     answer: &mut Answer,
 ) -> u8
-    ensures answers { Answers (IsPlayed source.now seed) (PointsIntoSource source.now) result (buffer out.old out.new answer.new.out_length) (buffer err.old err.new answer.new.err_length) answer.new.place }
+    ensures answers { CallAnswers (IsPlayed source.now seed) (PointsIntoSource source.now) result (buffer out.old out.new answer.new.out_length) (buffer err.old err.new answer.new.err_length) answer.new.place }
     ensures exact { result ≢ 11 → (result ≡ 1) ↔ IsUnderivable source.now }
     ensures accepted { IsAccepting result → IsDerivable source.now }
     ensures safe { IsAccepting result → HasSafeCore source.now }
@@ -85,7 +85,7 @@ pub fn outcomes(
     err: &mut [u8],
     answer: &mut Answer,
 ) -> u8
-    ensures answers { Answers (IsOutcomesOf source.now count) (PointsIntoSource source.now) result (buffer out.old out.new answer.new.out_length) (buffer err.old err.new answer.new.err_length) answer.new.place }
+    ensures answers { CallAnswers (IsOutcomesOf source.now count) (PointsIntoSource source.now) result (buffer out.old out.new answer.new.out_length) (buffer err.old err.new answer.new.err_length) answer.new.place }
     ensures exact { MayBeCount count → result ≢ 11 → (result ≡ 1) ↔ IsUnderivable source.now }
     ensures accepted { IsAccepting result → IsDerivable source.now }
     ensures safe { IsAccepting result → HasSafeCore source.now }

@@ -5,7 +5,7 @@ ghost use Rattle.pc_top.specs.CoreOf.{HasSafeCore, IsDerivable, IsUnderivable};
 ghost use Rattle.pc_top.specs.IsolatedCore.{HasIsolatedCore};
 ghost use Rattle.pc_buffers.specs.Laying.{buffer};
 ghost use Rattle.pc_buffers.specs.Points.{PointsIntoBoth};
-ghost use Rattle.pc_call.specs.Answers.{Answers};
+ghost use Rattle.pc_call.specs.Answers.{CallAnswers};
 ghost use Rattle.pc_call.specs.Verdicts.{IsEventsOf, IsRunOf, IsSwapped, IsTraced, MayBePlace};
 
 use crate::asking::ask;
@@ -24,7 +24,7 @@ pub fn run(
     err: &mut [u8],
     answer: &mut Answer,
 ) -> u8
-    ensures answers { Answers (IsRunOf source.now schedule.now) (PointsIntoBoth source.now schedule.now) result (buffer out.old out.new answer.new.out_length) (buffer err.old err.new answer.new.err_length) answer.new.place }
+    ensures answers { CallAnswers (IsRunOf source.now schedule.now) (PointsIntoBoth source.now schedule.now) result (buffer out.old out.new answer.new.out_length) (buffer err.old err.new answer.new.err_length) answer.new.place }
     ensures exact { result ≢ 11 → (result ≡ 1) ↔ IsUnderivable source.now }
     ensures accepted { IsAccepting result → IsDerivable source.now }
     ensures safe { IsAccepting result → HasSafeCore source.now }
@@ -52,7 +52,7 @@ pub fn trace(
     err: &mut [u8],
     answer: &mut Answer,
 ) -> u8
-    ensures answers { Answers (IsTraced source.now schedule.now) (PointsIntoBoth source.now schedule.now) result (buffer out.old out.new answer.new.out_length) (buffer err.old err.new answer.new.err_length) answer.new.place }
+    ensures answers { CallAnswers (IsTraced source.now schedule.now) (PointsIntoBoth source.now schedule.now) result (buffer out.old out.new answer.new.out_length) (buffer err.old err.new answer.new.err_length) answer.new.place }
     ensures exact { result ≢ 11 → (result ≡ 1) ↔ IsUnderivable source.now }
     ensures accepted { IsAccepting result → IsDerivable source.now }
     ensures safe { IsAccepting result → HasSafeCore source.now }
@@ -80,7 +80,7 @@ pub fn events(
     err: &mut [u8],
     answer: &mut Answer,
 ) -> u8
-    ensures answers { Answers (IsEventsOf source.now schedule.now) (PointsIntoBoth source.now schedule.now) result (buffer out.old out.new answer.new.out_length) (buffer err.old err.new answer.new.err_length) answer.new.place }
+    ensures answers { CallAnswers (IsEventsOf source.now schedule.now) (PointsIntoBoth source.now schedule.now) result (buffer out.old out.new answer.new.out_length) (buffer err.old err.new answer.new.err_length) answer.new.place }
     ensures exact { result ≢ 11 → (result ≡ 1) ↔ IsUnderivable source.now }
     ensures accepted { IsAccepting result → IsDerivable source.now }
     ensures safe { IsAccepting result → HasSafeCore source.now }
@@ -110,7 +110,7 @@ pub fn swap(
     err: &mut [u8],
     answer: &mut Answer,
 ) -> u8
-    ensures answers { Answers (IsSwapped source.now schedule.now place) (PointsIntoBoth source.now schedule.now) result (buffer out.old out.new answer.new.out_length) (buffer err.old err.new answer.new.err_length) answer.new.place }
+    ensures answers { CallAnswers (IsSwapped source.now schedule.now place) (PointsIntoBoth source.now schedule.now) result (buffer out.old out.new answer.new.out_length) (buffer err.old err.new answer.new.err_length) answer.new.place }
     ensures exact { MayBePlace place → result ≢ 11 → (result ≡ 1) ↔ IsUnderivable source.now }
     ensures accepted { IsAccepting result → IsDerivable source.now }
     ensures safe { IsAccepting result → HasSafeCore source.now }

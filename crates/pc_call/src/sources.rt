@@ -5,7 +5,7 @@ ghost use Rattle.pc_top.specs.CoreOf.{HasSafeCore, IsDerivable, IsUnderivable};
 ghost use Rattle.pc_top.specs.IsolatedCore.{HasIsolatedCore};
 ghost use Rattle.pc_buffers.specs.Laying.{buffer};
 ghost use Rattle.pc_buffers.specs.Points.{PointsIntoSource};
-ghost use Rattle.pc_call.specs.Answers.{Answers};
+ghost use Rattle.pc_call.specs.Answers.{CallAnswers};
 ghost use Rattle.pc_call.specs.Verdicts.{IsChecked, IsExplained, IsPlacesOf, IsSendsOf, IsShown};
 
 use crate::asking::ask;
@@ -22,7 +22,7 @@ pub fn check(
     err: &mut [u8],
     answer: &mut Answer,
 ) -> u8
-    ensures answers { Answers (IsChecked source.now) (PointsIntoSource source.now) result (buffer out.old out.new answer.new.out_length) (buffer err.old err.new answer.new.err_length) answer.new.place }
+    ensures answers { CallAnswers (IsChecked source.now) (PointsIntoSource source.now) result (buffer out.old out.new answer.new.out_length) (buffer err.old err.new answer.new.err_length) answer.new.place }
     ensures exact { result ≢ 11 → ((result ≡ 0) ↔ IsDerivable source.now) × ((result ≡ 1) ↔ IsUnderivable source.now) }
     ensures safe { IsAccepting result → HasSafeCore source.now }
     ensures isolated { IsAccepting result → HasIsolatedCore source.now }
@@ -42,7 +42,7 @@ pub fn check(
 
 /// Prints the source.
 pub fn show(alloc: Global, source: &[u8], out: &mut [u8], err: &mut [u8], answer: &mut Answer) -> u8
-    ensures { Answers (IsShown source.now) (PointsIntoSource source.now) result (buffer out.old out.new answer.new.out_length) (buffer err.old err.new answer.new.err_length) answer.new.place }
+    ensures { CallAnswers (IsShown source.now) (PointsIntoSource source.now) result (buffer out.old out.new answer.new.out_length) (buffer err.old err.new answer.new.err_length) answer.new.place }
 {
     written_forms_are_taken();
     ask(
@@ -64,7 +64,7 @@ pub fn places(
     err: &mut [u8],
     answer: &mut Answer,
 ) -> u8
-    ensures { Answers (IsPlacesOf source.now) (PointsIntoSource source.now) result (buffer out.old out.new answer.new.out_length) (buffer err.old err.new answer.new.err_length) answer.new.place }
+    ensures { CallAnswers (IsPlacesOf source.now) (PointsIntoSource source.now) result (buffer out.old out.new answer.new.out_length) (buffer err.old err.new answer.new.err_length) answer.new.place }
 {
     written_forms_are_taken();
     ask(
@@ -86,7 +86,7 @@ pub fn sends(
     err: &mut [u8],
     answer: &mut Answer,
 ) -> u8
-    ensures answers { Answers (IsSendsOf source.now) (PointsIntoSource source.now) result (buffer out.old out.new answer.new.out_length) (buffer err.old err.new answer.new.err_length) answer.new.place }
+    ensures answers { CallAnswers (IsSendsOf source.now) (PointsIntoSource source.now) result (buffer out.old out.new answer.new.out_length) (buffer err.old err.new answer.new.err_length) answer.new.place }
     ensures exact { result ≢ 11 → (result ≡ 1) ↔ IsUnderivable source.now }
     ensures accepted { IsAccepting result → IsDerivable source.now }
     ensures safe { IsAccepting result → HasSafeCore source.now }
@@ -114,7 +114,7 @@ pub fn explain(
     err: &mut [u8],
     answer: &mut Answer,
 ) -> u8
-    ensures { Answers (IsExplained source.now) (PointsIntoSource source.now) result (buffer out.old out.new answer.new.out_length) (buffer err.old err.new answer.new.err_length) answer.new.place }
+    ensures { CallAnswers (IsExplained source.now) (PointsIntoSource source.now) result (buffer out.old out.new answer.new.out_length) (buffer err.old err.new answer.new.err_length) answer.new.place }
 {
     written_forms_are_taken();
     ask(

@@ -1,6 +1,6 @@
 -- The table of the order is the closure of the ten pairs.
 use Rattle.std.proofs.Common.{◌≡◌, Bool, true, false, List, [], ◌∷◌, refl, inl, inr, ◌&&◌, ◌||◌, not, IsTrue, ◌↔◌}
-use Rattle.pc_caps.specs.Order.{pairs, StandsIn, IsBelow, is_below}
+use Rattle.pc_caps.specs.Order.{pairs, IsPairIn, IsBelow, is_below}
 use Rattle.pc_caps.specs.Order.IsBelow.{same, step}
 use Rattle.pc_caps.specs.declared.capability.Form.{Form}
 use Rattle.pc_caps.specs.declared.capability.Form.TheVariants.{IsoE, TrnE, Iso, Trn, Ref, Val, Box, Tag}
@@ -37,7 +37,7 @@ implied true y e h = e
 implied false y e h = cc
 
 -- extending a path on the left keeps the table true
-kept : (ps : List (Form × Form)) (a b c : Form) → keeps ps c ≡ true → StandsIn ps a b → is_below b c ≡ true → is_below a c ≡ true
+kept : (ps : List (Form × Form)) (a b c : Form) → keeps ps c ≡ true → IsPairIn ps a b → is_below b c ≡ true → is_below a c ≡ true
 kept [] a b c e s h = absurd s
 kept (p ∷ ps) a b c e (inl s) h =
     let here = implied (is_below p.1 c) (is_below p.0 c) (first_true _ _ e) in

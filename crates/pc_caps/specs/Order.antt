@@ -11,14 +11,14 @@ pairs =
     ∷ (Box, Tag) ∷ (Iso, Tag) ∷ []
 
 -- A pair of forms is in a list.
-abbrev pub StandsIn : List (Form × Form) → Form → Form → Type 0
-StandsIn [] a b = ⊥
-StandsIn (p ∷ ps) a b = ((p.0 ≡ a) × (p.1 ≡ b)) ⊎ StandsIn ps a b
+abbrev pub IsPairIn : List (Form × Form) → Form → Form → Type 0
+IsPairIn [] a b = ⊥
+IsPairIn (p ∷ ps) a b = ((p.0 ≡ a) × (p.1 ≡ b)) ⊎ IsPairIn ps a b
 
 -- The closure: a path of pairs, of any length, leads from the first form to the second.
 pub data IsBelow : Form → Form → Type 0 where
   same : {a : Form} → IsBelow a a
-  step : {a b c : Form} → StandsIn pairs a b → IsBelow b c → IsBelow a c
+  step : {a b c : Form} → IsPairIn pairs a b → IsBelow b c → IsBelow a c
 
 -- The order as a table that computes.
 abbrev pub is_below : Form → Form → Bool

@@ -17,7 +17,7 @@ use Rattle.pc_core.specs.Nodes.{HasArity, NamesFit}
 use Rattle.pc_core.specs.Formed.{Formed}
 use Rattle.pc_ann.specs.declared.annotation.Note.{Note}
 use Rattle.pc_ann.specs.declared.annotation.Ann.{Ann}
-use Rattle.pc_valid.specs.Words.{Masks, before, after}
+use Rattle.pc_valid.specs.Words.{Masks, before, masks_after}
 use Rattle.pc_valid.specs.Valid.{KeepsWritten, DifferAt, Valid}
 use Rattle.pc_rules.specs.Rules.{says, said_by, IsSaid}
 use Rattle.pc_rules.specs.Checks.{Checks, StartsFrom, GoesWell, SaysNothing, StaysUnset, is_else}
@@ -34,7 +34,7 @@ use Rattle.pc_rules.specs.Statements.{OneValid}
 use Rattle.pc_rules.proofs.Derivations.{to_valid, to_no_rule, to_unset}
 use Rattle.pc_check.specs.declared.fault.CheckFault.{CheckFault}
 use Rattle.pc_check.specs.declared.fault.CheckFault.TheVariants as fault_of
-use Rattle.pc_check.specs.Faults.{Refuses, Answers}
+use Rattle.pc_check.specs.Faults.{RefusesCore, AnswersAnnotation}
 use Rattle.pc_check.specs.Laws.{NoneWithoutRule, NoneWithUnset, NoneWithFault}
 use Rattle.pc_check.proofs.Filling.{low_at, tree_at, low_next, low_behind}
 
@@ -130,14 +130,14 @@ module _ (core : CoreData) (b : Ann) (formed : Formed core) (v : Checks core b) 
         | inr if ↦ first_starts b (then_way x.children) (before s) n t (meets_if_threads core b x s if m).0 (then_first x.children n (arity p x g if) e) ht
       ]
 
-  else_of : (p c n : ℕ) (x : Node) (t u : Note) → slice_get core.nodes p ≡ Some x → x.kind ≡ node.If → slice_get x.children 2 ≡ Some n → slice_get x.children 0 ≡ Some c → slice_get b.notes c ≡ Some t → slice_get b.notes n ≡ Some u → before u ≡ after t
+  else_of : (p c n : ℕ) (x : Node) (t u : Note) → slice_get core.nodes p ≡ Some x → x.kind ≡ node.If → slice_get x.children 2 ≡ Some n → slice_get x.children 0 ≡ Some c → slice_get b.notes c ≡ Some t → slice_get b.notes n ≡ Some u → before u ≡ masks_after t
   else_of p c n x t u g k e f ht hu =
       let s = note_at p x g in
       let m = valid_meets core b p x s.0 v g s.1 in
       let way = else_both x.children c n (arity p x g k) f e in
       next_starts b (else_way x.children) (before s.0) 0 c n t u (meets_if_threads core b x s.0 k m).1 way.0 way.1 ht hu
 
-  next_of : (p c n i : ℕ) (x : Node) (t u : Note) → slice_get core.nodes p ≡ Some x → is_else x.kind (suc i) ≡ false → slice_get x.children (suc i) ≡ Some n → slice_get x.children i ≡ Some c → slice_get b.notes c ≡ Some t → slice_get b.notes n ≡ Some u → before u ≡ after t
+  next_of : (p c n i : ℕ) (x : Node) (t u : Note) → slice_get core.nodes p ≡ Some x → is_else x.kind (suc i) ≡ false → slice_get x.children (suc i) ≡ Some n → slice_get x.children i ≡ Some c → slice_get b.notes c ≡ Some t → slice_get b.notes n ≡ Some u → before u ≡ masks_after t
   next_of p c n i x t u g k e f ht hu =
       let s = note_at p x g in
       let m = valid_meets core b p x s.0 v g s.1 in
@@ -251,12 +251,12 @@ pub none_with_fault : NoneWithFault
 none_with_fault core fault formed e d = faulted core fault formed e d.1.declarations
 
 -- What is answered if an annotation is valid.
-pub one_answer : (core : CoreData) (fault : CheckFault) (ann : Ann) → Formed core → Valid core ann → Refuses core fault → fault ≡ fault_of.Memory
+pub one_answer : (core : CoreData) (fault : CheckFault) (ann : Ann) → Formed core → Valid core ann → RefusesCore core fault → fault ≡ fault_of.Memory
 one_answer core (fault_of.Decl f) ann formed v h = absurd (none_with_fault core f formed h (ann, v))
 one_answer core (fault_of.NoRule n l s so_far) ann formed v h = absurd (none_without_rule core so_far n formed h.0 (ann, v))
 one_answer core (fault_of.Unset m so_far) ann formed v h = absurd (none_with_unset core so_far m formed h.0 (ann, v))
 one_answer core fault_of.Memory ann formed v h = refl
 
-pub exact : (core : CoreData) (result : Result Ann CheckFault) (ann : Ann) → Formed core → OneValid → IfOk result (Valid core) → IfErr result (Refuses core) → Valid core ann → Answers result (Ok ann)
+pub exact : (core : CoreData) (result : Result Ann CheckFault) (ann : Ann) → Formed core → OneValid → IfOk result (Valid core) → IfErr result (RefusesCore core) → Valid core ann → AnswersAnnotation result (Ok ann)
 exact core (Ok answer) ann formed one ok err v = inl (ap Ok (one core answer ann formed ok v))
 exact core (Err fault) ann formed one ok err v = inr (ap Err (one_answer core fault ann formed v err))

@@ -12,7 +12,7 @@ use Rattle.pc_core.specs.declared.nodes.NodeKind.{NodeKind}
 use Rattle.pc_core.specs.declared.nodes.NodeKind.TheVariants as node
 use Rattle.pc_core.specs.CoreData.{CoreData}
 use Rattle.pc_lists.proofs.Options.{bind_some, bind_is}
-use Rattle.pc_core.specs.Methods.{LocalFits, Uses}
+use Rattle.pc_core.specs.Methods.{LocalFits, UsesSlot}
 use Rattle.pc_core.specs.MethodKinds.{this_slot}
 use Rattle.pc_core.specs.Nodes.{NamesFit}
 use Rattle.pc_core.specs.Formed.{Formed}
@@ -21,7 +21,7 @@ use Rattle.pc_rules.specs.Parts.{type_of, one_child}
 use Rattle.pc_valid.specs.Words.{Ty}
 use Rattle.pc_rules.proofs.Alike.{looked_at}
 use Rattle.pc_rules.proofs.Slotted.{slot_known, this_known}
-use Rattle.pc_check.specs.Inference.{unwritten, slot_type, inferred_slot}
+use Rattle.pc_check.specs.Inference.{unwritten, inferred_slot_type, inferred_slot}
 use Rattle.pc_core.proofs.Homes.{home, home_method}
 
 -- ---- what follows for the slot
@@ -64,14 +64,14 @@ pub inferred_inv : (core : CoreData) (ann : Ann) (x : Node) (i : ℕ × (ℕ × 
 inferred_inv core ann x i e = inferred_of core ann x x.kind i refl e
 
 -- It follows if the value has a type and none is written.
-pub slot_follows : (core : CoreData) (ann : Ann) (x : Node) (s : ℕ) (f : Method) (y : Slot) (c : ℕ) (v : Ty) → slice_get core.methods x.method ≡ Some f → slice_get core.slots (f.first_slot + s) ≡ Some y → y.written ≡ None → one_child x.children ≡ Some c → type_of ann c ≡ Some v → slot_type core ann x s ≡ Some (f.first_slot + s, (v.0, stored v.1))
+pub slot_follows : (core : CoreData) (ann : Ann) (x : Node) (s : ℕ) (f : Method) (y : Slot) (c : ℕ) (v : Ty) → slice_get core.methods x.method ≡ Some f → slice_get core.slots (f.first_slot + s) ≡ Some y → y.written ≡ None → one_child x.children ≡ Some c → type_of ann c ≡ Some v → inferred_slot_type core ann x s ≡ Some (f.first_slot + s, (v.0, stored v.1))
 slot_follows core ann x s f y c v g h w k t =
     let u : unwritten ann x.children y.written ≡ Some v = ap (unwritten ann x.children) w ∙ bind_is (one_child x.children) (type_of ann) c k ∙ t in
     bind_is (slice_get core.methods x.method) _ f g ∙ bind_is (slice_get core.slots (f.first_slot + s)) _ y h ∙ bind_is (unwritten ann x.children y.written) _ v u
 
 -- ---- which nodes use it
 
-pub looked_kind : (k : NodeKind) (s : ℕ) → looked_at k ≡ Some s → ((k ≡ node.This) × (s ≡ 0)) ⊎ (Uses s k ⊎ (k ≡ node.Define s))
+pub looked_kind : (k : NodeKind) (s : ℕ) → looked_at k ≡ Some s → ((k ≡ node.This) × (s ≡ 0)) ⊎ (UsesSlot s k ⊎ (k ≡ node.Define s))
 looked_kind node.This s e = inl (refl, sym (same_Some 0 s e))
 looked_kind (node.Local i) s e = inr (inl (same_Some i s e))
 looked_kind (node.Consume i) s e = inr (inl (same_Some i s e))
@@ -79,7 +79,7 @@ looked_kind (node.Assign i) s e = inr (inl (same_Some i s e))
 looked_kind (node.Define i) s e = inr (inr (ap node.Define (same_Some i s e)))
 looked_kind k s e = absurd (none-some s e)
 
-uses_below : (core : CoreData) (m : ℕ) (k : NodeKind) (s : ℕ) (f : Method) → NamesFit core m k → Uses s k → slice_get core.methods m ≡ Some f → s < f.slots
+uses_below : (core : CoreData) (m : ℕ) (k : NodeKind) (s : ℕ) (f : Method) → NamesFit core m k → UsesSlot s k → slice_get core.methods m ≡ Some f → s < f.slots
 uses_below core m (node.Local i) s f h u g = subst (λ j. j < f.slots) u (subst (λ (z : Method). i < z.slots) (same_Some h.1.0 f (sym h.1.1 ∙ g)) h.1.2)
 uses_below core m (node.Consume i) s f h u g = subst (λ j. j < f.slots) u (subst (λ (z : Method). i < z.slots) (same_Some h.1.0 f (sym h.1.1 ∙ g)) h.1.2)
 uses_below core m (node.Assign i) s f h u g = subst (λ j. j < f.slots) u (subst (λ (z : Method). i < z.slots) (same_Some h.1.0 f (sym h.1.1 ∙ g)) h.1.2)
@@ -119,7 +119,7 @@ other_place core ann n j x z i s f formed g def l h look gf e =
           let place = def.place in
           let same : s ≡ def.slot = omega (arith, e, first, place) in
           elim used [
-            | inl u ↦ let later = (fit.later j z h own (subst (λ k. Uses k z.kind) same u)).0 in omega (arith, later, at, l)
+            | inl u ↦ let later = (fit.later j z h own (subst (λ k. UsesSlot k z.kind) same u)).0 in omega (arith, later, at, l)
             | inr d ↦ let only = fit.only j z h own (d ∙ ap node.Define same) in omega (arith, only, at, l)
           ]
     ]

@@ -17,7 +17,7 @@ use Rattle.pc_rules.specs.Checks.{is_else}
 use Rattle.pc_rules.specs.Checks.StartsFrom.{body, first_child, else_branch, next_child}
 use Rattle.pc_check.specs.declared.sources.Source.{Source}
 use Rattle.pc_check.specs.declared.sources.Source.TheVariants as source
-use Rattle.pc_check.specs.Sources.{Comes, Placed, Sourced, Known, Filled, PartFilled, PassesOn, ComesLater}
+use Rattle.pc_check.specs.Sources.{Comes, IsPlacedSource, Sourced, IsBodyOrChild, Filled, PartFilled, PassesOn, ComesLater}
 use Rattle.pc_rules.proofs.Homes.{children_of, children_before}
 use Rattle.pc_check.proofs.Parents.{known}
 
@@ -100,12 +100,12 @@ filled_start core sources formed is = (
         let own : y.0.method ≡ b.0 = ap (λ (z : Node). z.method) (sym root) ∙ body_method core b.0 f n b.3 fit in
         let at : slice_get core.methods y.0.method ≡ Some f = ap (slice_get core.methods) own ∙ b.2 in
         let kind : y.0.kind ≡ node.Body = ap (λ (z : Node). z.kind) (sym root) ∙ fit.is_body in
-        subst (Placed core n) y.2 (f.first_node, body_tree core b.0 f n fit, (f, at, λ ann. body y.0 f y.1 kind at))
+        subst (IsPlacedSource core n) y.2 (f.first_node, body_tree core b.0 f n fit, (f, at, λ ann. body y.0 f y.1 kind at))
     | inr p ↦ let l = get_below core.nodes p.0 p.2.0 p.2.1 in let m = p.1 in absurd (omega (arith, l, m))
   ],
 )
 
-pub own_placed : (core : CoreData) (sources : List Source) (p : ℕ) (s : Source) → Formed core → Filled core sources (p + 1) → slice_get sources p ≡ Some s → Placed core p s
+pub own_placed : (core : CoreData) (sources : List Source) (p : ℕ) (s : Source) → Formed core → Filled core sources (p + 1) → slice_get sources p ≡ Some s → IsPlacedSource core p s
 own_placed core sources p s formed f e =
     let l = get_below sources p s e in
     let n = f.0 in
@@ -114,11 +114,11 @@ own_placed core sources p s formed f e =
 pub part_start : (core : CoreData) (sources : List Source) (i : ℕ) (x : Node) → Filled core sources i → PartFilled core sources i x 0
 part_start core sources i x f = (f.0, λ n s e k. elim k [ inl a ↦ f.1 n s e a | inr b ↦ let l = b.1 in absurd (omega (arith, l)) ])
 
-pub part_step : (core : CoreData) (sources : List Source) (i : ℕ) (x : Node) (j c : ℕ) (s : Source) → PartFilled core sources i x j → slice_get x.children j ≡ Some c → Placed core c s → PartFilled core (slice_set sources c s) i x (j + 1)
+pub part_step : (core : CoreData) (sources : List Source) (i : ℕ) (x : Node) (j c : ℕ) (s : Source) → PartFilled core sources i x j → slice_get x.children j ≡ Some c → IsPlacedSource core c s → PartFilled core (slice_set sources c s) i x (j + 1)
 part_step core sources i x j c s f e h = (
   length-set sources c s ∙ f.0,
   λ n t g k. elim (get_set sources c s n t g) [
-    | inl new ↦ subst (Placed core n) (sym new.1) (subst (λ m. Placed core m s) (sym new.0) h)
+    | inl new ↦ subst (IsPlacedSource core n) (sym new.1) (subst (λ m. IsPlacedSource core m s) (sym new.0) h)
     | inr old ↦ elim k [
       | inl a ↦ f.1 n t old (inl a)
       | inr b ↦ elim (cases_lt b.0 j) [
@@ -128,13 +128,13 @@ part_step core sources i x j c s f e h = (
             let here : c ≡ n = same_Some c n (sym e ∙ ap (slice_get x.children) (sym same) ∙ b.2) in
             let within : c < length sources = subst (λ m. m < length sources) (sym here) (get_below sources n t old) in
             let is : s ≡ t = same_Some s t (sym (get_set_same sources c s within) ∙ ap (slice_get (slice_set sources c s)) here ∙ g) in
-            subst (Placed core n) is (subst (λ m. Placed core m s) here h)
+            subst (IsPlacedSource core n) is (subst (λ m. IsPlacedSource core m s) here h)
       ]
     ]
   ],
 )
 
-part_own : (core : CoreData) (p n : ℕ) (x : Node) → slice_get core.nodes p ≡ Some x → Known core p n → Known core (p + 1) n ⊎ ((k : ℕ) × (k < length x.children) × (slice_get x.children k ≡ Some n))
+part_own : (core : CoreData) (p n : ℕ) (x : Node) → slice_get core.nodes p ≡ Some x → IsBodyOrChild core p n → IsBodyOrChild core (p + 1) n ⊎ ((k : ℕ) × (k < length x.children) × (slice_get x.children k ≡ Some n))
 part_own core p n x g k =
     elim k [
       | inl b ↦ inl (inl b)

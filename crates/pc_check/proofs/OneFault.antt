@@ -12,7 +12,7 @@ use Rattle.pc_core.specs.Formed.{Formed}
 use Rattle.pc_ann.specs.declared.annotation.Note.{Note}
 use Rattle.pc_ann.specs.declared.annotation.Ann.{Ann}
 use Rattle.pc_masks.specs.Masks.{first}
-use Rattle.pc_valid.specs.Words.{Masks, before, after}
+use Rattle.pc_valid.specs.Words.{Masks, before, masks_after}
 use Rattle.pc_valid.specs.Valid.{KeepsWritten}
 use Rattle.pc_rules.specs.Control.{start_set}
 use Rattle.pc_rules.specs.Rules.{IsSaid}
@@ -129,8 +129,9 @@ body_alone core n p i x y formed g k h e =
 
 -- ---- only one pair of masks reaches a node
 
-same_note : (b : Ann) (c d : ℕ) (t u : Note) → c ≡ d → slice_get b.notes c ≡ Some t → slice_get b.notes d ≡ Some u → after t ≡ after u
-same_note b c d t u e h k = ap after (same_Some t u (sym h ∙ ap (slice_get b.notes) e ∙ k))
+same_note : (b : Ann) (c d : ℕ) (t u : Note) → c ≡ d → slice_get b.notes c ≡ Some t → slice_get b.notes d ≡ Some u
+    → masks_after t ≡ masks_after u
+same_note b c d t u e h k = ap masks_after (same_Some t u (sym h ∙ ap (slice_get b.notes) e ∙ k))
 
 not_first : {i : ℕ} → 0 ≡ suc i → ⊥
 not_first {i} e = omega (arith, e)
@@ -140,7 +141,7 @@ abbrev starts_of_in : CoreData → Method → Masks
 starts_of_in core f = (first (1 + length f.params), start_set core f)
 
 module _ (core : CoreData) (b : Ann) (formed : Formed core) where
-  else_one : (n p c : ℕ) (x : Node) (t : Note) (m : Masks) → slice_get core.nodes p ≡ Some x → x.kind ≡ node.If → slice_get x.children 2 ≡ Some n → slice_get x.children 0 ≡ Some c → slice_get b.notes c ≡ Some t → StartsFrom core b n m → after t ≡ m
+  else_one : (n p c : ℕ) (x : Node) (t : Note) (m : Masks) → slice_get core.nodes p ≡ Some x → x.kind ≡ node.If → slice_get x.children 2 ≡ Some n → slice_get x.children 0 ≡ Some c → slice_get b.notes c ≡ Some t → StartsFrom core b n m → masks_after t ≡ m
   else_one n p c x t m g k e f i (body y h u w v) = absurd (body_alone core n p 2 y x formed u w g e)
   else_one n p c x t m g k e f i (first_child q y h w r) = let o = once core n q p 0 2 y x formed h g w e in absurd (not_first o.place)
   else_one n p c x t m g k e f i (else_branch q d y u h w v z s) = let o = once core n p q 2 2 x y formed g h e v in same_note b c d t u (same_Some c d (sym f ∙ ap (λ (a : Node). slice_get a.children 0) o.at ∙ z)) i s
@@ -148,7 +149,7 @@ module _ (core : CoreData) (b : Ann) (formed : Formed core) where
       let o = once core n p q 2 (suc j) x y formed g h e v in
       absurd (false_true (sym w ∙ ap (is_else y.kind) (sym o.place) ∙ ap (λ a. is_else a 2) (ap (λ (a : Node). a.kind) (sym o.at) ∙ k)))
 
-  next_one : (n p c i : ℕ) (x : Node) (t : Note) (m : Masks) → slice_get core.nodes p ≡ Some x → is_else x.kind (suc i) ≡ false → slice_get x.children (suc i) ≡ Some n → slice_get x.children i ≡ Some c → slice_get b.notes c ≡ Some t → StartsFrom core b n m → after t ≡ m
+  next_one : (n p c i : ℕ) (x : Node) (t : Note) (m : Masks) → slice_get core.nodes p ≡ Some x → is_else x.kind (suc i) ≡ false → slice_get x.children (suc i) ≡ Some n → slice_get x.children i ≡ Some c → slice_get b.notes c ≡ Some t → StartsFrom core b n m → masks_after t ≡ m
   next_one n p c i x t m g k e f s (body y h u w v) = absurd (body_alone core n p (suc i) y x formed u w g e)
   next_one n p c i x t m g k e f s (first_child q y h w r) = let o = once core n q p 0 (suc i) y x formed h g w e in absurd (not_first o.place)
   next_one n p c i x t m g k e f s (else_branch q d y u h w v z a) =

@@ -13,7 +13,7 @@ use Rattle.pc_lists.proofs.Gets.{get_map}
 use Rattle.pc_core.specs.Formed.{Formed}
 use Rattle.pc_rules.specs.Trees.{Tree, Forest, tree, empty, more, body_tree}
 use Rattle.pc_core.proofs.Homes.{home}
-use Rattle.pc_check.specs.Sources.{IsChild, Known}
+use Rattle.pc_check.specs.Sources.{IsChild, IsBodyOrChild}
 
 -- ---- parents
 
@@ -40,7 +40,7 @@ mutual
       ]
 
 -- A node is the body of its method, or has a parent, which comes after it.
-pub known : (core : CoreData) (n : ℕ) → Formed core → n < length core.nodes → Known core (n + 1) n
+pub known : (core : CoreData) (n : ℕ) → Formed core → n < length core.nodes → IsBodyOrChild core (n + 1) n
 known core n formed l =
     let h = home core n formed l in
     let to = h.to in

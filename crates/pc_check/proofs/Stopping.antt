@@ -15,7 +15,7 @@ use Rattle.pc_core.specs.declared.nodes.NodeKind.TheVariants as node
 use Rattle.pc_core.specs.CoreData.{CoreData}
 use Rattle.pc_lists.specs.Places.{Each, Has}
 use Rattle.pc_lists.specs.Options.{◌>>=◌}
-use Rattle.pc_core.specs.Methods.{Uses}
+use Rattle.pc_core.specs.Methods.{UsesSlot}
 use Rattle.pc_core.specs.Nodes.{NamesFit}
 use Rattle.pc_core.specs.Formed.{Formed}
 use Rattle.pc_ann.specs.declared.annotation.Note.{Note}
@@ -38,9 +38,9 @@ use Rattle.pc_rules.proofs.Bridge.{by_number}
 use Rattle.pc_rules.proofs.Agreeing.{define_inv, slot_parts}
 use Rattle.pc_check.specs.declared.sources.Source.{Source}
 use Rattle.pc_check.specs.Sources.{Sourced}
-use Rattle.pc_check.specs.Inference.{inferred_slot, with_slot, with_inferred, rules_for, or_else, first_note, is_body, lacks_field, leaves_unset}
+use Rattle.pc_check.specs.Inference.{inferred_slot, with_inferred_slot, with_inferred, rules_for, note_or_else, first_note, is_body, lacks_field, leaves_unset}
 use Rattle.pc_check.specs.SourceMasks.{masks_from}
-use Rattle.pc_check.specs.Faults.{StopsAt, LeavesUnset}
+use Rattle.pc_check.specs.Faults.{StopsAt, InferenceLeavesUnset}
 use Rattle.pc_check.specs.Walked.{Walked}
 use Rattle.pc_core.proofs.Homes.{home, home_method}
 use Rattle.pc_rules.proofs.Homes.{home_body}
@@ -50,7 +50,7 @@ use Rattle.pc_check.proofs.Walking.{walked_infer, reached, reaches_infer, noted,
 
 -- ---- no rule
 
-says_none : (r : Rule) (m : Masks) (o : Option Said) (rest : Option Note) → or_else r m o rest ≡ None → (o ≡ None) × (rest ≡ None)
+says_none : (r : Rule) (m : Masks) (o : Option Said) (rest : Option Note) → note_or_else r m o rest ≡ None → (o ≡ None) × (rest ≡ None)
 says_none r m None rest e = (refl, e)
 says_none r m (Some q) rest e = absurd (none-some _ (sym e))
 
@@ -128,13 +128,13 @@ this_clash e = cc e
 
 -- With any other type a rule concludes nothing that it does not conclude with the type that follows.
 module _ (core : CoreData) (a : Ann) (n : ℕ) (x : Node) (formed : Formed core) (g : slice_get core.nodes n ≡ Some x) (count : length a.slots ≡ length core.slots) where
-  kind_clash : (s i : ℕ) → Uses s x.kind → x.kind ≡ node.Define i → ⊥
-  kind_clash s i u e = subst (Uses s) e u
+  kind_clash : (s i : ℕ) → UsesSlot s x.kind → x.kind ≡ node.Define i → ⊥
+  kind_clash s i u e = subst (UsesSlot s) e u
 
   written_kept : (k : ℕ) (y : Slot) (ty : ℕ × Cap) → slice_get core.slots k ≡ Some y → y.written ≡ Some ty → Infers core x k → ⊥
   written_kept k y ty h w i = none-some ty (sym i.7 ∙ ap (λ (z : Slot). z.written) (same_Some i.2 y (sym i.6 ∙ h)) ∙ w)
 
-  defined_kept : (slots : List (ℕ × Cap)) (m : Masks) (r : Rule) (s : ℕ) (f : Method) (y : Slot) (q : Said) (w : Option (ℕ × Cap)) (o : Option (ℕ × (ℕ × Cap))) → inferred_slot core a x x.kind ≡ o → DifferAt core x (with_slot a o).slots slots → says core (record { slots = slots; notes = a.notes }) x m r x.kind ≡ Some q → x.kind ≡ node.Define s → slice_get core.methods x.method ≡ Some f → slice_get core.slots (f.first_slot + s) ≡ Some y → y.written ≡ w → slice_get slots (f.first_slot + s) ≡ slice_get (with_slot a o).slots (f.first_slot + s)
+  defined_kept : (slots : List (ℕ × Cap)) (m : Masks) (r : Rule) (s : ℕ) (f : Method) (y : Slot) (q : Said) (w : Option (ℕ × Cap)) (o : Option (ℕ × (ℕ × Cap))) → inferred_slot core a x x.kind ≡ o → DifferAt core x (with_inferred_slot a o).slots slots → says core (record { slots = slots; notes = a.notes }) x m r x.kind ≡ Some q → x.kind ≡ node.Define s → slice_get core.methods x.method ≡ Some f → slice_get core.slots (f.first_slot + s) ≡ Some y → y.written ≡ w → slice_get slots (f.first_slot + s) ≡ slice_get (with_inferred_slot a o).slots (f.first_slot + s)
   defined_kept slots m r s f y q (Some ty) o i d e k gf h w = d.1 (f.first_slot + s) (written_kept (f.first_slot + s) y ty h w)
   defined_kept slots m r s f y q None None i d e k gf h w =
       let t = type_follows core a slots x m r s f y q k gf h w e in
@@ -146,7 +146,7 @@ module _ (core : CoreData) (a : Ann) (n : ℕ) (x : Node) (formed : Formed core)
       let within : f.first_slot + s < length a.slots = omega (arith, low, count) in
       t.2 ∙ sym (get_set_same a.slots (f.first_slot + s) t.0 within) ∙ ap (λ (z : ℕ × (ℕ × Cap)). slice_get (slice_set a.slots z.0 z.1) (f.first_slot + s)) (sym is)
 
-  slots_kept : (slots : List (ℕ × Cap)) (m : Masks) (r : Rule) (q : Said) (o : Option (ℕ × (ℕ × Cap))) (s : ℕ) (f : Method) → inferred_slot core a x x.kind ≡ o → DifferAt core x (with_slot a o).slots slots → says core (record { slots = slots; notes = a.notes }) x m r x.kind ≡ Some q → looked_at x.kind ≡ Some s → slice_get core.methods x.method ≡ Some f → slice_get slots (f.first_slot + s) ≡ slice_get (with_slot a o).slots (f.first_slot + s)
+  slots_kept : (slots : List (ℕ × Cap)) (m : Masks) (r : Rule) (q : Said) (o : Option (ℕ × (ℕ × Cap))) (s : ℕ) (f : Method) → inferred_slot core a x x.kind ≡ o → DifferAt core x (with_inferred_slot a o).slots slots → says core (record { slots = slots; notes = a.notes }) x m r x.kind ≡ Some q → looked_at x.kind ≡ Some s → slice_get core.methods x.method ≡ Some f → slice_get slots (f.first_slot + s) ≡ slice_get (with_inferred_slot a o).slots (f.first_slot + s)
   slots_kept slots m r q o s f i d e look gf =
       elim (looked_kind x.kind s look) [
         | inl this ↦ d.1 (f.first_slot + s) (λ inf. this_clash (sym this.0 ∙ inf.3))
@@ -159,10 +159,10 @@ module _ (core : CoreData) (a : Ann) (n : ℕ) (x : Node) (formed : Formed core)
         ]
       ]
 
-  none_with : (slots : List (ℕ × Cap)) (m : Masks) (r : Rule) (o : Option (ℕ × (ℕ × Cap))) → inferred_slot core a x x.kind ≡ o → says core (with_slot a o) x m r x.kind ≡ None → DifferAt core x (with_slot a o).slots slots → says core (record { slots = slots; notes = a.notes }) x m r x.kind ≡ None
+  none_with : (slots : List (ℕ × Cap)) (m : Masks) (r : Rule) (o : Option (ℕ × (ℕ × Cap))) → inferred_slot core a x x.kind ≡ o → says core (with_inferred_slot a o) x m r x.kind ≡ None → DifferAt core x (with_inferred_slot a o).slots slots → says core (record { slots = slots; notes = a.notes }) x m r x.kind ≡ None
   none_with slots m r o i none d = is_none (says core (record { slots = slots; notes = a.notes }) x m r x.kind) (λ q e.
-      let looks : LooksAlike core (record { slots = slots; notes = a.notes }) (with_slot a o) x.method x.kind = λ s look. slot_same (record { slots = slots; notes = a.notes }) (with_slot a o) core x.method s (λ f gf. slots_kept slots m r q o s f i d e look gf) in
-      none-some q (sym none ∙ sym (says_same core (record { slots = slots; notes = a.notes }) (with_slot a o) x (λ j c h. ap (λ ts. slice_get ts c) (sym (with_notes a o))) r x.kind m looks) ∙ e))
+      let looks : LooksAlike core (record { slots = slots; notes = a.notes }) (with_inferred_slot a o) x.method x.kind = λ s look. slot_same (record { slots = slots; notes = a.notes }) (with_inferred_slot a o) core x.method s (λ f gf. slots_kept slots m r q o s f i d e look gf) in
+      none-some q (sym none ∙ sym (says_same core (record { slots = slots; notes = a.notes }) (with_inferred_slot a o) x (λ j c h. ap (λ ts. slice_get ts c) (sym (with_notes a o))) r x.kind m looks) ∙ e))
 
 -- ---- the result of the walk
 
@@ -208,7 +208,7 @@ lacks_inv core (Some h) f t g e =
     subst (λ (z : Method). (constructs z.kind ≡ true) × (full core z.entity t.set_after ≡ false)) (same_Some h f g)
     (let p = and_parts (constructs h.kind) (not (full core h.entity t.set_after)) e in (p.0, not-true (full core h.entity t.set_after) p.1))
 
-pub leaves : (core : CoreData) (b : Ann) (n : ℕ) (x : Node) (t : Note) → Formed core → DeclOk core → slice_get core.nodes n ≡ Some x → Walked core b n → IsSaid core b x t → StartsFrom core b n (before t) → leaves_unset core x t ≡ true → LeavesUnset core x.method (noted b t)
+pub leaves : (core : CoreData) (b : Ann) (n : ℕ) (x : Node) (t : Note) → Formed core → DeclOk core → slice_get core.nodes n ≡ Some x → Walked core b n → IsSaid core b x t → StartsFrom core b n (before t) → leaves_unset core x t ≡ true → InferenceLeavesUnset core x.method (noted b t)
 leaves core b n x t formed ok g w meets r e =
     let p = and_parts (is_body x.kind) (lacks_field core (slice_get core.methods x.method) t.set_after) e in
     let h = home core n formed (get_below core.nodes n x g) in

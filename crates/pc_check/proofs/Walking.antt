@@ -32,8 +32,8 @@ use Rattle.pc_rules.specs.Trees.{tree_le}
 use Rattle.pc_rules.proofs.Agreeing.{body_method}
 use Rattle.pc_check.specs.declared.sources.Source.{Source}
 use Rattle.pc_check.specs.declared.sources.Source.TheVariants as source
-use Rattle.pc_check.specs.Sources.{Comes, Placed}
-use Rattle.pc_check.specs.Inference.{inferred_slot, with_slot, with_inferred, note_of, or_else, first_note, is_body, lacks_field, leaves_unset}
+use Rattle.pc_check.specs.Sources.{Comes, IsPlacedSource}
+use Rattle.pc_check.specs.Inference.{inferred_slot, with_inferred_slot, with_inferred, note_of, note_or_else, first_note, is_body, lacks_field, leaves_unset}
 use Rattle.pc_check.specs.SourceMasks.{masks_in, masks_behind, masks_from}
 use Rattle.pc_check.specs.Walked.{Walked}
 use Rattle.pc_rules.proofs.Homes.{children_before}
@@ -59,13 +59,13 @@ meets_more core a b k n formed l count h looks r =
     let same : SameNotes a b x.children = λ i c e. let s = children_before core k x formed r.2 i c e in let w = get_within a.notes c (omega (arith, s, l, count)) in w.1 ∙ sym (h c w.0 w.1) in
     (x, t, r.2, h k t r.3, sym (says_same core a b x same t.rule x.kind (before t) (looks x r.2)) ∙ r.4, reaches_more core a b k (before t) h r.5)
 
-pub with_notes : (ann : Ann) (o : Option (ℕ × (ℕ × Cap))) → (with_slot ann o).notes ≡ ann.notes
+pub with_notes : (ann : Ann) (o : Option (ℕ × (ℕ × Cap))) → (with_inferred_slot ann o).notes ≡ ann.notes
 with_notes ann None = refl
 with_notes ann (Some i) = refl
 
 -- ---- the slot's type
 
-walked_slot : (core : CoreData) (ann : Ann) (n : ℕ) (x : Node) (o : Option (ℕ × (ℕ × Cap))) → Formed core → slice_get core.nodes n ≡ Some x → inferred_slot core ann x x.kind ≡ o → Walked core ann n → Walked core (with_slot ann o) n
+walked_slot : (core : CoreData) (ann : Ann) (n : ℕ) (x : Node) (o : Option (ℕ × (ℕ × Cap))) → Formed core → slice_get core.nodes n ≡ Some x → inferred_slot core ann x x.kind ≡ o → Walked core ann n → Walked core (with_inferred_slot ann o) n
 walked_slot core ann n x None formed g e w = w
 walked_slot core ann n x (Some i) formed g e w =
     let def = inferred_inv core ann x i e in
@@ -96,10 +96,10 @@ reach_from core ann low n (source.Behind d) l count h =
     let t = get_within ann.notes d (omega (arith, before_low, l, count)) in
     subst (λ o. StartsFrom core ann n (masks_behind o)) (sym t.1) (h.1 ann t.0 t.1)
 
-pub reached : (core : CoreData) (ann : Ann) (n : ℕ) (s : Source) → length ann.notes ≡ n → Placed core n s → StartsFrom core ann n (masks_from core ann s)
+pub reached : (core : CoreData) (ann : Ann) (n : ℕ) (s : Source) → length ann.notes ≡ n → IsPlacedSource core n s → StartsFrom core ann n (masks_from core ann s)
 reached core ann n s count h = reach_from core ann h.0 n s (tree_le core h.0 n h.1) count h.2
 
-reaches_slot : (core : CoreData) (ann : Ann) (n : ℕ) (m : Masks) (o : Option (ℕ × (ℕ × Cap))) → StartsFrom core ann n m → StartsFrom core (with_slot ann o) n m
+reaches_slot : (core : CoreData) (ann : Ann) (n : ℕ) (m : Masks) (o : Option (ℕ × (ℕ × Cap))) → StartsFrom core ann n m → StartsFrom core (with_inferred_slot ann o) n m
 reaches_slot core ann n m None r = r
 reaches_slot core ann n m (Some i) r = reaches_more core ann (record { slots = slice_set ann.slots i.0 i.1; notes = ann.notes }) n m (λ c t e. e) r
 
@@ -108,7 +108,7 @@ reaches_infer core ann n x m r = reaches_slot core ann n m (inferred_slot core a
 
 -- ---- the note
 
-found_by : (r : Rule) (m : Masks) (o : Option Said) (rest : Option Note) (t : Note) → or_else r m o rest ≡ Some t → ((q : Said) × (o ≡ Some q) × (note_of r m q ≡ t)) ⊎ (rest ≡ Some t)
+found_by : (r : Rule) (m : Masks) (o : Option Said) (rest : Option Note) (t : Note) → note_or_else r m o rest ≡ Some t → ((q : Said) × (o ≡ Some q) × (note_of r m q ≡ t)) ⊎ (rest ≡ Some t)
 found_by r m None rest t e = inr e
 found_by r m (Some q) rest t e = inl (q, refl, same_Some (note_of r m q) t e)
 

@@ -15,16 +15,16 @@ StopsAt core n m ann = (stop : NoRule core ann n) × (stop.masks ≡ m) × (leng
 
 -- Constructor m is the first that leaves a field unset. The annotation has the notes of the nodes up to and including
 -- its body, and no others.
-abbrev pub LeavesUnset : CoreData → ℕ → Ann → Type 0
-LeavesUnset core m ann = (left : Unset core ann m) × (length ann.notes ≡ left.body + 1)
+abbrev pub InferenceLeavesUnset : CoreData → ℕ → Ann → Type 0
+InferenceLeavesUnset core m ann = (left : Unset core ann m) × (length ann.notes ≡ left.body + 1)
 
 -- What each fault means for the core. Running out of memory means nothing.
-abbrev pub Refuses : CoreData → CheckFault → Type 0
-Refuses core (fault.Decl f) = first_fault core ≡ Some f
-Refuses core (fault.NoRule n l s ann) = StopsAt core n (l, s) ann
-Refuses core (fault.Unset m ann) = LeavesUnset core m ann
-Refuses core fault.Memory = Unit {0}
+abbrev pub RefusesCore : CoreData → CheckFault → Type 0
+RefusesCore core (fault.Decl f) = first_fault core ≡ Some f
+RefusesCore core (fault.NoRule n l s ann) = StopsAt core n (l, s) ann
+RefusesCore core (fault.Unset m ann) = InferenceLeavesUnset core m ann
+RefusesCore core fault.Memory = Unit {0}
 
 -- The result is this answer, or memory ran out.
-abbrev pub Answers : Result Ann CheckFault → Result Ann CheckFault → Type 0
-Answers result wanted = (result ≡ wanted) ⊎ (result ≡ Err fault.Memory)
+abbrev pub AnswersAnnotation : Result Ann CheckFault → Result Ann CheckFault → Type 0
+AnswersAnnotation result wanted = (result ≡ wanted) ⊎ (result ≡ Err fault.Memory)

@@ -38,24 +38,24 @@ unwritten ann cs None = do
   type_of ann c
 
 -- The number of the slot with this index if its type follows from node x, and that type.
-abbrev pub slot_type : CoreData → Ann → Node → ℕ → Option (ℕ × (ℕ × Cap))
-slot_type core ann x s = do
+abbrev pub inferred_slot_type : CoreData → Ann → Node → ℕ → Option (ℕ × (ℕ × Cap))
+inferred_slot_type core ann x s = do
   f ← slice_get core.methods x.method
   y ← slice_get core.slots (f.first_slot + s)
   v ← unwritten ann x.children y.written
   Some (f.first_slot + s, (v.0, stored v.1))
 
 abbrev pub inferred_slot : CoreData → Ann → Node → NodeKind → Option (ℕ × (ℕ × Cap))
-inferred_slot core ann x (node.Define s) = slot_type core ann x s
+inferred_slot core ann x (node.Define s) = inferred_slot_type core ann x s
 inferred_slot core ann x k = None
 
-abbrev pub with_slot : Ann → Option (ℕ × (ℕ × Cap)) → Ann
-with_slot ann None = ann
-with_slot ann (Some i) = record { slots = slice_set ann.slots i.0 i.1; notes = ann.notes }
+abbrev pub with_inferred_slot : Ann → Option (ℕ × (ℕ × Cap)) → Ann
+with_inferred_slot ann None = ann
+with_inferred_slot ann (Some i) = record { slots = slice_set ann.slots i.0 i.1; notes = ann.notes }
 
 -- The annotation with the type of the slot that node x defines.
 abbrev pub with_inferred : CoreData → Ann → Node → Ann
-with_inferred core ann x = with_slot ann (inferred_slot core ann x x.kind)
+with_inferred core ann x = with_inferred_slot ann (inferred_slot core ann x x.kind)
 
 -- ---- masks
 
@@ -90,14 +90,14 @@ rules_for node.Body = rule.Body ∷ []
 abbrev pub note_of : Rule → Masks → Said → Note
 note_of r m q = record { rule = r; ty = q.ty; live_before = m.0; set_before = m.1; live_after = q.live; set_after = q.set }
 
-abbrev pub or_else : Rule → Masks → Option Said → Option Note → Option Note
-or_else r m None o = o
-or_else r m (Some q) o = Some (note_of r m q)
+abbrev pub note_or_else : Rule → Masks → Option Said → Option Note → Option Note
+note_or_else r m None o = o
+note_or_else r m (Some q) o = Some (note_of r m q)
 
 -- The note by the first of these rules that applies to node x.
 abbrev pub first_note : CoreData → Ann → Node → Masks → List Rule → Option Note
 first_note core ann x m [] = None
-first_note core ann x m (r ∷ rs) = or_else r m (says core ann x m r x.kind) (first_note core ann x m rs)
+first_note core ann x m (r ∷ rs) = note_or_else r m (says core ann x m r x.kind) (first_note core ann x m rs)
 
 -- ---- constructors
 

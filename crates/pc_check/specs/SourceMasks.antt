@@ -5,7 +5,7 @@ use Rattle.pc_core.specs.CoreData.{CoreData}
 use Rattle.pc_ann.specs.declared.annotation.Note.{Note}
 use Rattle.pc_ann.specs.declared.annotation.Ann.{Ann}
 use Rattle.pc_masks.specs.Masks.{empty}
-use Rattle.pc_valid.specs.Words.{Masks, after}
+use Rattle.pc_valid.specs.Words.{Masks, masks_after}
 use Rattle.pc_check.specs.Sources.{start_masks}
 use Rattle.pc_check.specs.declared.sources.Source.{Source}
 use Rattle.pc_check.specs.declared.sources.Source.TheVariants as source
@@ -16,7 +16,7 @@ masks_in core (Some f) = start_masks core f
 
 abbrev pub masks_behind : Option Note → Masks
 masks_behind None = (empty, empty)
-masks_behind (Some t) = after t
+masks_behind (Some t) = masks_after t
 
 -- The masks of a source.
 abbrev pub masks_from : CoreData → Ann → Source → Masks

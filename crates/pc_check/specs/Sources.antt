@@ -7,7 +7,7 @@ use Rattle.pc_lists.specs.Places.{Each, Has}
 use Rattle.pc_ann.specs.declared.annotation.Note.{Note}
 use Rattle.pc_ann.specs.declared.annotation.Ann.{Ann}
 use Rattle.pc_masks.specs.Masks.{first}
-use Rattle.pc_valid.specs.Words.{Masks, after}
+use Rattle.pc_valid.specs.Words.{Masks, masks_after}
 use Rattle.pc_rules.specs.Control.{start_set}
 use Rattle.pc_rules.specs.Trees.{Tree}
 use Rattle.pc_rules.specs.Checks.{StartsFrom}
@@ -22,15 +22,15 @@ start_masks core f = (first (1 + length f.params), start_set core f)
 -- node that comes before number `low`.
 abbrev pub Comes : CoreData → (low node : ℕ) → Source → Type 0
 Comes core low n (source.Start m) = (f : Method) × (slice_get core.methods m ≡ Some f) × ((ann : Ann) → StartsFrom core ann n (start_masks core f))
-Comes core low n (source.Behind s) = (s < low) × ((ann : Ann) (t : Note) → slice_get ann.notes s ≡ Some t → StartsFrom core ann n (after t))
+Comes core low n (source.Behind s) = (s < low) × ((ann : Ann) (t : Note) → slice_get ann.notes s ≡ Some t → StartsFrom core ann n (masks_after t))
 
 -- It is the source of node n, and comes before the subtree of n.
-abbrev pub Placed : CoreData → ℕ → Source → Type 0
-Placed core n s = (low : ℕ) × Tree core low n × Comes core low n s
+abbrev pub IsPlacedSource : CoreData → ℕ → Source → Type 0
+IsPlacedSource core n s = (low : ℕ) × Tree core low n × Comes core low n s
 
 -- Each node has its source.
 abbrev pub Sourced : CoreData → List Source → Type 0
-Sourced core sources = (length sources ≡ length core.nodes) × Each (λ n s. Placed core n s) sources
+Sourced core sources = (length sources ≡ length core.nodes) × Each (λ n s. IsPlacedSource core n s) sources
 
 -- ---- while the sources are being found
 
@@ -43,22 +43,22 @@ abbrev pub IsChild : CoreData → (parent node : ℕ) → Type 0
 IsChild core p n = (x : Node) × (slice_get core.nodes p ≡ Some x) × Has x.children n
 
 -- Node n is a body, or a child of a node from number i on.
-abbrev pub Known : CoreData → (first node : ℕ) → Type 0
-Known core i n = IsBody core n ⊎ ((p : ℕ) × (i ≤ p) × IsChild core p n)
+abbrev pub IsBodyOrChild : CoreData → (first node : ℕ) → Type 0
+IsBodyOrChild core i n = IsBody core n ⊎ ((p : ℕ) × (i ≤ p) × IsChild core p n)
 
 -- Each of these has its source.
 abbrev pub Filled : CoreData → List Source → ℕ → Type 0
-Filled core sources i = (length sources ≡ length core.nodes) × Each (λ n s. Known core i n → Placed core n s) sources
+Filled core sources i = (length sources ≡ length core.nodes) × Each (λ n s. IsBodyOrChild core i n → IsPlacedSource core n s) sources
 
 -- In addition, so have the first j children of node x, which come before it.
 abbrev pub PartFilled : CoreData → List Source → ℕ → Node → ℕ → Type 0
 PartFilled core sources i x j =
     (length sources ≡ length core.nodes)
-    × Each (λ n s. (Known core i n ⊎ ((k : ℕ) × (k < j) × (slice_get x.children k ≡ Some n))) → Placed core n s) sources
+    × Each (λ n s. (IsBodyOrChild core i n ⊎ ((k : ℕ) × (k < j) × (slice_get x.children k ≡ Some n))) → IsPlacedSource core n s) sources
 
 -- If node x has the first source, its child with index i has the second.
 abbrev pub PassesOn : Node → ℕ → Source → Source → Type 0
-PassesOn x i s t = (core : CoreData) (p c : ℕ) → slice_get core.nodes p ≡ Some x → Placed core p s → slice_get x.children i ≡ Some c → Placed core c t
+PassesOn x i s t = (core : CoreData) (p c : ℕ) → slice_get core.nodes p ≡ Some x → IsPlacedSource core p s → slice_get x.children i ≡ Some c → IsPlacedSource core c t
 
 -- The same, whatever the source of node x is.
 abbrev pub ComesLater : Node → ℕ → Source → Type 0

@@ -5,7 +5,7 @@ ghost use Rattle.pc_sub.specs.declared.faults.DeclFault.{DeclFault};
 ghost use Rattle.pc_sub.specs.Declarations.{DeclOk, first_fault};
 ghost use Rattle.pc_valid.specs.Valid.{Valid};
 ghost use Rattle.pc_check.specs.declared.fault.CheckFault.TheVariants as fault_of;
-ghost use Rattle.pc_check.specs.Faults.{Refuses, Answers};
+ghost use Rattle.pc_check.specs.Faults.{RefusesCore, AnswersAnnotation};
 ghost use Rattle.pc_check.specs.Sources.{Sourced};
 ghost use Rattle.pc_check.specs.Walked.{Walked};
 
@@ -37,7 +37,7 @@ fn note_nodes(core: &Core, sources: &[Source], mut ann: Ann) -> Result<Ann, Chec
     requires sources { Sourced core.now sources.now }
     requires ann { Walked core.now ann 0 }
     ensures ok { IfOk result (Valid core.now) }
-    ensures err { IfErr result (Refuses core.now) }
+    ensures err { IfErr result (RefusesCore core.now) }
 {
     core.formed();
     for number in 0..core.nodes().len() {
@@ -70,7 +70,7 @@ fn note_nodes(core: &Core, sources: &[Source], mut ann: Ann) -> Result<Ann, Chec
 fn infer(alloc: Global, core: &Core) -> Result<Ann, CheckFault>
     requires { DeclOk core.now }
     ensures ok { IfOk result (Valid core.now) }
-    ensures err { IfErr result (Refuses core.now) }
+    ensures err { IfErr result (RefusesCore core.now) }
 {
     let sources = sources(alloc, core)?;
     let ann = nothing_noted(alloc, core)?;
@@ -80,7 +80,7 @@ fn infer(alloc: Global, core: &Core) -> Result<Ann, CheckFault>
 // Checks the declarations, and then the nodes.
 fn looked_through(alloc: Global, core: &Core) -> Result<Ann, CheckFault>
     ensures ok { IfOk result (Valid core.now) }
-    ensures err { IfErr result (Refuses core.now) }
+    ensures err { IfErr result (RefusesCore core.now) }
     ensures declarations { (fault : DeclFault) → first_fault core.now ≡ Some fault → result ≡ Err (fault_of.Decl fault) }
 {
     match declarations(core) {
@@ -99,9 +99,9 @@ pub fn check(alloc: Global, core: &Core) -> Result<Ann, CheckFault>
     // The annotation is valid.
     ensures ok { IfOk result (Valid core.now) }
     // The error carries the evidence for its fault.
-    ensures err { IfErr result (Refuses core.now) }
+    ensures err { IfErr result (RefusesCore core.now) }
     // If an annotation is valid, it is returned, unless memory ran out.
-    ensures exact { (ann : Ann) → Valid core.now ann → Answers result (Ok ann) }
+    ensures exact { (ann : Ann) → Valid core.now ann → AnswersAnnotation result (Ok ann) }
     // If the declarations fail, their fault is returned, and memory does not run out before.
     ensures declarations { (fault : DeclFault) → first_fault core.now ≡ Some fault → result ≡ Err (fault_of.Decl fault) }
 {

@@ -53,7 +53,7 @@ fn unwritten(ann: &Ann, children: &[u32], written: Option<(u32, Cap)>) -> Option
 
 // The number of a slot whose type follows from its definition, and that type.
 fn slot_type(core: &Core, ann: &Ann, node: &Node, slot: u32) -> Option<(usize, (u32, Cap))>
-    ensures { result ≡ spec.slot_type core.now ann.now node.now slot }
+    ensures { result ≡ spec.inferred_slot_type core.now ann.now node.now slot }
 {
     let method = core.method_at(node.method)?;
     let declared = core.slot_at(method, slot)?;

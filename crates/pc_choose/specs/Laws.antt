@@ -47,11 +47,11 @@ FewChange = (core : CoreData) (c : Configuration) (i j : ℕ) → i ≢ j → ah
 -- How a list ends: it has 1,000,000 steps; or at least as many as it may have turns; or no actor is able after it; or
 -- its last step did not move. So a list of fewer than 95,000 steps ends only when no actor is able, or at a step that
 -- did not move.
-abbrev pub StopsAt : CoreData → List ℕ → Type 0
-StopsAt core list = (before : List ℕ) × (i : ℕ) × (list ≡ before ++ i ∷ []) × ((step core (after core before) i).0 ≢ Moved)
+abbrev pub ListEndsAt : CoreData → List ℕ → Type 0
+ListEndsAt core list = (before : List ℕ) × (i : ℕ) × (list ≡ before ++ i ∷ []) × ((step core (after core before) i).0 ≢ Moved)
 
 abbrev pub EndsAt : CoreData → List ℕ → Type 0
-EndsAt core list = (length list ≡ most_steps) ⊎ ((most_turns ≤ length list) ⊎ (((i : ℕ) → able (after core list) i ≡ false) ⊎ StopsAt core list))
+EndsAt core list = (length list ≡ most_steps) ⊎ ((most_turns ≤ length list) ⊎ (((i : ℕ) → able (after core list) i ≡ false) ⊎ ListEndsAt core list))
 
 abbrev pub ListsEnd : Type 0
 ListsEnd = (core : CoreData) (seed : ℕ) (list : List ℕ) → Chosen core seed list → EndsAt core list

@@ -26,9 +26,9 @@ use Rattle.pc_rules.specs.Calls.{argument_goes, arguments_go, argument_sendable,
 use Rattle.pc_rules.specs.Children.{type_at}
 use Rattle.pc_rules.specs.Operators.{comparable}
 use Rattle.pc_rules.proofs.Arguments.{counts_differ, count_taken}
-use Rattle.pc_conditions.specs.Chosen.{is_string}
+use Rattle.pc_conditions.specs.Chosen.{names_string}
 use Rattle.pc_conditions.specs.Conditions as asked
-use Rattle.pc_conditions.specs.Failing.{first_false, holds_of, on, is_there, is_comparable}
+use Rattle.pc_conditions.specs.Failing.{first_false, holds_of, on, is_found, is_comparable}
 use Rattle.pc_conditions.specs.declared.condition.Condition.{Condition}
 use Rattle.pc_conditions.specs.declared.condition.Condition.TheVariants as asks
 use Rattle.pc_conditions.proofs.Opposed.{Opposed, Agrees, typed, is_some, asks_all, asks_false}
@@ -76,7 +76,7 @@ sent_tests true b f c a = a
 
 module _ (core : CoreData) (slots : Slots) (ns : List Note) (x : Node) (m : Masks) where
   go_row : (p : ParamInfo) (i : ℕ) (o : Option Ty) (b : Bool) (f : Option Condition) → Agrees b f
-      → Agrees (argument_goes core p o && b) (if is_there o then (if on o (λ v. is_sub core v.0 p.entity) then (if on o (λ v. fits v.1 p.cap) then f else Some (asks.Fits i p.cap)) else Some (asks.Under i p.entity)) else Some (asks.Typed i))
+      → Agrees (argument_goes core p o && b) (if is_found o then (if on o (λ v. is_sub core v.0 p.entity) then (if on o (λ v. fits v.1 p.cap) then f else Some (asks.Fits i p.cap)) else Some (asks.Under i p.entity)) else Some (asks.Typed i))
   go_row p i None b f a = tt
   go_row p i (Some v) b f a = go_tests (is_sub core v.0 p.entity) (fits v.1 p.cap) b f (asks.Under i p.entity) (asks.Fits i p.cap) a
 
@@ -90,16 +90,16 @@ module _ (core : CoreData) (slots : Slots) (ns : List Note) (x : Node) (m : Mask
   rest_stands : (i : ℕ) (t : Note) (ts : List Note) → StandsFrom i (t ∷ ts) → StandsFrom (i + 1) ts
   rest_stands i t ts h j l = let e : i + 1 + j ≡ i + suc j = omega arith in ap (type_at ns) e ∙ h (suc j) (omega (arith, l))
 
-  go_agrees : (ts : List Note) (ps : List ParamInfo) (i : ℕ) → length ts ≡ length ps → StandsFrom i ts → Agrees (arguments_go core ts ps) (first_false (holds_of core slots ns x m) (asked.arguments_go i ps))
+  go_agrees : (ts : List Note) (ps : List ParamInfo) (i : ℕ) → length ts ≡ length ps → StandsFrom i ts → Agrees (arguments_go core ts ps) (first_false (holds_of core slots ns x m) (asked.argument_conditions i ps))
   go_agrees [] [] i l h = tt
   go_agrees [] (p ∷ ps) i l h = absurd (omega (arith, l))
   go_agrees (t ∷ ts) [] i l h = absurd (omega (arith, l))
   go_agrees (t ∷ ts) (p ∷ ps) i l h =
       let more = go_agrees ts ps (i + 1) (omega (arith, l)) (rest_stands i t ts h) in
       subst
-      (λ o. Agrees (argument_goes core p t.ty && arguments_go core ts ps) (if is_there o then (if on o (λ v. is_sub core v.0 p.entity) then (if on o (λ v. fits v.1 p.cap) then first_false (holds_of core slots ns x m) (asked.arguments_go (i + 1) ps) else Some (asks.Fits i p.cap)) else Some (asks.Under i p.entity)) else Some (asks.Typed i)))
+      (λ o. Agrees (argument_goes core p t.ty && arguments_go core ts ps) (if is_found o then (if on o (λ v. is_sub core v.0 p.entity) then (if on o (λ v. fits v.1 p.cap) then first_false (holds_of core slots ns x m) (asked.argument_conditions (i + 1) ps) else Some (asks.Fits i p.cap)) else Some (asks.Under i p.entity)) else Some (asks.Typed i)))
       (sym (first_stands i t ts h))
-      (go_row p i t.ty (arguments_go core ts ps) (first_false (holds_of core slots ns x m) (asked.arguments_go (i + 1) ps)) more)
+      (go_row p i t.ty (arguments_go core ts ps) (first_false (holds_of core slots ns x m) (asked.argument_conditions (i + 1) ps)) more)
 
   sent_row : (p : ParamInfo) (i : ℕ) (o : Option Ty) (b : Bool) (f : Option Condition) → Agrees b f → Agrees (argument_sendable p o && b) (if on o (λ v. sendable_form v.1 || sendable p.cap) then f else Some (asks.Sent i p.cap))
   sent_row p i None b f a = tt
@@ -119,7 +119,7 @@ module _ (core : CoreData) (slots : Slots) (ns : List Note) (x : Node) (m : Mask
   no_count : (ts : List Note) (ps : List ParamInfo) (k : ℕ) → length ts ≡ k → nat_eq k (length ps) ≡ false → arguments_go core ts ps ≡ false
   no_count ts ps k l e = counts_differ core ts ps (λ same. false_true (sym e ∙ eq-eqb k (length ps) (sym l ∙ sym same)))
 
-  all_by : (ts : List Note) (ps : List ParamInfo) (k : ℕ) (b : Bool) → length ts ≡ k → nat_eq k (length ps) ≡ b → StandsFrom 0 ts → Agrees (arguments_go core ts ps) (if b then first_false (holds_of core slots ns x m) (asked.arguments_go 0 ps) else Some (asks.Counted k (length ps)))
+  all_by : (ts : List Note) (ps : List ParamInfo) (k : ℕ) (b : Bool) → length ts ≡ k → nat_eq k (length ps) ≡ b → StandsFrom 0 ts → Agrees (arguments_go core ts ps) (if b then first_false (holds_of core slots ns x m) (asked.argument_conditions 0 ps) else Some (asks.Counted k (length ps)))
   all_by ts ps k true l e h = go_agrees ts ps 0 (l ∙ eqb-true k (length ps) e) h
   all_by ts ps k false l e h = subst (λ b. Agrees b (Some (asks.Counted k (length ps)))) (sym (no_count ts ps k l e)) tt
 
@@ -186,25 +186,25 @@ module _ (core : CoreData) (slots : Slots) (ns : List Note) (x : Node) (m : Mask
     abbrev Row : Option (Ty × ℕ) → Bool → Type 0
     Row c t =
         Opposed (c >>= λ i. slice_get core.methods i.1 >>= λ f. says i.0 f)
-        (if t then (if is_there (c >>= λ i. slice_get core.methods i.1) then first_false (holds_of core slots ns x m) (asked.of_found (c >>= λ i. slice_get core.methods i.1) ask) else Some (asks.HasMethod name)) else Some (asks.Typed receiver))
+        (if t then (if is_found (c >>= λ i. slice_get core.methods i.1) then first_false (holds_of core slots ns x m) (asked.of_found (c >>= λ i. slice_get core.methods i.1) ask) else Some (asks.HasMethod name)) else Some (asks.Typed receiver))
 
-    found : (o : Ty) (w : Option Method) → type_at ns receiver ≡ Some o → Opposed (w >>= λ f. says o f) (if is_there w then first_false (holds_of core slots ns x m) (asked.of_found w ask) else Some (asks.HasMethod name))
+    found : (o : Ty) (w : Option Method) → type_at ns receiver ≡ Some o → Opposed (w >>= λ f. says o f) (if is_found w then first_false (holds_of core slots ns x m) (asked.of_found w ask) else Some (asks.HasMethod name))
     found o None e = tt
     found o (Some f) e = each o f e
 
-    by_called : (c : Option (Ty × ℕ)) → called core ns name ≡ c → Row (called core ns name) (is_there (type_at ns receiver))
-    by_called None e = subst (λ c. Row c (is_there (type_at ns receiver))) (sym e) (one_fails (is_there (type_at ns receiver)) (asks.Typed receiver) (asks.HasMethod name))
+    by_called : (c : Option (Ty × ℕ)) → called core ns name ≡ c → Row (called core ns name) (is_found (type_at ns receiver))
+    by_called None e = subst (λ c. Row c (is_found (type_at ns receiver))) (sym e) (one_fails (is_found (type_at ns receiver)) (asks.Typed receiver) (asks.HasMethod name))
     by_called (Some i) e =
         let t = receiver_type name i e in
-        subst (λ c. Row c (is_there (type_at ns receiver))) (sym e) (subst (λ o. Row (Some i) (is_there o)) (sym t) (found i.0 (slice_get core.methods i.1) t))
+        subst (λ c. Row c (is_found (type_at ns receiver))) (sym e) (subst (λ o. Row (Some i) (is_found o)) (sym t) (found i.0 (slice_get core.methods i.1) t))
 
-    called_at : Row (called core ns name) (is_there (type_at ns receiver))
+    called_at : Row (called core ns name) (is_found (type_at ns receiver))
     called_at = by_called (called core ns name) refl
 
   of_receiver : (k : Cap) (o : Ty) (t : Ty → Bool) → type_at ns receiver ≡ Some o → on (type_at ns receiver) t ≡ t o
   of_receiver k o t e = ap (λ w. on w t) e
 
-  call_of : (o : Ty) (f : Method) (n : Masks) → type_at ns receiver ≡ Some o → Opposed (if calls core ns o f then Some (says_of (Some f.result) n) else None) (first_false (holds_of core slots ns x m) (asked.call_of receiver f))
+  call_of : (o : Ty) (f : Method) (n : Masks) → type_at ns receiver ≡ Some o → Opposed (if calls core ns o f then Some (says_of (Some f.result) n) else None) (first_false (holds_of core slots ns x m) (asked.call_conditions receiver f))
   call_of o f n e =
       and_then (is_function f.kind) (arguments_go core (arguments ns) f.params && fits o.1 f.receiver) _ _ (asks.Function f.kind)
       (asks_all (holds_of core slots ns x m) (asked.all_go receiver f.params) (asks.Fits receiver f.receiver ∷ []) (arguments_go core (arguments ns) f.params) _
@@ -214,16 +214,18 @@ module _ (core : CoreData) (slots : Slots) (ns : List Note) (x : Node) (m : Mask
 
   pub call_at : (name : ℕ) (n : Masks) → through_notes ns m ≡ Some n → AtNode core slots ns x m rule.Call (node.Call name)
   call_at name n t =
-      called_at name (λ o f. through_notes ns m >>= λ i. if calls core ns o f then Some (says_of (Some f.result) i) else None) (asked.call_of receiver)
-      (λ o f e. is_some (through_notes ns m) n t (λ w. Opposed (w >>= λ i. if calls core ns o f then Some (says_of (Some f.result) i) else None) (first_false (holds_of core slots ns x m) (asked.call_of receiver f))) (call_of o f n e))
+      called_at name (λ o f. through_notes ns m >>= λ i. if calls core ns o f then Some (says_of (Some f.result) i) else None)
+          (asked.call_conditions receiver)
+      (λ o f e. is_some (through_notes ns m) n t (λ w. Opposed (w >>= λ i. if calls core ns o f then Some (says_of (Some f.result) i) else None) (first_false (holds_of core slots ns x m) (asked.call_conditions receiver f))) (call_of o f n e))
 
-  send_of : (f : Method) (n : Masks) → Opposed (if sends core ns f then Some (says_of (Some (0, form.Val)) n) else None) (first_false (holds_of core slots ns x m) (asked.send_of receiver f))
+  send_of : (f : Method) (n : Masks) → Opposed (if sends core ns f then Some (says_of (Some (0, form.Val)) n) else None) (first_false (holds_of core slots ns x m) (asked.send_conditions receiver f))
   send_of f n = and_then (is_behaviour f.kind) (arguments_go core (arguments ns) f.params) _ _ (asks.Behaviour f.kind) (agreed (arguments_go core (arguments ns) f.params) _ _ (all_agree (arguments ns) f.params receiver count given) tt)
 
   pub send_at : (name : ℕ) (n : Masks) → through_notes ns m ≡ Some n → AtNode core slots ns x m rule.Send (node.Call name)
   send_at name n t =
-      called_at name (λ o f. through_notes ns m >>= λ i. if sends core ns f then Some (says_of (Some (0, form.Val)) i) else None) (asked.send_of receiver)
-      (λ o f e. is_some (through_notes ns m) n t (λ w. Opposed (w >>= λ i. if sends core ns f then Some (says_of (Some (0, form.Val)) i) else None) (first_false (holds_of core slots ns x m) (asked.send_of receiver f))) (send_of f n))
+      called_at name (λ o f. through_notes ns m >>= λ i. if sends core ns f then Some (says_of (Some (0, form.Val)) i) else None)
+          (asked.send_conditions receiver)
+      (λ o f e. is_some (through_notes ns m) n t (λ w. Opposed (w >>= λ i. if sends core ns f then Some (says_of (Some (0, form.Val)) i) else None) (first_false (holds_of core slots ns x m) (asked.send_conditions receiver f))) (send_of f n))
 
   -- ---- a receiver that is lent
 
@@ -258,7 +260,7 @@ module _ (core : CoreData) (slots : Slots) (ns : List Note) (x : Node) (m : Mask
       (lent_tests (not (fits o.1 f.receiver)) (is_isolated o.1) (is_lent f.receiver) (arguments_sendable (arguments ns) f.params) _ _ (asks.Unfit receiver f.receiver) (asks.Isolated receiver) (asks.Lent f.receiver)
       (sent_agrees (arguments ns) f.params 0 (counted_by (arguments ns) f.params go) given))
 
-  recover_of : (o : Ty) (f : Method) (n : Masks) → type_at ns receiver ≡ Some o → Opposed (if recovers core ns o f then Some (says_of (recovered_result f.result) n) else None) (first_false (holds_of core slots ns x m) (asked.call_recover_of receiver f))
+  recover_of : (o : Ty) (f : Method) (n : Masks) → type_at ns receiver ≡ Some o → Opposed (if recovers core ns o f then Some (says_of (recovered_result f.result) n) else None) (first_false (holds_of core slots ns x m) (asked.call_recover_conditions receiver f))
   recover_of o f n e =
       let go = arguments_go core (arguments ns) f.params in
       let lent = (not (fits o.1 f.receiver) && (is_isolated o.1 && is_lent f.receiver)) && arguments_sendable (arguments ns) f.params in
@@ -271,8 +273,8 @@ module _ (core : CoreData) (slots : Slots) (ns : List Note) (x : Node) (m : Mask
 
   pub call_recover_at : (name : ℕ) (n : Masks) → through_notes ns m ≡ Some n → AtNode core slots ns x m rule.CallRecover (node.Call name)
   call_recover_at name n t =
-      called_at name (λ o f. through_notes ns m >>= λ i. if recovers core ns o f then Some (says_of (recovered_result f.result) i) else None) (asked.call_recover_of receiver)
-      (λ o f e. is_some (through_notes ns m) n t (λ w. Opposed (w >>= λ i. if recovers core ns o f then Some (says_of (recovered_result f.result) i) else None) (first_false (holds_of core slots ns x m) (asked.call_recover_of receiver f))) (recover_of o f n e))
+      called_at name (λ o f. through_notes ns m >>= λ i. if recovers core ns o f then Some (says_of (recovered_result f.result) i) else None) (asked.call_recover_conditions receiver)
+      (λ o f e. is_some (through_notes ns m) n t (λ w. Opposed (w >>= λ i. if recovers core ns o f then Some (says_of (recovered_result f.result) i) else None) (first_false (holds_of core slots ns x m) (asked.call_recover_conditions receiver f))) (recover_of o f n e))
 
 -- ---- the text of a value
 
@@ -286,7 +288,7 @@ text_tests true false true false s cp cr e h = tt
 text_tests true false false r s cp cr e h = tt
 
 module _ (core : CoreData) (slots : Slots) (x : Node) (m : Masks) where
-  text_by : (t : Note) (v : Ty) (name : ℕ) (n : Masks) (w : Option (List ℕ)) → is_string w ≡ true → through_notes (typed t (Some v) ∷ []) m ≡ Some n
+  text_by : (t : Note) (v : Ty) (name : ℕ) (n : Masks) (w : Option (List ℕ)) → names_string w ≡ true → through_notes (typed t (Some v) ∷ []) m ≡ Some n
       → Opposed (w >>= λ text. through_notes (typed t (Some v) ∷ []) m >>= λ i. if has_string text v then Some (says_of (Some (3, form.Val)) i) else None)
       (if nat_eq v.0 1 || nat_eq v.0 2 then (if readable v.1 then None else Some (asks.Readable 0)) else Some (asks.Printable 0))
   text_by t v name n None c e = absurd (false_true c)
@@ -295,14 +297,14 @@ module _ (core : CoreData) (slots : Slots) (x : Node) (m : Masks) where
       (λ w. Opposed (w >>= λ i. if has_string text v then Some (says_of (Some (3, form.Val)) i) else None) (if nat_eq v.0 1 || nat_eq v.0 2 then (if readable v.1 then None else Some (asks.Readable 0)) else Some (asks.Printable 0)))
       (text_tests (same_text text (codes "string")) (nat_eq v.0 1) (nat_eq v.0 2) (readable v.1) _ (asks.Printable 0) (asks.Readable 0) c tt)
 
-  text_one : (t : Note) (o : Option Ty) (name : ℕ) (n : Masks) → is_string (slice_get core.names name) ≡ true → through_notes (typed t o ∷ []) m ≡ Some n → AtNode core slots (typed t o ∷ []) x m rule.Builtin (node.Call name)
+  text_one : (t : Note) (o : Option Ty) (name : ℕ) (n : Masks) → names_string (slice_get core.names name) ≡ true → through_notes (typed t o ∷ []) m ≡ Some n → AtNode core slots (typed t o ∷ []) x m rule.Builtin (node.Call name)
   text_one t None name n c e = tt
   text_one t (Some v) name n c e = text_by t v name n (slice_get core.names name) c e
 
   more_given : (t u : Note) (us : List Note) → nat_eq (length (t ∷ u ∷ us) - 1) 0 ≡ false
   more_given t u us = elim (eqb_tells (length (t ∷ u ∷ us) - 1) 0) [ inl same ↦ let e = same.1 in absurd (omega (arith, e)) | inr apart ↦ apart.0 ]
 
-  pub text_at : (ns : List Note) (name : ℕ) (n : Masks) → 1 ≤ length ns → is_string (slice_get core.names name) ≡ true → through_notes ns m ≡ Some n → AtNode core slots ns x m rule.Builtin (node.Call name)
+  pub text_at : (ns : List Note) (name : ℕ) (n : Masks) → 1 ≤ length ns → names_string (slice_get core.names name) ≡ true → through_notes ns m ≡ Some n → AtNode core slots ns x m rule.Builtin (node.Call name)
   text_at [] name n l c e = absurd (omega (arith, l))
   text_at (t ∷ []) name n l c e = text_one t t.ty name n c e
   text_at (t ∷ u ∷ us) name n l c e = asks_false {A = Said} (holds_of core slots (t ∷ u ∷ us) x m) (asks.Counted (asked.receiver_index (t ∷ u ∷ us)) 0) (asks.Typed 0 ∷ asks.Printable 0 ∷ asks.Readable 0 ∷ []) None (more_given t u us) refl

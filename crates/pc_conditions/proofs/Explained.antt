@@ -34,12 +34,12 @@ use Rattle.pc_rules.specs.Operators.{is_arithmetic, is_comparison, is_equality, 
 use Rattle.pc_rules.specs.Rules.{rule_says, said_by}
 use Rattle.pc_rules.proofs.Records.{rules_say_what_is_meant}
 use Rattle.pc_rules.proofs.Derivations.{to_no_rule}
-use Rattle.pc_check.specs.Inference.{rules_for, with_inferred, with_slot, inferred_slot, note_of}
+use Rattle.pc_check.specs.Inference.{rules_for, with_inferred, with_inferred_slot, inferred_slot, note_of}
 use Rattle.pc_check.proofs.Definitions.{inferred_inv}
-use Rattle.pc_conditions.specs.Chosen.{chosen, calls_function, calls_behaviour, is_string}
+use Rattle.pc_conditions.specs.Chosen.{is_chosen, calls_function, calls_behaviour, names_string}
 use Rattle.pc_conditions.specs.Conditions.{callee}
 use Rattle.pc_conditions.specs.Failing.{Because, failing}
-use Rattle.pc_conditions.specs.Laws.{Reached, ConditionsAreTheRule, ConditionsAreTheRecord, EachRuleFails}
+use Rattle.pc_conditions.specs.Laws.{ReachedNode, ConditionsAreTheRule, ConditionsAreTheRecord, EachRuleFails}
 use Rattle.pc_conditions.specs.declared.condition.Condition.{Condition}
 use Rattle.pc_conditions.proofs.Opposed.{opposed_none, opposed_fails, opposed_some, opposed_holds}
 use Rattle.pc_conditions.proofs.TheRule.{one_rule, more_rules, each_rule}
@@ -87,9 +87,9 @@ module _ (core : CoreData) (ns : List Note) (x : Node) (m : Masks) where
       skip_else (test i.0 f) (Some (g i.0 f k)) (h i.0 f (bind_is (called core ns name) (λ (j : Ty × ℕ). slice_get core.methods j.1) i e ∙ d)))))
 
   abbrev Skips : Slots → NodeKind → Rule → Type 0
-  Skips slots k r = chosen core ns x r k ≡ false → rule_says core slots ns x m r k ≡ None
+  Skips slots k r = is_chosen core ns x r k ≡ false → rule_says core slots ns x m r k ≡ None
 
-  always : (slots : Slots) (k : NodeKind) (r : Rule) → chosen core ns x r k ≡ true → Each (λ i q. Skips slots k q) (r ∷ [])
+  always : (slots : Slots) (k : NodeKind) (r : Rule) → is_chosen core ns x r k ≡ true → Each (λ i q. Skips slots k q) (r ∷ [])
   always slots k r t = one_rule (Skips slots k) r (λ c. absurd (false_true (sym c ∙ t)))
 
   call_skips : (slots : Slots) (name : ℕ) → Each (λ i q. Skips slots (node.Call name) q) (rules_for (node.Call name))
@@ -102,7 +102,7 @@ module _ (core : CoreData) (ns : List Note) (x : Node) (m : Masks) where
       (more_rules skips rule.Send (rule.Builtin ∷ [])
       (λ c. no_call name (λ o f. sends core ns f) _ (λ o f e. first_and (is_behaviour f.kind) _ (sym (ap calls_behaviour e) ∙ c)))
       (one_rule skips rule.Builtin
-      (λ c. skip_each (one_type ns) _ (λ v e. skip_each (slice_get core.names name) _ (λ text d. skip_each (through_notes ns m) _ (λ k g. skip_and (same_text text _) (has_text v) _ (sym (ap is_string d) ∙ c))))))))
+      (λ c. skip_each (one_type ns) _ (λ v e. skip_each (slice_get core.names name) _ (λ text d. skip_each (through_notes ns m) _ (λ k g. skip_and (same_text text _) (has_text v) _ (sym (ap names_string d) ∙ c))))))))
 
   binary_skips : (slots : Slots) (o : Op) → Each (λ i q. Skips slots (node.Binary o) q) (rules_for (node.Binary o))
   binary_skips slots o =
@@ -140,37 +140,38 @@ module _ (core : CoreData) (ns : List Note) (x : Node) (m : Masks) where
 
 -- ---- in both directions
 
-module _ (core : CoreData) (ann : Ann) (n : ℕ) (x : Node) (m : Masks) (ns : List Note) (r : Rule) (at : Reached core ann n x m ns) (has : Has (rules_for x.kind) r) where
+module _ (core : CoreData) (ann : Ann) (n : ℕ) (x : Node) (m : Masks) (ns : List Note) (r : Rule) (at : ReachedNode core ann n x m ns) (has : Has (rules_for x.kind) r) where
   abbrev Says : Option Said → Type 0
   Says s = rule_says core (with_inferred core ann x).slots ns x m r x.kind ≡ s
 
   abbrev Fails : Option Condition → Type 0
   Fails f = failing core (with_inferred core ann x).slots ns x m r ≡ f
 
-  nothing_by : (b : Bool) → chosen core ns x r x.kind ≡ b → Says None → (chosen core ns x r x.kind ≡ false) ⊎ ((c : Condition) × Fails (Some c))
+  nothing_by : (b : Bool) → is_chosen core ns x r x.kind ≡ b → Says None
+      → (is_chosen core ns x r x.kind ≡ false) ⊎ ((c : Condition) × Fails (Some c))
   nothing_by false e none = inl e
   nothing_by true e none = inr (opposed_none _ _ (each_rule core ann n x m ns at x.kind refl has.0 r has.1 e) none)
 
-  fails_by : (b : Bool) → chosen core ns x r x.kind ≡ b → ((c : Condition) × Fails (Some c)) → Says None
+  fails_by : (b : Bool) → is_chosen core ns x r x.kind ≡ b → ((c : Condition) × Fails (Some c)) → Says None
   fails_by false e c = skipped core ns x m (with_inferred core ann x).slots x.kind has.0 r has.1 e
   fails_by true e c = opposed_fails _ _ c.0 (each_rule core ann n x m ns at x.kind refl has.0 r has.1 e) c.1
 
-  both_ways : Says None ↔ ((chosen core ns x r x.kind ≡ false) ⊎ ((c : Condition) × Fails (Some c)))
+  both_ways : Says None ↔ ((is_chosen core ns x r x.kind ≡ false) ⊎ ((c : Condition) × Fails (Some c)))
   both_ways = (
-    nothing_by (chosen core ns x r x.kind) refl,
-    λ h. elim h [ inl e ↦ skipped core ns x m (with_inferred core ann x).slots x.kind has.0 r has.1 e | inr c ↦ fails_by (chosen core ns x r x.kind) refl c ],
+    nothing_by (is_chosen core ns x r x.kind) refl,
+    λ h. elim h [ inl e ↦ skipped core ns x m (with_inferred core ann x).slots x.kind has.0 r has.1 e | inr c ↦ fails_by (is_chosen core ns x r x.kind) refl c ],
   )
 
-  meant_by : (b : Bool) (q : Said) → chosen core ns x r x.kind ≡ b → Says (Some q) → (chosen core ns x r x.kind ≡ true) × Fails None
+  meant_by : (b : Bool) (q : Said) → is_chosen core ns x r x.kind ≡ b → Says (Some q) → (is_chosen core ns x r x.kind ≡ true) × Fails None
   meant_by false q e s = absurd (none-some q (sym (skipped core ns x m (with_inferred core ann x).slots x.kind has.0 r has.1 e) ∙ s))
   meant_by true q e s = (e, opposed_some _ _ q (each_rule core ann n x m ns at x.kind refl has.0 r has.1 e) s)
 
-  to_record : ((own : Note) × (before own ≡ m) × Means core (with_inferred core ann x).slots own ns x r x.kind) → (chosen core ns x r x.kind ≡ true) × Fails None
+  to_record : ((own : Note) × (before own ≡ m) × Means core (with_inferred core ann x).slots own ns x r x.kind) → (is_chosen core ns x r x.kind ≡ true) × Fails None
   to_record h =
       let said = (rules_say_what_is_meant core at.formed (with_inferred core ann x).slots h.0 ns x r x.kind).1 h.2 in
-      meant_by (chosen core ns x r x.kind) (said_by h.0) refl (subst (λ (k : Masks). rule_says core (with_inferred core ann x).slots ns x k r x.kind ≡ Some (said_by h.0)) h.1 said)
+      meant_by (is_chosen core ns x r x.kind) (said_by h.0) refl (subst (λ (k : Masks). rule_says core (with_inferred core ann x).slots ns x k r x.kind ≡ Some (said_by h.0)) h.1 said)
 
-  from_record : (chosen core ns x r x.kind ≡ true) × Fails None → (own : Note) × (before own ≡ m) × Means core (with_inferred core ann x).slots own ns x r x.kind
+  from_record : (is_chosen core ns x r x.kind ≡ true) × Fails None → (own : Note) × (before own ≡ m) × Means core (with_inferred core ann x).slots own ns x r x.kind
   from_record h =
       let q = opposed_holds _ _ (each_rule core ann n x m ns at x.kind refl has.0 r has.1 h.0) h.1 in
       let own = note_of r m q.0 in
@@ -184,7 +185,7 @@ conditions_are_the_record core ann n x m ns r at has = (to_record core ann n x m
 
 -- ---- if no rule applies
 
-differ : (core : CoreData) (ann : Ann) (x : Node) (o : Option (ℕ × (ℕ × Cap))) → inferred_slot core ann x x.kind ≡ o → DifferAt core x ann.slots (with_slot ann o).slots
+differ : (core : CoreData) (ann : Ann) (x : Node) (o : Option (ℕ × (ℕ × Cap))) → inferred_slot core ann x x.kind ≡ o → DifferAt core x ann.slots (with_inferred_slot ann o).slots
 differ core ann x None e = (refl, λ k h. refl)
 differ core ann x (Some i) e =
     let d = inferred_inv core ann x i e in (
@@ -196,7 +197,7 @@ differ core ann x (Some i) e =
     )
 
 module _ (core : CoreData) (ann : Ann) (n : ℕ) (ns : List Note) (formed : Formed core) (stop : NoRule core ann n) (are : notes_of ann.notes stop.at.children ≡ Some ns) where
-  pub stopped : Reached core ann n stop.at stop.masks ns
+  pub stopped : ReachedNode core ann n stop.at stop.masks ns
   stopped = record { formed = formed; prefix = record { slots = stop.slots; written = stop.written; before = stop.nodes_before }; is_at = stop.is_at; reaches = stop.reaches; are_children = are }
 
   pub says_nothing : (r : Rule) → rule_says core (with_inferred core ann stop.at).slots ns stop.at stop.masks r stop.at.kind ≡ None
@@ -204,14 +205,14 @@ module _ (core : CoreData) (ann : Ann) (n : ℕ) (ns : List Note) (formed : Form
       sym (bind_is (notes_of ann.notes stop.at.children) (λ ts. rule_says core (with_inferred core ann stop.at).slots ts stop.at stop.masks r stop.at.kind) ns are)
       ∙ (to_no_rule core formed ann n stop).none r (with_inferred core ann stop.at).slots (differ core ann stop.at (inferred_slot core ann stop.at stop.at.kind) refl)
 
-  same_notes : (o : Option (ℕ × (ℕ × Cap))) → (with_slot ann o).notes ≡ ann.notes
+  same_notes : (o : Option (ℕ × (ℕ × Cap))) → (with_inferred_slot ann o).notes ≡ ann.notes
   same_notes None = refl
   same_notes (Some i) = refl
 
-  pub because : (r : Rule) → Has (rules_for stop.at.kind) r → chosen core ns stop.at r stop.at.kind ≡ true → (c : Condition) × (failing core (with_inferred core ann stop.at).slots ns stop.at stop.masks r ≡ Some c)
+  pub because : (r : Rule) → Has (rules_for stop.at.kind) r → is_chosen core ns stop.at r stop.at.kind ≡ true → (c : Condition) × (failing core (with_inferred core ann stop.at).slots ns stop.at stop.masks r ≡ Some c)
   because r has e = opposed_none _ _ (each_rule core ann n stop.at stop.masks ns stopped stop.at.kind refl has.0 r has.1 e) (says_nothing r)
 
-  pub shown : (r : Rule) → Has (rules_for stop.at.kind) r → chosen core ns stop.at r stop.at.kind ≡ true → (c : Condition) × Because core (with_inferred core ann stop.at) n stop.masks r c
+  pub shown : (r : Rule) → Has (rules_for stop.at.kind) r → is_chosen core ns stop.at r stop.at.kind ≡ true → (c : Condition) × Because core (with_inferred core ann stop.at) n stop.masks r c
   shown r has e =
       let c = because r has e in
       (c.0, record { at = stop.at; is_at = stop.is_at; children = ns; are_children = ap (λ ts. notes_of ts stop.at.children) (same_notes (inferred_slot core ann stop.at stop.at.kind)) ∙ are; is_chosen = e; first = c.1 })

@@ -4,7 +4,7 @@ use Rattle.std.proofs.Common.{ap, ◌∙◌}
 use Rattle.pc_core.specs.declared.declarations.ParamInfo.{ParamInfo}
 use Rattle.pc_lists.proofs.Cuts.{drop_item}
 use Rattle.pc_lists.proofs.Gets.{get_within}
-use Rattle.pc_conditions.specs.Conditions.{arguments_go}
+use Rattle.pc_conditions.specs.Conditions.{argument_conditions}
 use Rattle.pc_conditions.specs.Failing.{first_false}
 use Rattle.pc_conditions.specs.declared.condition.Condition.{Condition}
 use Rattle.pc_conditions.specs.declared.condition.Condition.TheVariants as asks
@@ -22,8 +22,8 @@ first_of_both holds [] ds = refl
 first_of_both holds (c ∷ cs) ds = either (holds c) c (first_false holds (cs ++ ds)) (first_false holds cs) (first_false holds ds) (first_of_both holds cs ds)
 
 -- The first remaining argument has no type.
-pub typed_fails : (holds : Condition → Bool) (ps : List ParamInfo) (i k : ℕ) → k < length ps → holds (asks.Typed i) ≡ false → first_false holds (arguments_go i (drop k ps)) ≡ Some (asks.Typed i)
+pub typed_fails : (holds : Condition → Bool) (ps : List ParamInfo) (i k : ℕ) → k < length ps → holds (asks.Typed i) ≡ false → first_false holds (argument_conditions i (drop k ps)) ≡ Some (asks.Typed i)
 typed_fails holds ps i k l e =
     let p = get_within ps k l in
-    ap (λ qs. first_false holds (arguments_go i qs)) (drop_item ps k p.0 p.1)
-    ∙ ap (λ b. if b then first_false holds (asks.Under i p.0.entity ∷ asks.Fits i p.0.cap ∷ arguments_go (i + 1) (drop (k + 1) ps)) else Some (asks.Typed i)) e
+    ap (λ qs. first_false holds (argument_conditions i qs)) (drop_item ps k p.0 p.1)
+    ∙ ap (λ b. if b then first_false holds (asks.Under i p.0.entity ∷ asks.Fits i p.0.cap ∷ argument_conditions (i + 1) (drop (k + 1) ps)) else Some (asks.Typed i)) e

@@ -29,21 +29,21 @@ use Rattle.pc_valid.specs.Valid.{NoRule, Reaches}
 use Rattle.pc_rules.proofs.Derivations.{reaches_to, to_reaches, to_reached}
 use Rattle.pc_rules.proofs.Alike.{looked_at, bind_same}
 use Rattle.pc_caps.specs.Tables.{fits}
-use Rattle.pc_core.specs.Methods.{Uses}
+use Rattle.pc_core.specs.Methods.{UsesSlot}
 use Rattle.pc_core.specs.Nodes.{HasArity, NamesFit, NamesSlot}
 use Rattle.pc_sub.specs.Sub.{is_sub}
 use Rattle.pc_rules.proofs.Alike.{slot_same}
 use Rattle.pc_rules.proofs.Agreeing.{Agree, use_alike}
 use Rattle.pc_rules.proofs.Homes.{children_before}
-use Rattle.pc_check.specs.Inference.{rules_for, with_inferred, inferred_slot, with_slot}
+use Rattle.pc_check.specs.Inference.{rules_for, with_inferred, inferred_slot, with_inferred_slot}
 use Rattle.pc_check.proofs.OneFault.{agree_both, carried, reaches_one, one_node}
-use Rattle.pc_conditions.specs.Chosen.{chosen}
-use Rattle.pc_conditions.specs.Failing.{failure, reason_of, reasons_among, reasons, reasons_at}
-use Rattle.pc_conditions.specs.Laws.{Reached, OneExplanation}
+use Rattle.pc_conditions.specs.Chosen.{is_chosen}
+use Rattle.pc_conditions.specs.Failing.{failure, with_reason, reasons_among, reasons, reasons_at}
+use Rattle.pc_conditions.specs.Laws.{ReachedNode, OneExplanation}
 use Rattle.pc_conditions.proofs.Started.{notes_length, slot_at, placed}
 use Rattle.pc_conditions.specs.Conditions as asked
 use Rattle.pc_rules.specs.Values.{is_var}
-use Rattle.pc_conditions.specs.Failing.{first_false, holds_of, on, is_there}
+use Rattle.pc_conditions.specs.Failing.{first_false, holds_of, on, is_found}
 use Rattle.pc_conditions.specs.declared.condition.Condition.{Condition}
 use Rattle.pc_conditions.specs.declared.condition.Condition.TheVariants as asks
 
@@ -66,7 +66,7 @@ both_slotless (c ∷ cs) ds e f = keep (slotless c) (all_slotless cs) (all_slotl
     keep true b d e h = h e
     keep false b d e h = absurd (false_true e)
 
-arguments_slotless : (i : ℕ) (ps : List ParamInfo) → all_slotless (asked.arguments_go i ps) ≡ true
+arguments_slotless : (i : ℕ) (ps : List ParamInfo) → all_slotless (asked.argument_conditions i ps) ≡ true
 arguments_slotless i [] = refl
 arguments_slotless i (p ∷ ps) = arguments_slotless (i + 1) ps
 
@@ -82,10 +82,10 @@ body_slotless : (b : Bool) (f : Method) → all_slotless (if b then asks.Typed 0
 body_slotless true f = refl
 body_slotless false f = refl
 
-call_slotless : (o : ℕ) (f : Method) → all_slotless (asked.call_of o f) ≡ true
+call_slotless : (o : ℕ) (f : Method) → all_slotless (asked.call_conditions o f) ≡ true
 call_slotless o f = both_slotless (asked.all_go o f.params) (asks.Fits o f.receiver ∷ []) (arguments_slotless 0 f.params) refl
 
-recover_slotless : (o : ℕ) (f : Method) → all_slotless (asked.call_recover_of o f) ≡ true
+recover_slotless : (o : ℕ) (f : Method) → all_slotless (asked.call_recover_conditions o f) ≡ true
 recover_slotless o f = both_slotless (asked.all_go o f.params) (asks.Unfit o f.receiver ∷ asks.Isolated o ∷ asks.Lent f.receiver ∷ asked.arguments_sent 0 f.params) (arguments_slotless 0 f.params) (sent_slotless 0 f.params)
 
 rule_slotless : (core : CoreData) (slots : Slots) (ns : List Note) (x : Node) (r : Rule) (k : NodeKind) → looked_at k ≡ None → all_slotless (asked.conditions core slots ns x r k) ≡ true
@@ -93,17 +93,17 @@ rule_slotless core slots ns x rule.Local (node.Local s) e = absurd (none-some s 
 rule_slotless core slots ns x rule.Consume (node.Consume s) e = absurd (none-some s (sym e))
 rule_slotless core slots ns x rule.Define (node.Define s) e = absurd (none-some s (sym e))
 rule_slotless core slots ns x rule.Assign (node.Assign s) e = absurd (none-some s (sym e))
-rule_slotless core slots ns x rule.Get (node.Field name) e = found_slotless (asked.child_field core ns 0 name) asked.get_of (λ f. refl)
-rule_slotless core slots ns x rule.GetOwn (node.Field name) e = found_slotless (own_field core x name) asked.get_own_of (λ f. refl)
-rule_slotless core slots ns x rule.Put (node.SetField name) e = found_slotless (asked.child_field core ns 1 name) asked.put_of (λ f. refl)
-rule_slotless core slots ns x rule.PutOwn (node.SetField name) e = found_slotless (own_field core x name) asked.put_own_of (λ f. refl)
+rule_slotless core slots ns x rule.Get (node.Field name) e = found_slotless (asked.child_field core ns 0 name) asked.get_conditions (λ f. refl)
+rule_slotless core slots ns x rule.GetOwn (node.Field name) e = found_slotless (own_field core x name) asked.get_own_conditions (λ f. refl)
+rule_slotless core slots ns x rule.Put (node.SetField name) e = found_slotless (asked.child_field core ns 1 name) asked.put_conditions (λ f. refl)
+rule_slotless core slots ns x rule.PutOwn (node.SetField name) e = found_slotless (own_field core x name) asked.put_own_conditions (λ f. refl)
 rule_slotless core slots ns x rule.New (node.New m) e = found_slotless (slice_get core.methods m) (λ f. asked.all_go (length ns) f.params) (λ f. arguments_slotless 0 f.params)
 rule_slotless core slots ns x rule.Spawn (node.Spawn m) e = found_slotless (slice_get core.methods m) (λ f. asked.all_go (length ns) f.params) (λ f. arguments_slotless 0 f.params)
-rule_slotless core slots ns x rule.Call (node.Call name) e = found_slotless (asked.callee core ns name) (asked.call_of (asked.receiver_index ns)) (λ f. call_slotless (asked.receiver_index ns) f)
-rule_slotless core slots ns x rule.CallRecover (node.Call name) e = found_slotless (asked.callee core ns name) (asked.call_recover_of (asked.receiver_index ns)) (λ f. recover_slotless (asked.receiver_index ns) f)
-rule_slotless core slots ns x rule.Send (node.Call name) e = found_slotless (asked.callee core ns name) (asked.send_of (asked.receiver_index ns)) (λ f. arguments_slotless 0 f.params)
+rule_slotless core slots ns x rule.Call (node.Call name) e = found_slotless (asked.callee core ns name) (asked.call_conditions (asked.receiver_index ns)) (λ f. call_slotless (asked.receiver_index ns) f)
+rule_slotless core slots ns x rule.CallRecover (node.Call name) e = found_slotless (asked.callee core ns name) (asked.call_recover_conditions (asked.receiver_index ns)) (λ f. recover_slotless (asked.receiver_index ns) f)
+rule_slotless core slots ns x rule.Send (node.Call name) e = found_slotless (asked.callee core ns name) (asked.send_conditions (asked.receiver_index ns)) (λ f. arguments_slotless 0 f.params)
 rule_slotless core slots ns x rule.Equal (node.Binary o) e = found_slotless (type_at ns 0) asked.same_read (λ v. refl)
-rule_slotless core slots ns x rule.Body node.Body e = found_slotless (slice_get core.methods x.method) asked.body_of (λ f. body_slotless (is_function f.kind) f)
+rule_slotless core slots ns x rule.Body node.Body e = found_slotless (slice_get core.methods x.method) asked.body_conditions (λ f. body_slotless (is_function f.kind) f)
 rule_slotless core slots ns x rule.Builtin (node.Call name) e = refl
 rule_slotless core slots ns x rule.Arith (node.Binary o) e = refl
 rule_slotless core slots ns x rule.Compare (node.Binary o) e = refl
@@ -179,16 +179,16 @@ module _ (core : CoreData) (a b : Slots) (ns : List Note) (x : Node) (m : Masks)
   pub define_alike : (s : ℕ) → slot_of core a x.method s ≡ slot_of core b x.method s → first_false (holds_of core a ns x m) (asked.of_found (asked.slot_type core a x.method s) (asked.goes 0)) ≡ first_false (holds_of core b ns x m) (asked.of_found (asked.slot_type core b x.method s) (asked.goes 0))
   define_alike s e = goes_alike 0 (slot_of core a x.method s) ∙ ap (λ o. first_false (holds_of core b ns x m) (asked.of_found (o >>= λ i. Some i.1) (asked.goes 0))) e
 
-  rest_alike : (o : Option (Slot × (ℕ × Cap))) → first_false (holds_of core a ns x m) (asked.of_found (o >>= λ i. Some i.1) asked.assign_of) ≡ first_false (holds_of core b ns x m) (asked.of_found (o >>= λ i. Some i.1) asked.assign_of)
+  rest_alike : (o : Option (Slot × (ℕ × Cap))) → first_false (holds_of core a ns x m) (asked.of_found (o >>= λ i. Some i.1) asked.assign_conditions) ≡ first_false (holds_of core b ns x m) (asked.of_found (o >>= λ i. Some i.1) asked.assign_conditions)
   rest_alike None = refl
   rest_alike (Some j) = refl
 
   pub assign_alike : (s : ℕ) → slot_of core a x.method s ≡ slot_of core b x.method s
-      → first_false (holds_of core a ns x m) (asks.Typed 0 ∷ asks.Variable s ∷ asks.Reached s ∷ asked.of_found (asked.slot_type core a x.method s) asked.assign_of)
-      ≡ first_false (holds_of core b ns x m) (asks.Typed 0 ∷ asks.Variable s ∷ asks.Reached s ∷ asked.of_found (asked.slot_type core b x.method s) asked.assign_of)
+      → first_false (holds_of core a ns x m) (asks.Typed 0 ∷ asks.Variable s ∷ asks.Reached s ∷ asked.of_found (asked.slot_type core a x.method s) asked.assign_conditions)
+      ≡ first_false (holds_of core b ns x m) (asks.Typed 0 ∷ asks.Variable s ∷ asks.Reached s ∷ asked.of_found (asked.slot_type core b x.method s) asked.assign_conditions)
   assign_alike s e =
-      ap (λ o. if is_there (type_at ns 0) then (if on (slot_of core a x.method s) (λ i. is_var i.0.kind) then (if on (slot_of core a x.method s) (reachable x) then o else Some (asks.Reached s)) else Some (asks.Variable s)) else Some (asks.Typed 0)) (rest_alike (slot_of core a x.method s))
-      ∙ ap (λ o. if is_there (type_at ns 0) then (if on o (λ i. is_var i.0.kind) then (if on o (reachable x) then first_false (holds_of core b ns x m) (asked.of_found (o >>= λ i. Some i.1) asked.assign_of) else Some (asks.Reached s)) else Some (asks.Variable s)) else Some (asks.Typed 0)) e
+      ap (λ o. if is_found (type_at ns 0) then (if on (slot_of core a x.method s) (λ i. is_var i.0.kind) then (if on (slot_of core a x.method s) (reachable x) then o else Some (asks.Reached s)) else Some (asks.Variable s)) else Some (asks.Typed 0)) (rest_alike (slot_of core a x.method s))
+      ∙ ap (λ o. if is_found (type_at ns 0) then (if on o (λ i. is_var i.0.kind) then (if on o (reachable x) then first_false (holds_of core b ns x m) (asked.of_found (o >>= λ i. Some i.1) asked.assign_conditions) else Some (asks.Reached s)) else Some (asks.Variable s)) else Some (asks.Typed 0)) e
 
 -- ---- the notes of children, and the reasons
 
@@ -203,7 +203,7 @@ notes_same a b (c ∷ cs) h =
 abbrev pair : {A B : Type 0} → A → B → A × B
 pair a b = (a, b)
 
-module _ (core : CoreData) (a b : Ann) (n : ℕ) (formed : Formed core) (p : NoRule core a n) (q : NoRule core b n) (ns : List Note) (x : Node) (m : Masks) (is_at : slice_get core.nodes n ≡ Some x) (at : Reached core a n x m ns) (to : Reached core b n x m ns) where
+module _ (core : CoreData) (a b : Ann) (n : ℕ) (formed : Formed core) (p : NoRule core a n) (q : NoRule core b n) (ns : List Note) (x : Node) (m : Masks) (is_at : slice_get core.nodes n ≡ Some x) (at : ReachedNode core a n x m ns) (to : ReachedNode core b n x m ns) where
   same : Agree core a b n
   same = agree_both core a b formed p.written q.written n (λ k l. to_reached core formed a k (p.nodes_before k l)) (λ k l. to_reached core formed b k (q.nodes_before k l))
 
@@ -217,13 +217,13 @@ module _ (core : CoreData) (a b : Ann) (n : ℕ) (formed : Formed core) (p : NoR
   FailAlike k r = first_false (holds_of core From ns x m) (asked.conditions core From ns x r k) ≡ first_false (holds_of core To ns x m) (asked.conditions core To ns x r k)
 
   -- A slot of a node that defines none.
-  slot_kept : (s : ℕ) (k : NodeKind) → x.kind ≡ k → inferred_slot core a x k ≡ None → inferred_slot core b x k ≡ None → Uses s k → NamesSlot core x.method s → slot_of core From x.method s ≡ slot_of core To x.method s
+  slot_kept : (s : ℕ) (k : NodeKind) → x.kind ≡ k → inferred_slot core a x k ≡ None → inferred_slot core b x k ≡ None → UsesSlot s k → NamesSlot core x.method s → slot_of core From x.method s ≡ slot_of core To x.method s
   slot_kept s k e f g u names =
       let mine : inferred_slot core a x x.kind ≡ None = ap (inferred_slot core a x) e ∙ f in
       let other : inferred_slot core b x x.kind ≡ None = ap (inferred_slot core b x) e ∙ g in
-      ap (λ o. slot_of core (with_slot a o).slots x.method s) mine
+      ap (λ o. slot_of core (with_inferred_slot a o).slots x.method s) mine
       ∙ slot_same a b core x.method s (λ h i. use_alike core a b formed p.written q.written n x k s same is_at e u names h i)
-      ∙ sym (ap (λ o. slot_of core (with_slot b o).slots x.method s) other)
+      ∙ sym (ap (λ o. slot_of core (with_inferred_slot b o).slots x.method s) other)
 
   -- The slot that the node defines, if its value has a type.
   slot_placed : (s : ℕ) (t : Note) (v : Ty) → x.kind ≡ node.Define s → ns ≡ t ∷ [] → t.ty ≡ Some v → slot_of core From x.method s ≡ slot_of core To x.method s
@@ -241,7 +241,7 @@ module _ (core : CoreData) (a b : Ann) (n : ℕ) (formed : Formed core) (p : NoR
       → first_false (holds_of core slots (t ∷ []) x m) (asked.of_found (asked.slot_type core slots x.method s) (asked.goes 0)) ≡ Some (asks.Typed 0)
   untyped slots s t i e f =
       ap (λ w. first_false (holds_of core slots (t ∷ []) x m) (asked.of_found (w >>= λ i. Some i.1) (asked.goes 0))) e
-      ∙ ap (λ o. if is_there o then (if on o (λ v. is_sub core v.0 i.1.0) then (if on o (λ v. fits v.1 i.1.1) then None else Some (asks.Fits 0 i.1.1)) else Some (asks.Under 0 i.1.0)) else Some (asks.Typed 0)) f
+      ∙ ap (λ o. if is_found o then (if on o (λ v. is_sub core v.0 i.1.0) then (if on o (λ v. fits v.1 i.1.1) then None else Some (asks.Fits 0 i.1.1)) else Some (asks.Under 0 i.1.0)) else Some (asks.Typed 0)) f
 
   defined_by : (s : ℕ) (t : Note) (o : Option Ty) → x.kind ≡ node.Define s → ns ≡ t ∷ [] → t.ty ≡ o → FailAlike (node.Define s) rule.Define
   defined_by s t (Some v) k e is = define_alike core From To ns x m s (slot_placed s t v k e is)
@@ -278,11 +278,11 @@ module _ (core : CoreData) (a b : Ann) (n : ℕ) (formed : Formed core) (p : NoR
   fail_alike k r e = other_alike core From To ns x m r k refl
 
   failure_alike : (r : Rule) → failure core From ns x m r ≡ failure core To ns x m r
-  failure_alike r = ap (λ o. if chosen core ns x r x.kind then o else None) (fail_alike x.kind r refl)
+  failure_alike r = ap (λ o. if is_chosen core ns x r x.kind then o else None) (fail_alike x.kind r refl)
 
   pub reasons_alike : (rs : List Rule) → reasons_among core From ns x m rs ≡ reasons_among core To ns x m rs
   reasons_alike [] = refl
-  reasons_alike (r ∷ rs) = ap (λ o. reason_of r o (reasons_among core From ns x m rs)) (failure_alike r) ∙ ap (reason_of r (failure core To ns x m r)) (reasons_alike rs)
+  reasons_alike (r ∷ rs) = ap (λ o. with_reason r o (reasons_among core From ns x m rs)) (failure_alike r) ∙ ap (with_reason r (failure core To ns x m r)) (reasons_alike rs)
 
 all_noted : (notes : List Note) (cs : List ℕ) → ((i c : ℕ) → slice_get cs i ≡ Some c → (t : Note) × (slice_get notes c ≡ Some t)) → (ns : List Note) × (notes_of notes cs ≡ Some ns)
 all_noted notes [] h = ([], refl)
@@ -291,7 +291,7 @@ all_noted notes (c ∷ cs) h =
     let ts = all_noted notes cs (λ i d e. h (suc i) d e) in
     (t.0 ∷ ts.0, bind_is (slice_get notes c) _ t.0 t.1 ∙ bind_is (notes_of notes cs) _ ts.0 ts.1)
 
-same_notes : (ann : Ann) (o : Option (ℕ × (ℕ × Cap))) → (with_slot ann o).notes ≡ ann.notes
+same_notes : (ann : Ann) (o : Option (ℕ × (ℕ × Cap))) → (with_inferred_slot ann o).notes ≡ ann.notes
 same_notes ann None = refl
 same_notes ann (Some i) = refl
 
@@ -319,8 +319,8 @@ module _ (core : CoreData) (a b : Ann) (n : ℕ) (formed : Formed core) (p : NoR
   one_list =
       let ns = all_noted a.notes p.at.children noted_child in
       let too : notes_of b.notes p.at.children ≡ Some ns.0 = sym (notes_same a.notes b.notes p.at.children (λ i c e. agreed.notes c (children_before core n p.at formed p.is_at i c e))) ∙ ns.1 in
-      let at : Reached core a n p.at p.masks ns.0 = record { formed = formed; prefix = record { slots = p.slots; written = p.written; before = p.nodes_before }; is_at = p.is_at; reaches = p.reaches; are_children = ns.1 } in
-      let to : Reached core b n p.at p.masks ns.0 = record { formed = formed; prefix = record { slots = q.slots; written = q.written; before = q.nodes_before }; is_at = p.is_at; reaches = reached_too; are_children = too } in
+      let at : ReachedNode core a n p.at p.masks ns.0 = record { formed = formed; prefix = record { slots = p.slots; written = p.written; before = p.nodes_before }; is_at = p.is_at; reaches = p.reaches; are_children = ns.1 } in
+      let to : ReachedNode core b n p.at p.masks ns.0 = record { formed = formed; prefix = record { slots = q.slots; written = q.written; before = q.nodes_before }; is_at = p.is_at; reaches = reached_too; are_children = too } in
       reasons_are core a p.at p.masks ns.0 ns.1
       ∙ ap Some (reasons_alike core a b n formed p q ns.0 p.at p.masks p.is_at at to (rules_for p.at.kind))
       ∙ sym (reasons_are core b p.at p.masks ns.0 too)

@@ -23,15 +23,16 @@ use Rattle.pc_core.specs.declared.nodes.Slot.{Slot}
 use Rattle.pc_sub.specs.Sub.{is_sub}
 use Rattle.pc_rules.specs.declared.said.Said.{Said}
 use Rattle.pc_rules.specs.Parts.{says_of, readable, slot_of, reachable, starts, through_notes}
-use Rattle.pc_valid.specs.Words.{Ty, Masks, Slots, after}
+use Rattle.pc_valid.specs.Words.{Ty, Masks, Slots, masks_after}
 use Rattle.pc_rules.specs.Values.{is_var, same_place, defined_type, defines, assigns, assigned, defined}
 use Rattle.pc_rules.specs.Fields.{field_of, own_field, incomplete, own_old, own_writes, writes}
 use Rattle.pc_rules.specs.Operators.{value_says, both_read_as}
 use Rattle.pc_rules.specs.Control.{recovered, branch_masks, starts_method, result_ok, joined, is_condition}
 use Rattle.pc_rules.specs.Calls.{is_function}
 use Rattle.pc_rules.specs.Rules.{rule_says}
-use Rattle.pc_conditions.specs.Conditions.{conditions, of_found, get_of, get_own_of, put_of, put_own_of, goes, assign_of, body_of, reads, both_read}
-use Rattle.pc_conditions.specs.Failing.{first_false, holds_of, on, is_there}
+use Rattle.pc_conditions.specs.Conditions.{conditions, of_found, get_conditions, get_own_conditions, put_conditions, put_own_conditions, goes}
+use Rattle.pc_conditions.specs.Conditions.{assign_conditions, body_conditions, reads, both_read}
+use Rattle.pc_conditions.specs.Failing.{first_false, holds_of, on, is_found}
 use Rattle.pc_conditions.specs.declared.condition.Condition.{Condition}
 use Rattle.pc_conditions.specs.declared.condition.Condition.TheVariants as asks
 use Rattle.pc_conditions.proofs.Opposed.{Opposed, typed, goes_through, is_some, asks_if, asks_two, if_true, if_false}
@@ -130,12 +131,12 @@ module _ (core : CoreData) (slots : Slots) (x : Node) (m : Masks) where
   -- ---- fields
 
   get_seen : (v : Ty) (f : ℕ × FieldInfo) (ns : List Note) (n : Masks) (u : Option Form) → through_notes ns m ≡ Some n
-      → Opposed ((u >>= λ seen. Some (f.1.entity, seen)) >>= λ ty. through_notes ns m >>= λ k. Some (says_of (Some ty) k)) (if is_there u then None else Some (asks.Seen 0 f.1.cap))
+      → Opposed ((u >>= λ seen. Some (f.1.entity, seen)) >>= λ ty. through_notes ns m >>= λ k. Some (says_of (Some ty) k)) (if is_found u then None else Some (asks.Seen 0 f.1.cap))
   get_seen v f ns n None e = tt
   get_seen v f ns n (Some seen) e = goes_through (through_notes ns m) n (says_of (Some (f.1.entity, seen))) e
 
   get_found : (t : Note) (v : Ty) (name : ℕ) (n : Masks) (w : Option (ℕ × FieldInfo)) → through_notes (typed t (Some v) ∷ []) m ≡ Some n
-      → Opposed ((w >>= λ f. view v.1 f.1.cap >>= λ seen. Some (f.1.entity, seen)) >>= λ ty. through_notes (typed t (Some v) ∷ []) m >>= λ k. Some (says_of (Some ty) k)) (if is_there w then first_false (holds_of core slots (typed t (Some v) ∷ []) x m) (of_found w get_of) else Some (asks.HasField 0 name))
+      → Opposed ((w >>= λ f. view v.1 f.1.cap >>= λ seen. Some (f.1.entity, seen)) >>= λ ty. through_notes (typed t (Some v) ∷ []) m >>= λ k. Some (says_of (Some ty) k)) (if is_found w then first_false (holds_of core slots (typed t (Some v) ∷ []) x m) (of_found w get_conditions) else Some (asks.HasField 0 name))
   get_found t v name n None e = tt
   get_found t v name n (Some f) e = get_seen v f (typed t (Some v) ∷ []) n (view v.1 f.1.cap) e
 
@@ -147,24 +148,24 @@ module _ (core : CoreData) (slots : Slots) (x : Node) (m : Masks) where
   own_seen f g n o e = is_some o n e (λ o. Opposed (o >>= λ k. if has k.1 f.0 then Some (g k) else None) (if on o (λ k. has k.1 f.0) then None else Some (asks.Set f.0))) (asks_if (has n.1 f.0) (Some (g n)) None (asks.Set f.0) tt)
 
   own_found : (ns : List Note) (name : ℕ) (n : Masks) (w : Option (ℕ × FieldInfo)) → through_notes ns m ≡ Some n
-      → Opposed (w >>= λ f. view form.Ref f.1.cap >>= λ seen. through_notes ns m >>= λ k. if has k.1 f.0 then Some (says_of (Some (f.1.entity, seen)) k) else None) (if is_there w then first_false (holds_of core slots ns x m) (of_found w get_own_of) else Some (asks.HasOwnField name))
+      → Opposed (w >>= λ f. view form.Ref f.1.cap >>= λ seen. through_notes ns m >>= λ k. if has k.1 f.0 then Some (says_of (Some (f.1.entity, seen)) k) else None) (if is_found w then first_false (holds_of core slots ns x m) (of_found w get_own_conditions) else Some (asks.HasOwnField name))
   own_found ns name n None e = tt
   own_found ns name n (Some f) e = own_seen f _ n (through_notes ns m) e
 
   pub get_own_at : (ns : List Note) (name : ℕ) (n : Masks) → incomplete core ns x ≡ true → through_notes ns m ≡ Some n → AtNode core slots ns x m rule.GetOwn (node.Field name)
   get_own_at ns name n c e = if_true (incomplete core ns x) _ _ c (own_found ns name n (own_field core x name) e)
 
-  put_old : (ns : List Note) (f : FieldInfo) (n : Masks) (u : Option Form) → through_notes ns m ≡ Some n → Opposed ((u >>= λ old. Some (f.entity, old)) >>= λ ty. through_notes ns m >>= λ k. Some (says_of (Some ty) k)) (if is_there u then None else Some (asks.Writable 1 f.cap))
+  put_old : (ns : List Note) (f : FieldInfo) (n : Masks) (u : Option Form) → through_notes ns m ≡ Some n → Opposed ((u >>= λ old. Some (f.entity, old)) >>= λ ty. through_notes ns m >>= λ k. Some (says_of (Some ty) k)) (if is_found u then None else Some (asks.Writable 1 f.cap))
   put_old ns f n None e = tt
   put_old ns f n (Some old) e = goes_through (through_notes ns m) n (says_of (Some (f.entity, old))) e
 
   put_found : (a b : Note) (v o : Ty) (name : ℕ) (n : Masks) (w : Option (ℕ × FieldInfo)) → through_notes (typed a (Some v) ∷ typed b (Some o) ∷ []) m ≡ Some n
       → Opposed
       (((w >>= λ f. if writes core v o.1 f.1 then Some f.1 else None) >>= λ f. taken o.1 f.cap >>= λ old. Some (f.entity, old)) >>= λ ty. through_notes (typed a (Some v) ∷ typed b (Some o) ∷ []) m >>= λ k. Some (says_of (Some ty) k))
-      (if is_there w then first_false (holds_of core slots (typed a (Some v) ∷ typed b (Some o) ∷ []) x m) (of_found w put_of) else Some (asks.HasField 1 name))
+      (if is_found w then first_false (holds_of core slots (typed a (Some v) ∷ typed b (Some o) ∷ []) x m) (of_found w put_conditions) else Some (asks.HasField 1 name))
   put_found a b v o name n None e = tt
   put_found a b v o name n (Some f) e =
-      four_tests (not f.1.fixed) (is_sub core v.0 f.1.entity) (fits v.1 f.1.cap) (may_write o.1 v.1 f.1.cap) (is_there (taken o.1 f.1.cap)) f.1 _ _
+      four_tests (not f.1.fixed) (is_sub core v.0 f.1.entity) (fits v.1 f.1.cap) (may_write o.1 v.1 f.1.cap) (is_found (taken o.1 f.1.cap)) f.1 _ _
       (asks.NotFixed f.1.fixed) (asks.Under 0 f.1.entity) (asks.Fits 0 f.1.cap) (asks.Enters f.1.cap) (asks.Writable 1 f.1.cap)
       (put_old (typed a (Some v) ∷ typed b (Some o) ∷ []) f.1 n (taken o.1 f.1.cap) e)
 
@@ -187,7 +188,7 @@ module _ (core : CoreData) (slots : Slots) (x : Node) (m : Masks) where
   own_put_found : (a b : Note) (v : Option Ty) (name : ℕ) (n : Masks) (w : Option (ℕ × FieldInfo)) → through_notes (typed a v ∷ b ∷ []) m ≡ Some n
       → Opposed
       (w >>= λ f. v >>= λ u. through_notes (typed a v ∷ b ∷ []) m >>= λ k. if own_writes core u f k.1 then Some (says_of (own_old f k.1) (k.0, with_number k.1 f.0)) else None)
-      (if is_there w then first_false (holds_of core slots (typed a v ∷ b ∷ []) x m) (of_found w put_own_of) else Some (asks.HasOwnField name))
+      (if is_found w then first_false (holds_of core slots (typed a v ∷ b ∷ []) x m) (of_found w put_own_conditions) else Some (asks.HasOwnField name))
   own_put_found a b v name n None e = tt
   own_put_found a b None name n (Some f) e = tt
   own_put_found a b (Some v) name n (Some f) e = own_put a b v f n (through_notes (typed a (Some v) ∷ b ∷ []) m) e
@@ -211,7 +212,7 @@ module _ (core : CoreData) (slots : Slots) (x : Node) (m : Masks) where
 
   assign_row : (t : Note) (v : Ty) (s : ℕ) (i : Slot × (ℕ × Cap)) (n : Masks) → through_notes (typed t (Some v) ∷ []) m ≡ Some n
       → Opposed (if assigns core x i v then assigned (typed t (Some v) ∷ []) s i.1 m else None)
-      (if is_var i.0.kind then (if reachable x i then first_false (holds_of core slots (typed t (Some v) ∷ []) x m) (assign_of i.1) else Some (asks.Reached s)) else Some (asks.Variable s))
+      (if is_var i.0.kind then (if reachable x i then first_false (holds_of core slots (typed t (Some v) ∷ []) x m) (assign_conditions i.1) else Some (asks.Reached s)) else Some (asks.Variable s))
   assign_row t v s i n e =
       assign_tests (is_var i.0.kind) (reachable x i) (is_sub core v.0 i.1.0) (fits v.1 i.1.1) _ (asks.Variable s) (asks.Reached s) (asks.Under 0 i.1.0) (asks.Fits 0 i.1.1) (goes_through (through_notes (typed t (Some v) ∷ []) m) n _ e)
 
@@ -220,7 +221,7 @@ module _ (core : CoreData) (slots : Slots) (x : Node) (m : Masks) where
   assign_at t (Some v) s i n g e =
       is_some (slot_of core slots x.method s) i g
       (λ w. Opposed (w >>= λ i. if assigns core x i v then assigned (typed t (Some v) ∷ []) s i.1 m else None)
-      (if on w (λ i. is_var i.0.kind) then (if on w (reachable x) then first_false (holds_of core slots (typed t (Some v) ∷ []) x m) (of_found (w >>= λ i. Some i.1) assign_of) else Some (asks.Reached s)) else Some (asks.Variable s)))
+      (if on w (λ i. is_var i.0.kind) then (if on w (reachable x) then first_false (holds_of core slots (typed t (Some v) ∷ []) x m) (of_found (w >>= λ i. Some i.1) assign_conditions) else Some (asks.Reached s)) else Some (asks.Variable s)))
       (assign_row t v s i n e)
 
   -- ---- operators
@@ -253,12 +254,13 @@ module _ (core : CoreData) (slots : Slots) (x : Node) (m : Masks) where
       if_row None = tt
       if_row (Some v) = asks_two (nat_eq v.0 2) (readable v.1) _ None (asks.IsA 0 2) (asks.Readable 0) tt
 
-  pub while_at : (t b : Note) (o : Option Ty) → (starts t m && starts b (after t)) ≡ true → AtNode core slots (typed t o ∷ b ∷ []) x m rule.While node.While
-  while_at t b None e = loop_untyped ((starts t m && starts b (after t)) && (within m.0 b.live_after && same b.set_after m.1)) (after t) (asks.Typed 0)
+  pub while_at : (t b : Note) (o : Option Ty) → (starts t m && starts b (masks_after t)) ≡ true → AtNode core slots (typed t o ∷ b ∷ []) x m rule.While node.While
+  while_at t b None e = loop_untyped ((starts t m && starts b (masks_after t)) && (within m.0 b.live_after && same b.set_after m.1)) (masks_after t)
+      (asks.Typed 0)
   while_at t b (Some v) e =
-      loop_tests (starts t m && starts b (after t)) (within m.0 b.live_after) (same b.set_after m.1) (nat_eq v.0 2) (readable v.1) (after t) _ (asks.IsA 0 2) (asks.Readable 0) asks.KeepsLive asks.KeepsSet e tt
+      loop_tests (starts t m && starts b (masks_after t)) (within m.0 b.live_after) (same b.set_after m.1) (nat_eq v.0 2) (readable v.1) (masks_after t) _ (asks.IsA 0 2) (asks.Readable 0) asks.KeepsLive asks.KeepsSet e tt
 
-  recover_row : (v : Ty) (k : Option Cap) (ns : List Note) (n : Masks) (u : Option Form) → through_notes ns m ≡ Some n → Opposed (u >>= λ f. through_notes ns m >>= λ k. Some (says_of (Some (v.0, f)) k)) (if is_there u then None else Some (asks.Lifted k))
+  recover_row : (v : Ty) (k : Option Cap) (ns : List Note) (n : Masks) (u : Option Form) → through_notes ns m ≡ Some n → Opposed (u >>= λ f. through_notes ns m >>= λ k. Some (says_of (Some (v.0, f)) k)) (if is_found u then None else Some (asks.Lifted k))
   recover_row v k ns n None e = tt
   recover_row v k ns n (Some f) e = goes_through (through_notes ns m) n (says_of (Some (v.0, f))) e
 
@@ -280,7 +282,7 @@ module _ (core : CoreData) (slots : Slots) (x : Node) (m : Masks) where
   pub body_at : (t : Note) (o : Option Ty) (f : Method) (n : Masks) → slice_get core.methods x.method ≡ Some f → starts_method core f m ≡ true → through_notes (typed t o ∷ []) m ≡ Some n → AtNode core slots (typed t o ∷ []) x m rule.Body node.Body
   body_at t o f n g c e =
       is_some (slice_get core.methods x.method) f g
-      (λ w. Opposed (w >>= λ f. through_notes (typed t o ∷ []) m >>= λ k. if starts_method core f m && result_ok core f.kind f.result o then Some (says_of None k) else None) (first_false (holds_of core slots (typed t o ∷ []) x m) (of_found w body_of)))
+      (λ w. Opposed (w >>= λ f. through_notes (typed t o ∷ []) m >>= λ k. if starts_method core f m && result_ok core f.kind f.result o then Some (says_of None k) else None) (first_false (holds_of core slots (typed t o ∷ []) x m) (of_found w body_conditions)))
       (is_some (through_notes (typed t o ∷ []) m) n e
-      (λ w. Opposed (w >>= λ k. if starts_method core f m && result_ok core f.kind f.result o then Some (says_of None k) else None) (first_false (holds_of core slots (typed t o ∷ []) x m) (body_of f)))
+      (λ w. Opposed (w >>= λ k. if starts_method core f m && result_ok core f.kind f.result o then Some (says_of None k) else None) (first_false (holds_of core slots (typed t o ∷ []) x m) (body_conditions f)))
       (body_row t o f n f.kind (starts_method core f m) c))

@@ -17,9 +17,9 @@ use Rattle.pc_tree.specs.declared.kinds.Op.TheVariants as op
 use Rattle.pc_valid.specs.Words.{Masks, Slots}
 use Rattle.pc_rules.specs.Fields.{incomplete}
 use Rattle.pc_check.specs.Inference.{rules_for, with_inferred}
-use Rattle.pc_conditions.specs.Chosen.{chosen, calls_behaviour}
+use Rattle.pc_conditions.specs.Chosen.{is_chosen, calls_behaviour}
 use Rattle.pc_conditions.specs.Conditions.{callee}
-use Rattle.pc_conditions.specs.Failing.{failure, reason_of, reasons_among}
+use Rattle.pc_conditions.specs.Failing.{failure, with_reason, reasons_among}
 use Rattle.pc_conditions.specs.Laws.{SomeReason}
 use Rattle.pc_conditions.specs.declared.condition.Condition.{Condition}
 use Rattle.pc_conditions.specs.declared.reason.Reason.{Reason}
@@ -28,7 +28,7 @@ use Rattle.pc_conditions.proofs.Explained.{because}
 -- ---- one of the rules is considered
 
 abbrev ChosenOne : CoreData → List Note → Node → NodeKind → Type 0
-ChosenOne core ns x k = (r : Rule) × Has (rules_for k) r × (chosen core ns x r k ≡ true)
+ChosenOne core ns x k = (r : Rule) × Has (rules_for k) r × (is_chosen core ns x r k ≡ true)
 
 binary_chosen : (core : CoreData) (ns : List Note) (x : Node) (o : Op) → is_binary o ≡ true → ChosenOne core ns x (node.Binary o)
 binary_chosen core ns x op.Add e = (rule.Arith, (0, refl), refl)
@@ -91,7 +91,7 @@ one_chosen core ns x node.Body h = (rule.Body, (0, refl), refl)
 not_empty : (r : Reason) (rs : List Reason) → r ∷ rs ≡ [] → ⊥
 not_empty r rs e = let l = ap length e in omega (arith, l)
 
-more_reasons : (r : Rule) (o : Option Condition) (rs : List Reason) → (rs ≡ [] → ⊥) → reason_of r o rs ≡ [] → ⊥
+more_reasons : (r : Rule) (o : Option Condition) (rs : List Reason) → (rs ≡ [] → ⊥) → with_reason r o rs ≡ [] → ⊥
 more_reasons r None rs h e = h e
 more_reasons r (Some c) rs h e = not_empty _ rs e
 
@@ -99,7 +99,7 @@ some_among : (core : CoreData) (slots : Slots) (ns : List Note) (x : Node) (m : 
 some_among core slots ns x m [] i r c e f h = none-some r e
 some_among core slots ns x m (q ∷ rs) zero r c e f h =
     let is : failure core slots ns x m q ≡ Some c = ap (failure core slots ns x m) (same_Some q r e) ∙ f in
-    not_empty (record { rule = q; condition = c }) (reasons_among core slots ns x m rs) (sym (ap (λ o. reason_of q o (reasons_among core slots ns x m rs)) is) ∙ h)
+    not_empty (record { rule = q; condition = c }) (reasons_among core slots ns x m rs) (sym (ap (λ o. with_reason q o (reasons_among core slots ns x m rs)) is) ∙ h)
 some_among core slots ns x m (q ∷ rs) (suc i) r c e f h = more_reasons q (failure core slots ns x m q) (reasons_among core slots ns x m rs) (some_among core slots ns x m rs i r c e f) h
 
 fails_chosen : (b : Bool) (f : Option Condition) (c : Condition) → b ≡ true → f ≡ Some c → (if b then f else None) ≡ Some c
@@ -110,4 +110,4 @@ pub some_reason : SomeReason
 some_reason core ann n ns formed stop are e =
     let one = one_chosen core ns stop.at stop.at.kind (formed.nodes n stop.at stop.is_at).names in
     let c = because core ann n ns formed stop are one.0 one.1 one.2 in
-    some_among core (with_inferred core ann stop.at).slots ns stop.at stop.masks (rules_for stop.at.kind) one.1.0 one.0 c.0 one.1.1 (fails_chosen (chosen core ns stop.at one.0 stop.at.kind) _ c.0 one.2 c.1) e
+    some_among core (with_inferred core ann stop.at).slots ns stop.at stop.masks (rules_for stop.at.kind) one.1.0 one.0 c.0 one.1.1 (fails_chosen (is_chosen core ns stop.at one.0 stop.at.kind) _ c.0 one.2 c.1) e

@@ -20,7 +20,7 @@ use Rattle.pc_core.specs.declared.nodes.Node.{Node}
 use Rattle.pc_core.specs.declared.nodes.NodeKind.TheVariants as node
 use Rattle.pc_core.specs.declared.nodes.Slot.{Slot}
 use Rattle.pc_rules.specs.Parts.{starts, through_notes, notes_of, slot_of, one_child, type_of}
-use Rattle.pc_valid.specs.Words.{Ty, Masks, before, after}
+use Rattle.pc_valid.specs.Words.{Ty, Masks, before, masks_after}
 use Rattle.pc_rules.specs.Values.{same_cap, same_place, defined_type}
 use Rattle.pc_rules.specs.Checks.{StartsFrom, is_else}
 use Rattle.pc_rules.specs.Checks.StartsFrom.{first_child, else_branch, next_child}
@@ -30,9 +30,9 @@ use Rattle.pc_core.proofs.Homes.{home, home_method}
 use Rattle.pc_core.specs.MethodKinds.{this_slot}
 use Rattle.pc_rules.proofs.Homes.{children_before}
 use Rattle.pc_rules.proofs.Slotted.{this_known}
-use Rattle.pc_check.specs.Inference.{with_inferred, inferred_slot, with_slot, unwritten}
+use Rattle.pc_check.specs.Inference.{with_inferred, inferred_slot, with_inferred_slot, unwritten}
 use Rattle.pc_check.proofs.OneFault.{reaches_one}
-use Rattle.pc_conditions.specs.Laws.{Reached}
+use Rattle.pc_conditions.specs.Laws.{ReachedNode}
 
 -- ---- the notes of children
 
@@ -67,7 +67,7 @@ starts_at t m e =
     let own : starts t (before t) ≡ true = ap (λ b. b && same t.set_before t.set_before) one ∙ same_refl t.set_before in
     subst (λ (k : Masks). starts t k ≡ true) e own
 
-module _ (core : CoreData) (ann : Ann) (n : ℕ) (x : Node) (m : Masks) (ns : List Note) (at : Reached core ann n x m ns) where
+module _ (core : CoreData) (ann : Ann) (n : ℕ) (x : Node) (m : Masks) (ns : List Note) (at : ReachedNode core ann n x m ns) where
   -- A child's note starts from masks that reach the child.
   child_before : (i c : ℕ) (t : Note) (k : Masks) → slice_get x.children i ≡ Some c → slice_get ann.notes c ≡ Some t → StartsFrom core ann c k → before t ≡ k
   child_before i c t k e g r =
@@ -78,35 +78,35 @@ module _ (core : CoreData) (ann : Ann) (n : ℕ) (x : Node) (m : Masks) (ns : Li
   pub first_before : (t : Note) → slice_get ns 0 ≡ Some t → before t ≡ m
   first_before t e = let c = noted ann.notes x.children ns 0 t at.are_children e in child_before 0 c.0 t m c.1 c.2 (first_child n x at.is_at c.1 (to_reaches core at.formed ann n m at.reaches))
 
-  pub next_before : (i : ℕ) (t u : Note) → is_else x.kind (suc i) ≡ false → slice_get ns (suc i) ≡ Some t → slice_get ns i ≡ Some u → before t ≡ after u
+  pub next_before : (i : ℕ) (t u : Note) → is_else x.kind (suc i) ≡ false → slice_get ns (suc i) ≡ Some t → slice_get ns i ≡ Some u → before t ≡ masks_after u
   next_before i t u k e g =
       let c = noted ann.notes x.children ns (suc i) t at.are_children e in
       let d = noted ann.notes x.children ns i u at.are_children g in
-      child_before (suc i) c.0 t (after u) c.1 c.2 (next_child n d.0 i x u at.is_at k c.1 d.1 d.2)
+      child_before (suc i) c.0 t (masks_after u) c.1 c.2 (next_child n d.0 i x u at.is_at k c.1 d.1 d.2)
 
-  pub else_before : (t u : Note) → x.kind ≡ node.If → slice_get ns 2 ≡ Some t → slice_get ns 0 ≡ Some u → before t ≡ after u
+  pub else_before : (t u : Note) → x.kind ≡ node.If → slice_get ns 2 ≡ Some t → slice_get ns 0 ≡ Some u → before t ≡ masks_after u
   else_before t u k e g =
       let c = noted ann.notes x.children ns 2 t at.are_children e in
       let d = noted ann.notes x.children ns 0 u at.are_children g in
-      child_before 2 c.0 t (after u) c.1 c.2 (else_branch n d.0 x u at.is_at k c.1 d.1 d.2)
+      child_before 2 c.0 t (masks_after u) c.1 c.2 (else_branch n d.0 x u at.is_at k c.1 d.1 d.2)
 
   -- Each starts from the masks after the one before it.
   abbrev Follows : List Note → Masks → Type 0
-  Follows ts k = ((t : Note) → slice_get ts 0 ≡ Some t → before t ≡ k) × ((i : ℕ) (t u : Note) → slice_get ts (suc i) ≡ Some t → slice_get ts i ≡ Some u → before t ≡ after u)
+  Follows ts k = ((t : Note) → slice_get ts 0 ≡ Some t → before t ≡ k) × ((i : ℕ) (t u : Note) → slice_get ts (suc i) ≡ Some t → slice_get ts i ≡ Some u → before t ≡ masks_after u)
 
   follow_through : (ts : List Note) (k : Masks) → Follows ts k → (l : Masks) × (through_notes ts k ≡ Some l)
   follow_through [] k h = (k, refl)
   follow_through (t ∷ ts) k h =
-      let more = follow_through ts (after t) ((λ u e. h.1 0 u t e refl), (λ i u w e g. h.1 (suc i) u w e g)) in
+      let more = follow_through ts (masks_after t) ((λ u e. h.1 0 u t e refl), (λ i u w e g. h.1 (suc i) u w e g)) in
       let s = starts_at t k (h.0 t refl) in
-      (more.0, ap (λ b. Rattle.std.specs.Prelude.cond b (through_notes ts (after t)) None) s ∙ more.1)
+      (more.0, ap (λ b. Rattle.std.specs.Prelude.cond b (through_notes ts (masks_after t)) None) s ∙ more.1)
 
   pub through_at : ((i : ℕ) → is_else x.kind i ≡ false) → (l : Masks) × (through_notes ns m ≡ Some l)
   through_at plain = follow_through ns m (first_before, (λ i t u e g. next_before i t u (plain (suc i)) e g))
 
   -- ---- slots
 
-  with_length : (o : Option (ℕ × (ℕ × Cap))) → length (with_slot ann o).slots ≡ length ann.slots
+  with_length : (o : Option (ℕ × (ℕ × Cap))) → length (with_inferred_slot ann o).slots ≡ length ann.slots
   with_length None = refl
   with_length (Some i) = length-set ann.slots i.0 i.1
 
@@ -173,14 +173,14 @@ module _ (core : CoreData) (ann : Ann) (n : ℕ) (x : Node) (m : Masks) (ns : Li
       → notes_of ann.notes x.children ≡ Some (t ∷ []) → t.ty ≡ Some v → slice_get (with_inferred core ann x).slots (f.first_slot + s) ≡ Some (defined_type w v)
   placed s f y t v (Some ty) k g l h e are is =
       let none : inferred_slot core ann x x.kind ≡ None = inferred_at s f y k g h ∙ ap (λ o. unwritten ann x.children o >>= λ v. Some (f.first_slot + s, (v.0, stored v.1))) e in
-      ap (λ o. slice_get (with_slot ann o).slots (f.first_slot + s)) none ∙ at.prefix.written (f.first_slot + s) y h ty e
+      ap (λ o. slice_get (with_inferred_slot ann o).slots (f.first_slot + s)) none ∙ at.prefix.written (f.first_slot + s) y h ty e
   placed s f y t v None k g l h e are is =
       let some : inferred_slot core ann x x.kind ≡ Some (f.first_slot + s, (v.0, stored v.1)) =
       inferred_at s f y k g h ∙ ap (λ o. unwritten ann x.children o >>= λ v. Some (f.first_slot + s, (v.0, stored v.1))) e
       ∙ ap (λ o. o >>= λ v. Some (f.first_slot + s, (v.0, stored v.1))) (only_type x.children t are ∙ is) in
       let room = slots_within core ann ann at.formed at.prefix.written at.prefix.written x.method f g in
       let count = at.prefix.slots in
-      ap (λ o. slice_get (with_slot ann o).slots (f.first_slot + s)) some ∙ get_set_same ann.slots (f.first_slot + s) (v.0, stored v.1) (omega (arith, l, room, count))
+      ap (λ o. slice_get (with_inferred_slot ann o).slots (f.first_slot + s)) some ∙ get_set_same ann.slots (f.first_slot + s) (v.0, stored v.1) (omega (arith, l, room, count))
 
   pub define_place : (s : ℕ) (f : Method) (y : Slot) (ty : ℕ × Cap) (t : Note) (v : Ty) → x.kind ≡ node.Define s → slice_get core.methods x.method ≡ Some f → s < f.slots → slice_get core.slots (f.first_slot + s) ≡ Some y
       → slice_get (with_inferred core ann x).slots (f.first_slot + s) ≡ Some ty → notes_of ann.notes x.children ≡ Some (t ∷ []) → t.ty ≡ Some v → same_place ty (defined_type y.written v) ≡ true

@@ -21,7 +21,7 @@ use Rattle.pc_core.specs.declared.nodes.NodeKind.{NodeKind}
 use Rattle.pc_core.specs.declared.nodes.NodeKind.TheVariants as node
 use Rattle.pc_tree.specs.declared.kinds.Op.{Op}
 use Rattle.pc_rules.specs.Parts.{says_of, starts, through_notes, notes_of, slot_of}
-use Rattle.pc_valid.specs.Words.{Masks, after}
+use Rattle.pc_valid.specs.Words.{Masks, masks_after}
 use Rattle.pc_rules.specs.Fields.{incomplete}
 use Rattle.pc_rules.specs.Control.{starts_method, start_set, without_items}
 use Rattle.pc_rules.specs.Values.{this_form}
@@ -30,10 +30,10 @@ use Rattle.pc_rules.specs.Checks.{is_else}
 use Rattle.pc_rules.proofs.Derivations.{to_reaches}
 use Rattle.pc_check.specs.Inference.{rules_for, with_inferred}
 use Rattle.pc_check.proofs.OneFault.{body_one}
-use Rattle.pc_conditions.specs.Chosen.{chosen}
+use Rattle.pc_conditions.specs.Chosen.{is_chosen}
 use Rattle.pc_conditions.specs.Conditions.{both_read}
 use Rattle.pc_conditions.specs.Failing.{first_false, holds_of}
-use Rattle.pc_conditions.specs.Laws.{Reached}
+use Rattle.pc_conditions.specs.Laws.{ReachedNode}
 use Rattle.pc_conditions.proofs.Opposed.{Opposed, goes_through, is_some}
 use Rattle.pc_conditions.proofs.Plain.{AtNode, local_at, consume_at, get_at, get_own_at, put_at, put_own_at, define_at, assign_at, both_at, value_there, not_at, identity_at, if_at, while_at, recover_at, body_at}
 use Rattle.pc_conditions.proofs.Calling.{new_at, spawn_at, call_at, call_recover_at, send_at, text_at, equal_at}
@@ -76,13 +76,13 @@ not_true : (b : Bool) → not b ≡ true → b ≡ false
 not_true false e = refl
 not_true true e = absurd (false_true e)
 
-module _ (core : CoreData) (ann : Ann) (n : ℕ) (x : Node) (m : Masks) (ns : List Note) (at : Reached core ann n x m ns) where
+module _ (core : CoreData) (ann : Ann) (n : ℕ) (x : Node) (m : Masks) (ns : List Note) (at : ReachedNode core ann n x m ns) where
   abbrev Held : List Note → Rule → NodeKind → Type 0
   Held ts r k = AtNode core (with_inferred core ann x).slots ts x m r k
 
   -- If the rule is considered.
   abbrev Law : List Note → NodeKind → Rule → Type 0
-  Law ts k r = chosen core ts x r k ≡ true → Held ts r k
+  Law ts k r = is_chosen core ts x r k ≡ true → Held ts r k
 
   count : (k : NodeKind) → x.kind ≡ k → HasArity k (length ns)
   count k e = subst (HasArity k) (sym (notes_length ann.notes x.children ns at.are_children)) (subst (λ j. HasArity j (length x.children)) e (at.formed.nodes n x at.is_at).arity)
@@ -94,10 +94,10 @@ module _ (core : CoreData) (ann : Ann) (n : ℕ) (x : Node) (m : Masks) (ns : Li
   no_else k e h = through_at core ann n x m ns at (λ i. subst (λ j. is_else j i ≡ false) (sym e) (h i))
 
   -- Two children, one evaluated after the other.
-  second_starts : (t u : Note) → ns ≡ t ∷ u ∷ [] → is_else x.kind 1 ≡ false → (starts t m && starts u (after t)) ≡ true
+  second_starts : (t u : Note) → ns ≡ t ∷ u ∷ [] → is_else x.kind 1 ≡ false → (starts t m && starts u (masks_after t)) ≡ true
   second_starts t u e k =
-      both_true (starts t m) (starts u (after t)) (starts_at t m (first_before core ann n x m ns at t (ap (λ ts. slice_get ts 0) e)))
-      (starts_at u (after t) (next_before core ann n x m ns at 0 u t k (ap (λ ts. slice_get ts 1) e) (ap (λ ts. slice_get ts 0) e)))
+      both_true (starts t m) (starts u (masks_after t)) (starts_at t m (first_before core ann n x m ns at t (ap (λ ts. slice_get ts 0) e)))
+      (starts_at u (masks_after t) (next_before core ann n x m ns at 0 u t k (ap (λ ts. slice_get ts 1) e) (ap (λ ts. slice_get ts 0) e)))
 
   not_branch : (k : NodeKind) → x.kind ≡ k → is_else k 1 ≡ false → is_else x.kind 1 ≡ false
   not_branch k e h = subst (λ j. is_else j 1 ≡ false) (sym e) h
@@ -178,7 +178,8 @@ module _ (core : CoreData) (ann : Ann) (n : ℕ) (x : Node) (m : Masks) (ns : Li
   lazy_rules : (ts : List Note) → length ts ≡ 2 → ns ≡ ts → is_else x.kind 1 ≡ false → Held ts rule.Lazy node.And
   lazy_rules ts l e k =
       with_two (λ ts. ns ≡ ts → Held ts rule.Lazy node.And) ts l
-      (λ t u e. lazy_row t u (meet_masks (after t) (after u)) (ap (λ b. cond b (Some (meet_masks (after t) (after u))) None) (second_starts t u e k))) e
+      (λ t u e. lazy_row t u (meet_masks (masks_after t) (masks_after u))
+          (ap (λ b. cond b (Some (meet_masks (masks_after t) (masks_after u))) None) (second_starts t u e k))) e
 
   while_rules : (ts : List Note) → length ts ≡ 2 → ns ≡ ts → is_else x.kind 1 ≡ false → Held ts rule.While node.While
   while_rules ts l e k = with_two (λ ts. ns ≡ ts → Held ts rule.While node.While) ts l (λ t u e. while_at core (with_inferred core ann x).slots x m t u t.ty (second_starts t u e k)) e
@@ -190,10 +191,11 @@ module _ (core : CoreData) (ann : Ann) (n : ℕ) (x : Node) (m : Masks) (ns : Li
       with_three (λ ts. ns ≡ ts → Held ts rule.If node.If) ts l
       (λ t u v e.
       let a = starts_at t m (first_before core ann n x m ns at t (ap (λ ts. slice_get ts 0) e)) in
-      let b = starts_at u (after t) (next_before core ann n x m ns at 0 u t (not_branch node.If k refl) (ap (λ ts. slice_get ts 1) e) (ap (λ ts. slice_get ts 0) e)) in
-      let c = starts_at v (after t) (else_before core ann n x m ns at v t k (ap (λ ts. slice_get ts 2) e) (ap (λ ts. slice_get ts 0) e)) in
-      let all = both_true (starts t m) (starts u (after t) && starts v (after t)) a (both_true (starts u (after t)) (starts v (after t)) b c) in
-      if_at core (with_inferred core ann x).slots x m t u v t.ty (meet_masks (after u) (after v)) (ap (λ b. cond b (Some (meet_masks (after u) (after v))) None) all))
+      let b = starts_at u (masks_after t) (next_before core ann n x m ns at 0 u t (not_branch node.If k refl) (ap (λ ts. slice_get ts 1) e) (ap (λ ts. slice_get ts 0) e)) in
+      let c = starts_at v (masks_after t) (else_before core ann n x m ns at v t k (ap (λ ts. slice_get ts 2) e) (ap (λ ts. slice_get ts 0) e)) in
+      let all = both_true (starts t m) (starts u (masks_after t) && starts v (masks_after t)) a
+          (both_true (starts u (masks_after t)) (starts v (masks_after t)) b c) in
+      if_at core (with_inferred core ann x).slots x m t u v t.ty (meet_masks (masks_after u) (masks_after v)) (ap (λ b. cond b (Some (meet_masks (masks_after u) (masks_after v))) None) all))
       e
 
   -- ---- each kind

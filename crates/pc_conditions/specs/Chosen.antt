@@ -21,25 +21,25 @@ abbrev pub calls_behaviour : Option Method → Bool
 calls_behaviour None = false
 calls_behaviour (Some f) = is_behaviour f.kind
 
-abbrev pub is_string : Option (List ℕ) → Bool
-is_string None = false
-is_string (Some text) = same_text text (codes "string")
+abbrev pub names_string : Option (List ℕ) → Bool
+names_string None = false
+names_string (Some text) = same_text text (codes "string")
 
 -- The rule is considered for a node x of this kind, depending on whether the node is incomplete, on the kind of the
 -- method that is called, on the method's name, or on the operator. A rule that is not considered does not apply to the
 -- node.
-abbrev pub chosen : CoreData → List Note → Node → Rule → NodeKind → Bool
-chosen core ns x rule.Get (node.Field name) = not (incomplete core ns x)
-chosen core ns x rule.GetOwn (node.Field name) = incomplete core ns x
-chosen core ns x rule.Put (node.SetField name) = not (incomplete core ns x)
-chosen core ns x rule.PutOwn (node.SetField name) = incomplete core ns x
-chosen core ns x rule.Call (node.Call name) = not (calls_behaviour (callee core ns name))
-chosen core ns x rule.CallRecover (node.Call name) = calls_function (callee core ns name)
-chosen core ns x rule.Send (node.Call name) = calls_behaviour (callee core ns name)
-chosen core ns x rule.Builtin (node.Call name) = is_string (slice_get core.names name)
-chosen core ns x rule.Arith (node.Binary o) = is_arithmetic o
-chosen core ns x rule.Compare (node.Binary o) = is_comparison o
-chosen core ns x rule.Equal (node.Binary o) = is_equality o
-chosen core ns x rule.Join (node.Binary o) = is_add o
-chosen core ns x rule.Logic (node.Binary o) = is_xor o
-chosen core ns x r k = true
+abbrev pub is_chosen : CoreData → List Note → Node → Rule → NodeKind → Bool
+is_chosen core ns x rule.Get (node.Field name) = not (incomplete core ns x)
+is_chosen core ns x rule.GetOwn (node.Field name) = incomplete core ns x
+is_chosen core ns x rule.Put (node.SetField name) = not (incomplete core ns x)
+is_chosen core ns x rule.PutOwn (node.SetField name) = incomplete core ns x
+is_chosen core ns x rule.Call (node.Call name) = not (calls_behaviour (callee core ns name))
+is_chosen core ns x rule.CallRecover (node.Call name) = calls_function (callee core ns name)
+is_chosen core ns x rule.Send (node.Call name) = calls_behaviour (callee core ns name)
+is_chosen core ns x rule.Builtin (node.Call name) = names_string (slice_get core.names name)
+is_chosen core ns x rule.Arith (node.Binary o) = is_arithmetic o
+is_chosen core ns x rule.Compare (node.Binary o) = is_comparison o
+is_chosen core ns x rule.Equal (node.Binary o) = is_equality o
+is_chosen core ns x rule.Join (node.Binary o) = is_add o
+is_chosen core ns x rule.Logic (node.Binary o) = is_xor o
+is_chosen core ns x r k = true

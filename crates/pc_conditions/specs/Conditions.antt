@@ -37,13 +37,13 @@ abbrev pub goes : (child : ℕ) → ℕ × Cap → List Condition
 goes i p = asks.Typed i ∷ asks.Under i p.0 ∷ asks.Fits i p.1 ∷ []
 
 -- Each argument, from this index on, goes to its parameter.
-abbrev pub arguments_go : ℕ → List ParamInfo → List Condition
-arguments_go i [] = []
-arguments_go i (p ∷ ps) = asks.Typed i ∷ asks.Under i p.entity ∷ asks.Fits i p.cap ∷ arguments_go (i + 1) ps
+abbrev pub argument_conditions : ℕ → List ParamInfo → List Condition
+argument_conditions i [] = []
+argument_conditions i (p ∷ ps) = asks.Typed i ∷ asks.Under i p.entity ∷ asks.Fits i p.cap ∷ argument_conditions (i + 1) ps
 
 -- There are as many arguments as parameters, and each goes to its parameter.
 abbrev pub all_go : (arguments : ℕ) → List ParamInfo → List Condition
-all_go n ps = asks.Counted n (length ps) ∷ arguments_go 0 ps
+all_go n ps = asks.Counted n (length ps) ∷ argument_conditions 0 ps
 
 -- Each argument, from this index on, may be passed along with a receiver that is lent.
 abbrev pub arguments_sent : ℕ → List ParamInfo → List Condition
@@ -93,54 +93,54 @@ same_read left = reads 1 left.0
 
 -- ---- what each rule requires of what was looked up
 
-abbrev pub get_of : ℕ × FieldInfo → List Condition
-get_of f = asks.Seen 0 f.1.cap ∷ []
+abbrev pub get_conditions : ℕ × FieldInfo → List Condition
+get_conditions f = asks.Seen 0 f.1.cap ∷ []
 
-abbrev pub get_own_of : ℕ × FieldInfo → List Condition
-get_own_of f = asks.Set f.0 ∷ []
+abbrev pub get_own_conditions : ℕ × FieldInfo → List Condition
+get_own_conditions f = asks.Set f.0 ∷ []
 
-abbrev pub put_of : ℕ × FieldInfo → List Condition
-put_of f = asks.NotFixed f.1.fixed ∷ asks.Under 0 f.1.entity ∷ asks.Fits 0 f.1.cap ∷ asks.Writable 1 f.1.cap ∷ asks.Enters f.1.cap ∷ []
+abbrev pub put_conditions : ℕ × FieldInfo → List Condition
+put_conditions f = asks.NotFixed f.1.fixed ∷ asks.Under 0 f.1.entity ∷ asks.Fits 0 f.1.cap ∷ asks.Writable 1 f.1.cap ∷ asks.Enters f.1.cap ∷ []
 
-abbrev pub put_own_of : ℕ × FieldInfo → List Condition
-put_own_of f = asks.Typed 0 ∷ asks.SetOnce f.1.fixed f.0 ∷ asks.Under 0 f.1.entity ∷ asks.Fits 0 f.1.cap ∷ []
+abbrev pub put_own_conditions : ℕ × FieldInfo → List Condition
+put_own_conditions f = asks.Typed 0 ∷ asks.SetOnce f.1.fixed f.0 ∷ asks.Under 0 f.1.entity ∷ asks.Fits 0 f.1.cap ∷ []
 
-abbrev pub assign_of : ℕ × Cap → List Condition
-assign_of p = asks.Under 0 p.0 ∷ asks.Fits 0 p.1 ∷ []
+abbrev pub assign_conditions : ℕ × Cap → List Condition
+assign_conditions p = asks.Under 0 p.0 ∷ asks.Fits 0 p.1 ∷ []
 
-abbrev pub call_of : (receiver : ℕ) → Method → List Condition
-call_of o f = asks.Function f.kind ∷ (all_go o f.params ++ asks.Fits o f.receiver ∷ [])
+abbrev pub call_conditions : (receiver : ℕ) → Method → List Condition
+call_conditions o f = asks.Function f.kind ∷ (all_go o f.params ++ asks.Fits o f.receiver ∷ [])
 
-abbrev pub call_recover_of : (receiver : ℕ) → Method → List Condition
-call_recover_of o f =
+abbrev pub call_recover_conditions : (receiver : ℕ) → Method → List Condition
+call_recover_conditions o f =
     asks.Function f.kind ∷ (all_go o f.params ++ asks.Unfit o f.receiver ∷ asks.Isolated o ∷ asks.Lent f.receiver ∷ arguments_sent 0 f.params)
 
-abbrev pub send_of : (receiver : ℕ) → Method → List Condition
-send_of o f = asks.Behaviour f.kind ∷ all_go o f.params
+abbrev pub send_conditions : (receiver : ℕ) → Method → List Condition
+send_conditions o f = asks.Behaviour f.kind ∷ all_go o f.params
 
 -- For methods that are not functions there is no requirement.
-abbrev pub body_of : Method → List Condition
-body_of f = if is_function f.kind then asks.Typed 0 ∷ asks.Under 0 f.result.0 ∷ asks.Below 0 f.result.1 ∷ [] else []
+abbrev pub body_conditions : Method → List Condition
+body_conditions f = if is_function f.kind then asks.Typed 0 ∷ asks.Under 0 f.result.0 ∷ asks.Below 0 f.result.1 ∷ [] else []
 
 -- What a rule requires of a node x of kind k whose children have these notes, in order. A rule requires nothing of a
 -- node of another kind.
 abbrev pub conditions : CoreData → Slots → List Note → Node → Rule → NodeKind → List Condition
 conditions core slots ns x rule.Local (node.Local s) = asks.Live s ∷ asks.Reached s ∷ []
 conditions core slots ns x rule.Consume (node.Consume s) = asks.Live s ∷ asks.Reached s ∷ []
-conditions core slots ns x rule.Get (node.Field name) = asks.Typed 0 ∷ asks.HasField 0 name ∷ of_found (child_field core ns 0 name) get_of
-conditions core slots ns x rule.GetOwn (node.Field name) = asks.HasOwnField name ∷ of_found (own_field core x name) get_own_of
-conditions core slots ns x rule.Put (node.SetField name) = asks.Typed 0 ∷ asks.Typed 1 ∷ asks.HasField 1 name ∷ of_found (child_field core ns 1 name) put_of
-conditions core slots ns x rule.PutOwn (node.SetField name) = asks.HasOwnField name ∷ of_found (own_field core x name) put_own_of
+conditions core slots ns x rule.Get (node.Field name) = asks.Typed 0 ∷ asks.HasField 0 name ∷ of_found (child_field core ns 0 name) get_conditions
+conditions core slots ns x rule.GetOwn (node.Field name) = asks.HasOwnField name ∷ of_found (own_field core x name) get_own_conditions
+conditions core slots ns x rule.Put (node.SetField name) = asks.Typed 0 ∷ asks.Typed 1 ∷ asks.HasField 1 name ∷ of_found (child_field core ns 1 name) put_conditions
+conditions core slots ns x rule.PutOwn (node.SetField name) = asks.HasOwnField name ∷ of_found (own_field core x name) put_own_conditions
 conditions core slots ns x rule.Define (node.Define s) = of_found (slot_type core slots x.method s) (goes 0)
-conditions core slots ns x rule.Assign (node.Assign s) = asks.Typed 0 ∷ asks.Variable s ∷ asks.Reached s ∷ of_found (slot_type core slots x.method s) assign_of
+conditions core slots ns x rule.Assign (node.Assign s) = asks.Typed 0 ∷ asks.Variable s ∷ asks.Reached s ∷ of_found (slot_type core slots x.method s) assign_conditions
 conditions core slots ns x rule.New (node.New k) = of_found (slice_get core.methods k) (λ f. all_go (length ns) f.params)
 conditions core slots ns x rule.Spawn (node.Spawn k) = of_found (slice_get core.methods k) (λ f. all_go (length ns) f.params)
 conditions core slots ns x rule.Call (node.Call name) =
-    asks.Typed (receiver_index ns) ∷ asks.HasMethod name ∷ of_found (callee core ns name) (call_of (receiver_index ns))
+    asks.Typed (receiver_index ns) ∷ asks.HasMethod name ∷ of_found (callee core ns name) (call_conditions (receiver_index ns))
 conditions core slots ns x rule.CallRecover (node.Call name) =
-    asks.Typed (receiver_index ns) ∷ asks.HasMethod name ∷ of_found (callee core ns name) (call_recover_of (receiver_index ns))
+    asks.Typed (receiver_index ns) ∷ asks.HasMethod name ∷ of_found (callee core ns name) (call_recover_conditions (receiver_index ns))
 conditions core slots ns x rule.Send (node.Call name) =
-    asks.Typed (receiver_index ns) ∷ asks.HasMethod name ∷ of_found (callee core ns name) (send_of (receiver_index ns))
+    asks.Typed (receiver_index ns) ∷ asks.HasMethod name ∷ of_found (callee core ns name) (send_conditions (receiver_index ns))
 conditions core slots ns x rule.Builtin (node.Call name) = asks.Counted (receiver_index ns) 0 ∷ asks.Typed 0 ∷ asks.Printable 0 ∷ asks.Readable 0 ∷ []
 conditions core slots ns x rule.Arith (node.Binary o) = both_read u64
 conditions core slots ns x rule.Compare (node.Binary o) = both_read u64
@@ -154,5 +154,5 @@ conditions core slots ns x rule.Identity (node.Same v) = asks.Typed 0 ∷ asks.T
 conditions core slots ns x rule.If node.If = reads 0 bool
 conditions core slots ns x rule.While node.While = reads 0 bool ++ asks.KeepsLive ∷ asks.KeepsSet ∷ []
 conditions core slots ns x rule.Recover (node.Recover k) = asks.Typed 0 ∷ asks.Lifted k ∷ []
-conditions core slots ns x rule.Body node.Body = of_found (slice_get core.methods x.method) body_of
+conditions core slots ns x rule.Body node.Body = of_found (slice_get core.methods x.method) body_conditions
 conditions core slots ns x r k = []

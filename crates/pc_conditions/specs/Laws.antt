@@ -13,7 +13,7 @@ use Rattle.pc_valid.specs.Rules.{Means}
 use Rattle.pc_valid.specs.Valid.{NoRule, Reaches, MeetsReached, KeepsWritten}
 use Rattle.pc_rules.specs.Rules.{rule_says}
 use Rattle.pc_check.specs.Inference.{rules_for, with_inferred}
-use Rattle.pc_conditions.specs.Chosen.{chosen}
+use Rattle.pc_conditions.specs.Chosen.{is_chosen}
 use Rattle.pc_conditions.specs.Failing.{Because, failing, reasons, reasons_at}
 use Rattle.pc_conditions.specs.declared.condition.Condition.{Condition}
 
@@ -25,7 +25,7 @@ pub record Prefix (core : CoreData) (ann : Ann) (n : ℕ) : Type 0 where
 
 -- A node that was reached: its masks, and the notes of its children. The type of a slot that the node defines is the
 -- one that follows from its value.
-pub record Reached (core : CoreData) (ann : Ann) (n : ℕ) (x : Node) (m : Masks) (ns : List Note) : Type 0 where
+pub record ReachedNode (core : CoreData) (ann : Ann) (n : ℕ) (x : Node) (m : Masks) (ns : List Note) : Type 0 where
   pub formed : Formed core
   pub prefix : Prefix core ann n
   pub is_at : slice_get core.nodes n ≡ Some x
@@ -36,23 +36,23 @@ pub record Reached (core : CoreData) (ann : Ann) (n : ℕ) (x : Node) (m : Masks
 -- fails.
 abbrev pub ConditionsAreTheRule : Type 0
 ConditionsAreTheRule =
-    (core : CoreData) (ann : Ann) (n : ℕ) (x : Node) (m : Masks) (ns : List Note) (r : Rule) → Reached core ann n x m ns → Has (rules_for x.kind) r
+    (core : CoreData) (ann : Ann) (n : ℕ) (x : Node) (m : Masks) (ns : List Note) (r : Rule) → ReachedNode core ann n x m ns → Has (rules_for x.kind) r
     → let slots = (with_inferred core ann x).slots in
-    (rule_says core slots ns x m r x.kind ≡ None) ↔ ((chosen core ns x r x.kind ≡ false) ⊎ ((c : Condition) × (failing core slots ns x m r ≡ Some c)))
+    (rule_says core slots ns x m r x.kind ≡ None) ↔ ((is_chosen core ns x r x.kind ≡ false) ⊎ ((c : Condition) × (failing core slots ns x m r ≡ Some c)))
 
 -- So they are the rule's record: it holds for some note of the node iff the rule is considered and all its conditions
 -- hold.
 abbrev pub ConditionsAreTheRecord : Type 0
 ConditionsAreTheRecord =
-    (core : CoreData) (ann : Ann) (n : ℕ) (x : Node) (m : Masks) (ns : List Note) (r : Rule) → Reached core ann n x m ns → Has (rules_for x.kind) r
+    (core : CoreData) (ann : Ann) (n : ℕ) (x : Node) (m : Masks) (ns : List Note) (r : Rule) → ReachedNode core ann n x m ns → Has (rules_for x.kind) r
     → let slots = (with_inferred core ann x).slots in
-    ((own : Note) × (before own ≡ m) × Means core slots own ns x r x.kind) ↔ ((chosen core ns x r x.kind ≡ true) × (failing core slots ns x m r ≡ None))
+    ((own : Note) × (before own ≡ m) × Means core slots own ns x r x.kind) ↔ ((is_chosen core ns x r x.kind ≡ true) × (failing core slots ns x m r ≡ None))
 
 -- If no rule applies, each rule that is considered has one condition by which it fails.
 abbrev pub EachRuleFails : Type 0
 EachRuleFails =
     (core : CoreData) (ann : Ann) (n : ℕ) (r : Rule) (ns : List Note) → Formed core → (stop : NoRule core ann n) → Has (rules_for stop.at.kind) r
-    → notes_of ann.notes stop.at.children ≡ Some ns → chosen core ns stop.at r stop.at.kind ≡ true
+    → notes_of ann.notes stop.at.children ≡ Some ns → is_chosen core ns stop.at r stop.at.kind ≡ true
     → (c : Condition) × Because core (with_inferred core ann stop.at) n stop.masks r c
 
 -- One rule is considered, so there is a reason.

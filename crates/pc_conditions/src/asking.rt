@@ -37,7 +37,7 @@ fn first_false(site: &Site, asked: &[Condition]) -> Option<Condition>
 
 // What is required of arguments that go to these parameters.
 fn argument_failing(site: &Site, params: &[ParamInfo]) -> Option<Condition>
-    ensures { result ≡ spec.first_false (spec.holds_of site.now.core.now site.now.slots.now site.now.children.now site.now.node.now (site.now.live, site.now.set)) (asked_is.arguments_go 0 params.now) }
+    ensures { result ≡ spec.first_false (spec.holds_of site.now.core.now site.now.slots.now site.now.children.now site.now.node.now (site.now.live, site.now.set)) (asked_is.argument_conditions 0 params.now) }
 {
     let mut at = 0;
     for param in params {
@@ -114,7 +114,7 @@ fn get_own_failing(site: &Site, name: u32) -> Option<Condition>
 
 // What is required of the field that is written, once it is found.
 fn written_failing(site: &Site, field: FieldInfo) -> Option<Condition>
-    ensures { result ≡ spec.first_false (spec.holds_of site.now.core.now site.now.slots.now site.now.children.now site.now.node.now (site.now.live, site.now.set)) (asked_is.put_of (0, field)) }
+    ensures { result ≡ spec.first_false (spec.holds_of site.now.core.now site.now.slots.now site.now.children.now site.now.node.now (site.now.live, site.now.set)) (asked_is.put_conditions (0, field)) }
 {
     first_false(
         site,
@@ -151,7 +151,7 @@ fn put_failing(site: &Site, name: u32) -> Option<Condition>
 
 // What is required of the own field, once it is found.
 fn own_written_failing(site: &Site, index: u32, field: FieldInfo) -> Option<Condition>
-    ensures { result ≡ spec.first_false (spec.holds_of site.now.core.now site.now.slots.now site.now.children.now site.now.node.now (site.now.live, site.now.set)) (asked_is.put_own_of (index, field)) }
+    ensures { result ≡ spec.first_false (spec.holds_of site.now.core.now site.now.slots.now site.now.children.now site.now.node.now (site.now.live, site.now.set)) (asked_is.put_own_conditions (index, field)) }
 {
     first_false(
         site,
@@ -234,7 +234,7 @@ fn new_failing(site: &Site, method: u32) -> Option<Condition>
 // What is required of the function that is called, once it is found.
 #[tactic(auto, using(crate::proofs::Firsts::first_of_both))]
 fn called_failing(site: &Site, receiver: usize, method: &Method) -> Option<Condition>
-    ensures { result ≡ spec.first_false (spec.holds_of site.now.core.now site.now.slots.now site.now.children.now site.now.node.now (site.now.live, site.now.set)) (asked_is.call_of receiver method.now) }
+    ensures { result ≡ spec.first_false (spec.holds_of site.now.core.now site.now.slots.now site.now.children.now site.now.node.now (site.now.live, site.now.set)) (asked_is.call_conditions receiver method.now) }
 {
     let failing = first_false(site, &[Condition::Function(method.kind)]);
     if failing.is_some() {
@@ -268,7 +268,7 @@ fn lent_failing(site: &Site, receiver: usize, method: &Method) -> Option<Conditi
 // What is required of the function to which the receiver is lent, once it is found.
 #[tactic(auto, using(crate::proofs::Firsts::first_of_both))]
 fn recovered_failing(site: &Site, receiver: usize, method: &Method) -> Option<Condition>
-    ensures { result ≡ spec.first_false (spec.holds_of site.now.core.now site.now.slots.now site.now.children.now site.now.node.now (site.now.live, site.now.set)) (asked_is.call_recover_of receiver method.now) }
+    ensures { result ≡ spec.first_false (spec.holds_of site.now.core.now site.now.slots.now site.now.children.now site.now.node.now (site.now.live, site.now.set)) (asked_is.call_recover_conditions receiver method.now) }
 {
     let failing = first_false(site, &[Condition::Function(method.kind)]);
     if failing.is_some() {
@@ -283,7 +283,7 @@ fn recovered_failing(site: &Site, receiver: usize, method: &Method) -> Option<Co
 
 // What is required of the behaviour to which a message is sent, once it is found.
 fn sent_to_failing(site: &Site, receiver: usize, method: &Method) -> Option<Condition>
-    ensures { result ≡ spec.first_false (spec.holds_of site.now.core.now site.now.slots.now site.now.children.now site.now.node.now (site.now.live, site.now.set)) (asked_is.send_of receiver method.now) }
+    ensures { result ≡ spec.first_false (spec.holds_of site.now.core.now site.now.slots.now site.now.children.now site.now.node.now (site.now.live, site.now.set)) (asked_is.send_conditions receiver method.now) }
 {
     let failing = first_false(site, &[Condition::Behaviour(method.kind)]);
     if failing.is_some() {
@@ -424,7 +424,7 @@ fn while_failing(site: &Site) -> Option<Condition>
 
 // What is required at the end of a method's body.
 fn ended_failing(site: &Site, method: &Method) -> Option<Condition>
-    ensures { result ≡ spec.first_false (spec.holds_of site.now.core.now site.now.slots.now site.now.children.now site.now.node.now (site.now.live, site.now.set)) (asked_is.body_of method.now) }
+    ensures { result ≡ spec.first_false (spec.holds_of site.now.core.now site.now.slots.now site.now.children.now site.now.node.now (site.now.live, site.now.set)) (asked_is.body_conditions method.now) }
 {
     if is_function(method.kind) {
         first_false(
@@ -442,7 +442,7 @@ fn ended_failing(site: &Site, method: &Method) -> Option<Condition>
 
 // What is required of the body of a method.
 fn body_failing(site: &Site) -> Option<Condition>
-    ensures { result ≡ spec.first_false (spec.holds_of site.now.core.now site.now.slots.now site.now.children.now site.now.node.now (site.now.live, site.now.set)) (asked_is.of_found (slice_get site.now.core.now.methods site.now.node.now.method) asked_is.body_of) }
+    ensures { result ≡ spec.first_false (spec.holds_of site.now.core.now site.now.slots.now site.now.children.now site.now.node.now (site.now.live, site.now.set)) (asked_is.of_found (slice_get site.now.core.now.methods site.now.node.now.method) asked_is.body_conditions) }
 {
     match site.core.method_at(site.node.method) {
         None => None,

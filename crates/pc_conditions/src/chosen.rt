@@ -62,7 +62,7 @@ fn same_text(one: &[u8], other: &[u8]) -> bool
 }
 
 fn is_string(core: &Core, name: u32) -> bool
-    ensures { result ≡ spec.is_string (slice_get core.now.names name) }
+    ensures { result ≡ spec.names_string (slice_get core.now.names name) }
 {
     match core.name_at(name) {
         None => false,
@@ -102,7 +102,7 @@ fn is_xor(op: Op) -> bool
 
 /// Whether the rule is considered for this node.
 pub(crate) fn chosen(site: &Site, rule: Rule) -> bool
-    ensures { result ≡ spec.chosen site.now.core.now site.now.children.now site.now.node.now rule site.now.node.now.kind }
+    ensures { result ≡ spec.is_chosen site.now.core.now site.now.children.now site.now.node.now rule site.now.node.now.kind }
 {
     match (rule, &site.node.kind) {
         (Rule::Get, NodeKind::Field(_)) => !incomplete(site.core, site.children, site.node),

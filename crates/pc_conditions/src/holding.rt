@@ -52,7 +52,7 @@ fn is_lent(cap: Cap) -> bool
 
 // Whether a recover with this body gives a value.
 fn is_lifted(written: Option<Cap>, body: Form) -> bool
-    ensures { result ≡ spec.is_there (recovered_is written body) }
+    ensures { result ≡ spec.is_found (recovered_is written body) }
 {
     match written {
         None => true,

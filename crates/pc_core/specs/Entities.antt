@@ -66,10 +66,10 @@ abbrev pub IsAbstract : CoreData → ℕ → Type 0
 IsAbstract core e = (x : EntityDef) × (slice_get core.entities e ≡ Some x) × (is_abstract x.kind ≡ true)
 
 -- The `is` list of an entity names another.
-abbrev pub Names : CoreData → (entity above : ℕ) → Type 0
-Names core a b = (x : EntityDef) × (slice_get core.entities a ≡ Some x) × Has x.provides b
+abbrev pub Provides : CoreData → (entity above : ℕ) → Type 0
+Provides core a b = (x : EntityDef) × (slice_get core.entities a ≡ Some x) × Has x.provides b
 
 -- A chain of one or more `is` leads from one entity to another.
 pub data Leads (core : CoreData) : (entity above : ℕ) → Type 0 where
-  one : {a b : ℕ} → Names core a b → Leads core a b
-  more : {a b c : ℕ} → Names core a b → Leads core b c → Leads core a c
+  one : {a b : ℕ} → Provides core a b → Leads core a b
+  more : {a b c : ℕ} → Provides core a b → Leads core b c → Leads core a c

@@ -1,6 +1,6 @@
 -- Sets of entities as masks: entity e is bit e % 64 of mask e / 64.
 use Rattle.std.specs.Prelude.{ℕ, ◌*◌, ◌/◌, ◌%◌, ◌<◌, ◌≤◌, ◌↔◌, List, length, slice_get, unwrap_or}
-use Rattle.pc_masks.specs.Masks.{IsIn, empty}
+use Rattle.pc_masks.specs.Masks.{IsInMask, empty}
 use Rattle.pc_masks.specs.declared.mask.Mask.{Mask}
 use Rattle.pc_core.specs.CoreData.{CoreData}
 
@@ -14,7 +14,7 @@ mask_at set i = unwrap_or (slice_get set i) empty
 
 -- The entity is in the set.
 abbrev pub Holds : List Mask → ℕ → Type 0
-Holds set e = IsIn (mask_at set (e / mask_bits)) (e % mask_bits)
+Holds set e = IsInMask (mask_at set (e / mask_bits)) (e % mask_bits)
 
 -- The set has a bit for each of this number of entities.
 abbrev pub HasRoom : ℕ → List Mask → Type 0
@@ -26,4 +26,4 @@ IsSetOf core P set = (e : ℕ) → e < length core.entities → (Holds set e) �
 
 -- At each place the mask has the bits that both of two others have.
 abbrev pub AreMet : (first second both : List Mask) → Type 0
-AreMet first second both = (i j : ℕ) → (IsIn (mask_at both i) j) ↔ (IsIn (mask_at first i) j × IsIn (mask_at second i) j)
+AreMet first second both = (i j : ℕ) → (IsInMask (mask_at both i) j) ↔ (IsInMask (mask_at first i) j × IsInMask (mask_at second i) j)

@@ -43,11 +43,11 @@ is_local slot.This = false
 is_local slot.Param = false
 
 -- A node of this kind uses the slot with index s.
-abbrev pub Uses : ℕ → NodeKind → Type 0
-Uses s (node.Local i) = i ≡ s
-Uses s (node.Consume i) = i ≡ s
-Uses s (node.Assign i) = i ≡ s
-Uses s k = ⊥
+abbrev pub UsesSlot : ℕ → NodeKind → Type 0
+UsesSlot s (node.Local i) = i ≡ s
+UsesSlot s (node.Consume i) = i ≡ s
+UsesSlot s (node.Assign i) = i ≡ s
+UsesSlot s k = ⊥
 
 -- The slot with index s in method m is that of a local. It is defined once, by an item of a sequence, at its own depth,
 -- and is used only in later items of that sequence. Since nodes are in post-order, those are the nodes between the item
@@ -71,7 +71,7 @@ pub record LocalFits (core : CoreData) (m s : ℕ) (x : Slot) : Type 0 where
   pub item : Has around.children define
   -- there is no other definition, and every use comes after it
   pub only : Each (λ n y. y.method ≡ m → y.kind ≡ node.Define s → n ≡ define) core.nodes
-  pub later : Each (λ n y. y.method ≡ m → Uses s y.kind → (define < n) × (n < sequence)) core.nodes
+  pub later : Each (λ n y. y.method ≡ m → UsesSlot s y.kind → (define < n) × (n < sequence)) core.nodes
 
 -- The slots of method m: `this`, then the parameters, then the locals.
 abbrev pub SlotsFit : CoreData → ℕ → Method → Type 0

@@ -21,13 +21,13 @@ use Rattle.pc_members.specs.Words.{is_new, field_texts, method_texts, built_in_n
 use Rattle.pc_tree.specs.BuiltIn.{first_own}
 use Rattle.pc_members.specs.Members.{Member, written, added, member_text, is_constructor}
 use Rattle.pc_members.specs.MemberLists.{members}
-use Rattle.pc_body_spec.specs.Scopes.{Context, Known, Constructor}
+use Rattle.pc_body_spec.specs.Scopes.{Context, KnownEntity, Constructor}
 use Rattle.pc_file_spec.specs.Members.{Owned, owned}
 use Rattle.pc_file_spec.specs.Known as known
 use Rattle.pc_file_spec.specs.Known.{constructors_from, known_from, known_value, known_of}
 use Rattle.pc_file_spec.specs.Signatures.{kind_of, context_of, placed_of}
 use Rattle.pc_file_spec.specs.Parts.{Parts, built_in_parts}
-use Rattle.pc_file_spec.specs.Cores.{core_with, entity_of, entities_from}
+use Rattle.pc_file_spec.specs.Cores.{core_with, core_entity, entities_from}
 use Rattle.pc_file_spec.proofs.Tables.{member_there, language_kept, text_found}
 use Rattle.pc_file_spec.proofs.Collects.{Collects}
 use Rattle.pc_file_spec.proofs.Origins.{Sort, sort_of}
@@ -82,11 +82,11 @@ among_same names k (m ∷ ms) at (y ∷ ys) h =
     ∙ ap (λ x. with_it (is_constructor m) (constructor x at) (constructors_among names (suc at) ys)) text
     ∙ ap (λ cs. with_it (is_constructor m) (constructor (member_text m) at) cs) rest
 
-abbrev pub seen : Text → EntityKind → Cap → List Constructor → Known
+abbrev pub seen : Text → EntityKind → Cap → List Constructor → KnownEntity
 seen name k c cs = record { name = name; kind = k; cap = c; constructors = cs }
 
 -- The built-in entities, with these constructors of the stream, and then others.
-abbrev pub six : List Constructor → List Known → List Known
+abbrev pub six : List Constructor → List KnownEntity → List KnownEntity
 six cs ks =
     known_value (codes "None") ∷ known_value (codes "U64") ∷ known_value (codes "Bool") ∷ known_value (codes "String")
     ∷ seen (codes "Env") kind.Class cap.Val []
@@ -95,10 +95,10 @@ six cs ks =
 -- ---- texts
 
 -- The name of a member is one of the file's texts.
-pub text_there : (file : t.File) (above : List (List ℕ)) (e : t.Entity) (m : Member) → Collects file above → Has file.entities e → Has (members file.entities e) m → Has (known.texts_of file) (member_text m)
+pub text_there : (file : t.File) (above : List (List ℕ)) (e : t.Entity) (m : Member) → Collects file above → Has file.entities e → Has (members file.entities e) m → Has (known.texts_of_file file) (member_text m)
 text_there file above e m c he hm = by m (sort_of file above e m c he hm)
   where
-    by : (m : Member) → Sort file e m → Has (known.texts_of file) (member_text m)
+    by : (m : Member) → Sort file e m → Has (known.texts_of_file file) (member_text m)
     by (written x) o =
         let i : ℕ = o.is_method.0 in
         let text : slice_get (method_texts o.origin.methods) i ≡ Some x.name.text = get_map (λ (y : t.Method). y.name.text) o.origin.methods i o.source o.is_method.1 ∙ ap (λ (y : t.Method). Some y.name.text) o.same in
@@ -126,7 +126,7 @@ module _ (file : t.File) (above : List (List ℕ)) (q : Parts) (c : Collects fil
 
   own_run : (i : ℕ) (e : t.Entity) → slice_get file.entities i ≡ Some e → first i + length (members file.entities e) ≤ length q.methods
   own_run i e h =
-      let here = get_map methods_run (entities_from file above first_own 1 file.entities) i (entity_of file above (first_own + i) (first i) e) (entity_at file above file.entities first_own 1 i e h) in
+      let here = get_map methods_run (entities_from file above first_own 1 file.entities) i (core_entity file above (first_own + i) (first i) e) (entity_at file above file.entities first_own 1 i e h) in
       let within = (run_within 1 (map methods_run (entities_from file above first_own 1 file.entities)) (1 + length (all_members file)) i (first i, length (members file.entities e)) (members_follow file above file.entities first_own 1) here).1 in
       let count = parts.count in
       omega (arith, within, count)
@@ -139,7 +139,7 @@ module _ (file : t.File) (above : List (List ℕ)) (q : Parts) (c : Collects fil
         let a : At file q (first i + j) o = own_at i j e m h g in
         let there : slice_get q.methods (first i + j) ≡ Some y = (get_range q.methods (first i) (first i + length (members file.entities e)) j y l).1 in
         let same : method_at file q (first i + j) o a ≡ y = same_Some (method_at file q (first i + j) o a) y (sym (at_get file q (first i + j) o a) ∙ there) in
-        let told : Tells core.names e.kind m (method_at file q (first i + j) o a) = (refl, text_found (known.texts_of file) (member_text m) (text_there file above e m c (i, h) (j, g))) in
+        let told : Tells core.names e.kind m (method_at file q (first i + j) o a) = (refl, text_found (known.texts_of_file file) (member_text m) (text_there file above e m c (i, h) (j, g))) in
         subst (Tells core.names e.kind m) same told,
   )
 
@@ -167,8 +167,8 @@ module _ (file : t.File) (above : List (List ℕ)) (q : Parts) (c : Collects fil
       seen_from file.entities first_own 1 (λ i e h. among_same core.names e.kind (members file.entities e) (first i) (slice_range q.methods (first i) (first i + length (members file.entities e))) (own_match i e h)) in
       ap (λ cs. six cs (map (seen_entity core) (entities_from file above first_own 1 file.entities))) stream_none ∙ ap (λ ks. six [] ks) own
 
-  abbrev seeing : Owned → List Known → Context
-  seeing o ks = record { fields = field_texts o.owner.fields; methods = map member_text (members file.entities o.owner); entities = ks; texts = known.texts_of file; slots = placed_of o.owner o.member }
+  abbrev seeing : Owned → List KnownEntity → Context
+  seeing o ks = record { fields = field_texts o.owner.fields; methods = map member_text (members file.entities o.owner); entities = ks; texts = known.texts_of_file file; slots = placed_of o.owner o.member }
 
   -- So names in bodies mean the same.
   pub context_same : (o : Owned) → owned_context core (members file.entities o.owner) o ≡ context_of file o

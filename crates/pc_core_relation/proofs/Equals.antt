@@ -8,7 +8,7 @@ use Rattle.pc_caps.specs.declared.span.Span.{Span}
 use Rattle.pc_lists.specs.Places.{Differ}
 use Rattle.pc_tree.specs.declared.kinds.MethodWord.{MethodWord}
 use Rattle.pc_tree.specs.declared.kinds.MethodWord.TheVariants as word
-use Rattle.pc_tree.specs.declared.names.TypeRef.{TypeRef}
+use Rattle.pc_tree.specs.declared.written_names.TypeRef.{TypeRef}
 use Rattle.pc_tree.specs.declared.file.ParamDef.{ParamDef}
 use Rattle.pc_tree.specs.Tree as t
 use Rattle.pc_core.specs.declared.declarations.FieldInfo.{FieldInfo}
@@ -18,11 +18,11 @@ use Rattle.pc_core.specs.declared.nodes.SlotKind.{SlotKind}
 use Rattle.pc_core.specs.CoreData.{CoreData}
 use Rattle.pc_lists.specs.Texts.{Text}
 use Rattle.pc_members.specs.Members.{Member, written, added}
-use Rattle.pc_body_spec.specs.Scopes.{Context, Known, text_from}
-use Rattle.pc_body_spec.specs.Slots.{Local, local_slot, type_of, written_of}
+use Rattle.pc_body_spec.specs.Scopes.{Context, KnownEntity, text_from}
+use Rattle.pc_body_spec.specs.Slots.{Local, local_slot, type_of_name, written_of}
 use Rattle.pc_file_spec.specs.Members.{Owned}
 use Rattle.pc_file_spec.specs.Signatures.{or_value, type_in, param_of, params_of, result_form, written_result, word_result, result_of}
-use Rattle.pc_file_spec.specs.Cores.{field_of}
+use Rattle.pc_file_spec.specs.Cores.{core_field}
 use Rattle.pc_file_spec.proofs.Tables.{text_found}
 use Rattle.pc_core_relation.specs.Lists.{Match}
 use Rattle.pc_core_relation.specs.Types.{IsType, IsWritten}
@@ -46,9 +46,9 @@ field n fixed ty = record { name = n; fixed = fixed; entity = ty.0; cap = ty.1 }
 abbrev slot : ℕ → SlotKind → ℕ → Option (ℕ × Cap) → Slot
 slot m k d w = record { method = m; kind = k; depth = d; written = w }
 
-module _ (core : CoreData) (known : List Known) (seen : seen_entities core ≡ known) (differ : Differ (map entity_name core.entities)) where
-  type_one : (ty : TypeRef) (p : ℕ × Cap) → IsType core ty p → type_of 0 known ty ≡ Some p
-  type_one ty p h = subst (λ ks. type_of 0 ks ty ≡ Some p) seen (is_type core ty p differ h)
+module _ (core : CoreData) (known : List KnownEntity) (seen : seen_entities core ≡ known) (differ : Differ (map entity_name core.entities)) where
+  type_one : (ty : TypeRef) (p : ℕ × Cap) → IsType core ty p → type_of_name 0 known ty ≡ Some p
+  type_one ty p h = subst (λ ks. type_of_name 0 ks ty ≡ Some p) seen (is_type core ty p differ h)
 
   type_in_one : (ty : TypeRef) (p : ℕ × Cap) → IsType core ty p → type_in known ty ≡ p
   type_in_one ty p h = ap or_value (type_one ty p h)
@@ -73,15 +73,15 @@ module _ (core : CoreData) (known : List Known) (seen : seen_entities core ≡ k
   result_one o (written m) x h = word_one o m m.word x h
   result_one o added x h = sym h
 
-  pub field_one : Differ core.names → (f : t.Field) (x : FieldInfo) → FieldStands core f x → field_of core.names known f ≡ x
+  pub field_one : Differ core.names → (f : t.Field) (x : FieldInfo) → FieldStands core f x → core_field core.names known f ≡ x
   field_one names f x h = ap (λ n. field n f.fixed (type_in known f.ty)) (text_one core.names f.name.text x.name names h.name) ∙ ap₂ (λ b ty. field x.name b ty) (sym h.fixed) (type_in_one f.ty (x.entity, x.cap) h.ty)
 
   written_one : (ty : Option TypeRef) (w : Option (ℕ × Cap)) → IsWritten core ty w → (c : Context) → c.entities ≡ known → written_of c ty ≡ w
   written_one None w h c e = sym h
-  written_one (Some ty) w h c e = ap (λ ks. type_of 0 ks ty) e ∙ by (type_of 0 known ty) refl w h
+  written_one (Some ty) w h c e = ap (λ ks. type_of_name 0 ks ty) e ∙ by (type_of_name 0 known ty) refl w h
     where
-      by : (o : Option (ℕ × Cap)) → type_of 0 known ty ≡ o → (w : Option (ℕ × Cap)) → IsWritten core (Some ty) w → o ≡ w
-      by (Some p) g w h = sym ((h p).1 (type_is core ty p (subst (λ ks. type_of 0 ks ty ≡ Some p) (sym seen) g)))
+      by : (o : Option (ℕ × Cap)) → type_of_name 0 known ty ≡ o → (w : Option (ℕ × Cap)) → IsWritten core (Some ty) w → o ≡ w
+      by (Some p) g w h = sym ((h p).1 (type_is core ty p (subst (λ ks. type_of_name 0 ks ty ≡ Some p) (sym seen) g)))
       by None g None h = refl
       by None g (Some p) h = absurd (none-some p (sym g ∙ type_one ty p ((h p).0 refl)))
 

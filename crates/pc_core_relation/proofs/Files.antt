@@ -9,13 +9,13 @@ use Rattle.pc_lists.specs.Places.{Has}
 use Rattle.pc_lists.specs.Ranges.{Follow}
 use Rattle.pc_lists.proofs.Gets.{map_get, get_map, get_append, get_below, get_within}
 use Rattle.pc_lists.proofs.Elements.{ascends_none, has_front}
-use Rattle.pc_tree.specs.declared.names.Name.{Name}
+use Rattle.pc_tree.specs.declared.written_names.Name.{Name}
 use Rattle.pc_tree.specs.Tree as t
 use Rattle.pc_core.specs.declared.declarations.EntityDef.{EntityDef}
 use Rattle.pc_core.specs.declared.declarations.Method.{Method}
 use Rattle.pc_core.specs.CoreData.{CoreData}
 use Rattle.pc_core.specs.Entities.{HasBuiltIn}
-use Rattle.pc_members.specs.Chains.{IsAbove, Closes, Leads}
+use Rattle.pc_members.specs.Chains.{IsAbove, IsTransitiveClosure, LeadsInFile}
 use Rattle.pc_members.specs.Founded.{IsFounded}
 use Rattle.pc_tree.specs.BuiltIn.{first_own}
 use Rattle.pc_members.specs.Chains as chain
@@ -26,9 +26,9 @@ use Rattle.pc_members.specs.Words.{built_in_names, entity_names, field_texts, me
 use Rattle.pc_members.proofs.Closings.{no_entity}
 use Rattle.pc_names.proofs.Founded.{collected_founded}
 use Rattle.pc_file_spec.specs.Members.{Owned, owned}
-use Rattle.pc_file_spec.specs.Known.{texts_of, known_of, default_cap}
+use Rattle.pc_file_spec.specs.Known.{texts_of_file, known_of, default_cap}
 use Rattle.pc_file_spec.specs.Parts.{Parts, built_in_parts}
-use Rattle.pc_file_spec.specs.Cores.{core_with, built_ins, field_of, entity_of, entities_from}
+use Rattle.pc_file_spec.specs.Cores.{core_with, built_ins, core_field, core_entity, entities_from}
 use Rattle.pc_file_spec.proofs.Entities.{position_get}
 use Rattle.pc_members.proofs.Named.{is_trait_named}
 use Rattle.pc_file_spec.proofs.Tables.{language_kept, member_there, text_found}
@@ -39,7 +39,7 @@ use Rattle.pc_file_spec.proofs.Parts.{At, AllAt}
 use Rattle.pc_file_spec.proofs.Formation.{stands_with, parts_are}
 use Rattle.pc_file_spec.proofs.Settings.{all_members, entities_length, entity_get, entity_cases, method_at, at_get}
 use Rattle.pc_core_relation.specs.Names.{NamesAreRight}
-use Rattle.pc_core_relation.specs.Types.{IsNamed}
+use Rattle.pc_core_relation.specs.Types.{EntityHasName}
 use Rattle.pc_core_relation.specs.Methods.{MethodStands}
 use Rattle.pc_core_relation.specs.Entities.{FieldStands, EntityStands}
 use Rattle.pc_core_relation.specs.Files.{IsCoreOf, above_of}
@@ -55,7 +55,7 @@ use Rattle.pc_core_relation.proofs.Sound.{names_are_right}
 
 -- ---- what is above the built-in entities
 
-nothing_above : (file : t.File) (n : ℕ) (b : ℕ) → ((e : t.Entity) → chain.entity_at file n e → ⊥) → Leads file n b → ⊥
+nothing_above : (file : t.File) (n : ℕ) (b : ℕ) → ((e : t.Entity) → chain.entity_at file n e → ⊥) → LeadsInFile file n b → ⊥
 nothing_above file n b f (chain.one h) = f h.0 h.1
 nothing_above file n b f (chain.more h r) = f h.0 h.1
 
@@ -78,11 +78,11 @@ bare (suc (suc (suc (suc (suc zero))))) x h = ap (λ (y : EntityDef). y.above) (
 bare (suc (suc (suc (suc (suc (suc n)))))) x h = absurd (none-some x h)
 
 none_above : (file : t.File) (n : ℕ) (x : EntityDef) → slice_get built_ins n ≡ Some x → IsAbove file n x.above
-none_above file n x h = subst (IsAbove file n) (sym (bare n x h)) (ascends_none, λ b. (λ (g : Has [] b). absurd (none-some b g.1), λ (g : Leads file n b). absurd (nothing_above file n b (no_leads file n x h) g)))
+none_above file n x h = subst (IsAbove file n) (sym (bare n x h)) (ascends_none, λ b. (λ (g : Has [] b). absurd (none-some b g.1), λ (g : LeadsInFile file n b). absurd (nothing_above file n b (no_leads file n x h) g)))
 
 -- ---- the parts of the core
 
-module _ (file : t.File) (above : List (List ℕ)) (q : Parts) (c : Collects file above) (closes : Closes file above) (founded : IsFounded file) (parts : AllAt file built_in_parts (all_members file) q) where
+module _ (file : t.File) (above : List (List ℕ)) (q : Parts) (c : Collects file above) (closes : IsTransitiveClosure file above) (founded : IsFounded file) (parts : AllAt file built_in_parts (all_members file) q) where
   abbrev core : CoreData
   core = core_with file above q
 
@@ -103,7 +103,7 @@ module _ (file : t.File) (above : List (List ℕ)) (q : Parts) (c : Collects fil
         subst (IsAbove file n) same (listed n l)
   ]
 
-  above_closes : Closes file (above_of core)
+  above_closes : IsTransitiveClosure file (above_of core)
   above_closes = (
     length-map core.entities (λ (x : EntityDef). x.above) ∙ entities_length file above q,
     λ n l h. let r = map_get (λ (x : EntityDef). x.above) core.entities n l h in subst (IsAbove file n) r.2 (entity_above n r.0 r.1),
@@ -133,10 +133,10 @@ module _ (file : t.File) (above : List (List ℕ)) (q : Parts) (c : Collects fil
       let a : At file q (1 + starts file.entities file.entities i + j) o = own_at file above q c parts i j e m h g in
       (method_at file q _ o a, at_get file q _ o a, member_stands file above q c parts _ o a (i, h) (j, g))
 
-  field_stands : (i : ℕ) (e : t.Entity) (f : t.Field) → slice_get file.entities i ≡ Some e → Has e.fields f → FieldStands core f (field_of (texts_of file) (known_of file) f)
+  field_stands : (i : ℕ) (e : t.Entity) (f : t.Field) → slice_get file.entities i ≡ Some e → Has e.fields f → FieldStands core f (core_field (texts_of_file file) (known_of file) f)
   field_stands i e f h g =
-      let text : Has (texts_of file) f.name.text = member_there file e f.name.text (i, h) (has_front (field_texts e.fields) (method_texts e.methods) f.name.text (g.0, get_map (λ (y : t.Field). y.name.text) e.fields g.0 f g.1)) in
-      record { name = text_found (texts_of file) f.name.text text; fixed = refl; ty = type_stands file above q c parts f.ty ((c.sound e (i, h)).fields f g) }
+      let text : Has (texts_of_file file) f.name.text = member_there file e f.name.text (i, h) (has_front (field_texts e.fields) (method_texts e.methods) f.name.text (g.0, get_map (λ (y : t.Field). y.name.text) e.fields g.0 f g.1)) in
+      record { name = text_found (texts_of_file file) f.name.text text; fixed = refl; ty = type_stands file above q c parts f.ty ((c.sound e (i, h)).fields f g) }
 
   -- What an `is` list names is an entity of the file.
   provided : (i : ℕ) (e : t.Entity) (n : Name) → slice_get file.entities i ≡ Some e → Has e.provides n → Has (entity_names file) n.text
@@ -144,13 +144,13 @@ module _ (file : t.File) (above : List (List ℕ)) (q : Parts) (c : Collects fil
       let r = is_trait_named file.entities n.text ((c.sound e (i, h)).provides n g) in
       (first_own + r.1.0, get_append built_in_names (words.texts_of file.entities) r.1.0 ∙ get_map (λ (y : t.Entity). y.name.text) file.entities r.1.0 r.0 r.1.1 ∙ ap Some r.3)
 
-  named : (n : Name) (b : ℕ) → position (bytes_eq n.text) (entity_names file) ≡ Some b → IsNamed core n b
+  named : (n : Name) (b : ℕ) → position (bytes_eq n.text) (entity_names file) ≡ Some b → EntityHasName core n b
   named n b h =
       let at : slice_get (map entity_name core.entities) b ≡ Some n.text = ap (λ xs. slice_get xs b) (all_names file above q c parts) ∙ position_get n.text (entity_names file) b h in
       let r = map_get entity_name core.entities b n.text at in
       (r.0, r.1, r.2)
 
-  entity_stands : (i : ℕ) (e : t.Entity) → slice_get file.entities i ≡ Some e → EntityStands file core (first_own + i) e (entity_of file above (first_own + i) (1 + starts file.entities file.entities i) e)
+  entity_stands : (i : ℕ) (e : t.Entity) → slice_get file.entities i ≡ Some e → EntityStands file core (first_own + i) e (core_entity file above (first_own + i) (1 + starts file.entities file.entities i) e)
   entity_stands i e h =
       let numbers = numbers_match (entity_names file) e.provides c.names (λ n g. provided i e n h g) in
       record {
@@ -159,7 +159,7 @@ module _ (file : t.File) (above : List (List ℕ)) (q : Parts) (c : Collects fil
         name = refl;
         span = refl;
         provides = (numbers.0, λ k n b x y. named n b (numbers.1 k n b x y));
-        fields = map_matches (FieldStands core) (field_of (texts_of file) (known_of file)) e.fields (λ f g. field_stands i e f h g);
+        fields = map_matches (FieldStands core) (core_field (texts_of_file file) (known_of file)) e.fields (λ f g. field_stands i e f h g);
         members = members file.entities e;
         are_members = members_have file above founded closes e (i, h);
         count = refl;
@@ -178,14 +178,14 @@ module _ (file : t.File) (above : List (List ℕ)) (q : Parts) (c : Collects fil
       let few : length (all_members file) ≤ method_limit = members_limited file above c in
       omega (arith, count, few)
 
-  pub stands_for : NamesAreRight file → length (texts_of file) < 2 ^ 32 → IsCoreOf file core
+  pub stands_for : NamesAreRight file → length (texts_of_file file) < 2 ^ 32 → IsCoreOf file core
   stands_for fit few = record {
     above = above_closes;
     names_are_right = fit;
     texts = texts_are_firsts file;
     few_texts = few;
     built_in = built_in;
-    entities = λ i e h. (entity_of file above (first_own + i) (1 + starts file.entities file.entities i) e, entity_get file above q i e h, entity_stands i e h);
+    entities = λ i e h. (core_entity file above (first_own + i) (1 + starts file.entities file.entities i) e, entity_get file above q i e h, entity_stands i e h);
     methods_follow = methods_follow;
     slots_follow = parts.good.slots_follow;
     nodes_follow = parts.good.nodes_follow;

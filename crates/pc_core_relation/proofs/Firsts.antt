@@ -11,7 +11,7 @@ use Rattle.pc_tree.specs.Tree as t
 use Rattle.pc_lists.specs.Texts.{Text}
 use Rattle.pc_members.specs.Words.{is_among}
 use Rattle.pc_members.specs.Members.{is_takable}
-use Rattle.pc_members.specs.MemberLists.{firsts, taken}
+use Rattle.pc_members.specs.MemberLists.{firsts, methods_taken_over}
 use Rattle.pc_members.proofs.Differences.{among_has, has_among}
 use Rattle.pc_core_relation.specs.Members.{IsFirstOfName, AreFirstOfNames, AnyMethod}
 use Rattle.pc_core_relation.proofs.Lists.{only_one, one_order}
@@ -35,12 +35,12 @@ firsts_picked known (m ∷ ms) = by (λ ks. firsts_picked ks ms) (is_among m.nam
     by rest true = rest known
     by rest false = ap (λ xs. m ∷ xs) (rest (known ++ m.name.text ∷ []))
 
-taken_picked : (k : EntityKind) (known : List Text) (ms : List t.Method) → picked (is_takable k) known ms ≡ taken k known ms
+taken_picked : (k : EntityKind) (known : List Text) (ms : List t.Method) → picked (is_takable k) known ms ≡ methods_taken_over k known ms
 taken_picked k known [] = refl
 taken_picked k known (m ∷ ms) = by (λ ks. taken_picked k ks ms) (is_takable k m && not (is_among m.name.text known))
   where
-    by : ((ks : List Text) → picked (is_takable k) ks ms ≡ taken k ks ms) → (b : Bool)
-        → (if b then m ∷ picked (is_takable k) (known ++ m.name.text ∷ []) ms else picked (is_takable k) known ms) ≡ (if b then m ∷ taken k (known ++ m.name.text ∷ []) ms else taken k known ms)
+    by : ((ks : List Text) → picked (is_takable k) ks ms ≡ methods_taken_over k ks ms) → (b : Bool)
+        → (if b then m ∷ picked (is_takable k) (known ++ m.name.text ∷ []) ms else picked (is_takable k) known ms) ≡ (if b then m ∷ methods_taken_over k (known ++ m.name.text ∷ []) ms else methods_taken_over k known ms)
     by rest true = ap (λ xs. m ∷ xs) (rest (known ++ m.name.text ∷ []))
     by rest false = rest known
 
@@ -233,5 +233,5 @@ module _ (P : t.Method → Type 0) (all : List t.Method) where
 pub firsts_are : (all : List t.Method) → AreFirstOfNames AnyMethod all (firsts [] all)
 firsts_are all = subst (AreFirstOfNames AnyMethod all) (firsts_picked [] all) (picked_are_first any AnyMethod [] (λ m. (λ (u : AnyMethod m). (refl, λ h. absurd (none-some m.name.text h.1)), λ (h : (any m ≡ true) × (Has [] m.name.text → ⊥)). tt)) all)
 
-pub taken_are : (k : EntityKind) (known : List Text) (P : t.Method → Type 0) → ((m : t.Method) → P m ↔ ((is_takable k m ≡ true) × (Has known m.name.text → ⊥))) → (all : List t.Method) → AreFirstOfNames P all (taken k known all)
+pub taken_are : (k : EntityKind) (known : List Text) (P : t.Method → Type 0) → ((m : t.Method) → P m ↔ ((is_takable k m ≡ true) × (Has known m.name.text → ⊥))) → (all : List t.Method) → AreFirstOfNames P all (methods_taken_over k known all)
 taken_are k known P fits all = subst (AreFirstOfNames P all) (taken_picked k known all) (picked_are_first (is_takable k) P known fits all)

@@ -3,14 +3,15 @@ use Rattle.std.proofs.Common.{◌≡◌, ℕ, zero, suc, ◌<◌, List, [], ◌�
 use Rattle.std.specs.Prelude.{slice_get}
 use Rattle.pc_lists.specs.Places.{Has}
 use Rattle.pc_lists.proofs.Elements.{has_on}
-use Rattle.pc_tree.specs.declared.names.Name.{Name}
+use Rattle.pc_tree.specs.declared.written_names.Name.{Name}
 use Rattle.pc_tree.specs.Kinds.{is_abstract}
 use Rattle.pc_tree.specs.Tree as t
 use Rattle.pc_members.specs.Words.{has_added}
-use Rattle.pc_members.specs.Chains.{Closes}
+use Rattle.pc_members.specs.Chains.{IsTransitiveClosure}
 use Rattle.pc_members.specs.Founded.{IsFounded}
 use Rattle.pc_members.specs.Members.{Member, written, without_body, own_texts, added_if}
-use Rattle.pc_members.specs.MemberLists.{firsts, entity_named, of_entity, of_each, trait_methods, abstract_methods, taken, taken_over, abstract_members, concrete_members, members}
+use Rattle.pc_members.specs.MemberLists.{firsts, entity_named, of_entity, of_each, trait_methods, abstract_methods, methods_taken_over, taken_over}
+use Rattle.pc_members.specs.MemberLists.{abstract_members, concrete_members, members}
 use Rattle.pc_names.proofs.Founded.{collected_founded}
 use Rattle.pc_members.proofs.Named.{named_is, one_entity}
 use Rattle.pc_members.proofs.Ranks.{Target, target, named_by, rank_at, rank_less, rank_few, steady}
@@ -21,7 +22,7 @@ use Rattle.pc_core_relation.proofs.Firsts.{first_one, firsts_are, taken_are}
 target_name : (file : t.File) (n : Name) (q : Target file n) → q.entity.name.text ≡ n.text
 target_name file n q = (named_is file.entities n.text q.entity q.named).1
 
-module _ (file : t.File) (above : List (List ℕ)) (founded : IsFounded file) (closed : Closes file above) where
+module _ (file : t.File) (above : List (List ℕ)) (founded : IsFounded file) (closed : IsTransitiveClosure file above) where
   abbrev all : List t.Entity
   all = file.entities
 
@@ -81,7 +82,7 @@ module _ (file : t.File) (above : List (List ℕ)) (founded : IsFounded file) (c
 
   -- ---- members
 
-  may_take : (e : t.Entity) (given : List t.Method) → AreFirstOfNames (MayTake e) given (taken e.kind (own_texts e) given)
+  may_take : (e : t.Entity) (given : List t.Method) → AreFirstOfNames (MayTake e) given (methods_taken_over e.kind (own_texts e) given)
   may_take e given = taken_are e.kind (own_texts e) (MayTake e) (λ m. (λ (h : MayTake e m). h, λ (h : MayTake e m). h)) given
 
   pub members_have : (e : t.Entity) → Has all e → HasMembers file e (members all e)
@@ -96,7 +97,7 @@ module _ (file : t.File) (above : List (List ℕ)) (founded : IsFounded file) (c
       ap (map (λ (m : t.Method). written (without_body m))) (methods_one e own h he.0 he.1 is) ∙ ap (λ b. if b then abstract_members all e else concrete_members all e) (sym is)
   members_one e ms he (with_bodies {given = given} {taken = some} is g f) =
       let same : given ≡ of_each (abstract_methods all) all e.provides = gives_one e.provides given g (λ n hn. target file above founded closed e n he hn) in
-      let those : some ≡ taken_over all e = first_one (MayTake e) given some (taken e.kind (own_texts e) given) f (may_take e given) ∙ ap (taken e.kind (own_texts e)) same in
+      let those : some ≡ taken_over all e = first_one (MayTake e) given some (methods_taken_over e.kind (own_texts e) given) f (may_take e given) ∙ ap (methods_taken_over e.kind (own_texts e)) same in
       ap (λ xs. map written e.methods ++ (added_if (has_added e) ++ map written xs)) those ∙ ap (λ b. if b then abstract_members all e else concrete_members all e) (sym is)
 
 pub members_computed : MembersAreComputed

@@ -6,7 +6,7 @@ use Rattle.pc_caps.specs.declared.capability.Cap.{Cap}
 use Rattle.pc_lists.specs.Places.{Has, Differ}
 use Rattle.pc_tree.specs.declared.kinds.MethodWord.{MethodWord}
 use Rattle.pc_tree.specs.declared.kinds.MethodWord.TheVariants as word
-use Rattle.pc_tree.specs.declared.names.TypeRef.{TypeRef}
+use Rattle.pc_tree.specs.declared.written_names.TypeRef.{TypeRef}
 use Rattle.pc_tree.specs.Tree as t
 use Rattle.pc_core.specs.declared.declarations.Method.{Method}
 use Rattle.pc_core.specs.declared.nodes.Node.{Node}
@@ -17,11 +17,11 @@ use Rattle.pc_members.specs.Words.{entity_names}
 use Rattle.pc_members.specs.Members.{Member, written, added, member_text}
 use Rattle.pc_members.specs.MemberLists.{members}
 use Rattle.pc_body_spec.specs.Scopes.{Context}
-use Rattle.pc_body_spec.specs.Slots.{local_slot, type_of, written_of}
+use Rattle.pc_body_spec.specs.Slots.{local_slot, type_of_name, written_of}
 use Rattle.pc_file_spec.specs.Members.{Owned}
 use Rattle.pc_file_spec.specs.Known.{known_of}
 use Rattle.pc_file_spec.specs.Known as known
-use Rattle.pc_file_spec.specs.Signatures.{context_of, slots_from, param_of, params_of, locals_of, type_in, word_result, result_of, written_result}
+use Rattle.pc_file_spec.specs.Signatures.{context_of, slots_from, param_of, params_of, member_locals, type_in, word_result, result_of, written_result}
 use Rattle.pc_file_spec.specs.Parts.{Parts, built_in_parts}
 use Rattle.pc_file_spec.specs.Cores.{core_with}
 use Rattle.pc_file_spec.proofs.Ranges.{range_middle}
@@ -68,7 +68,7 @@ module _ (file : t.File) (above : List (List ℕ)) (q : Parts) (c : Collects fil
 
   written_stands : (o : Owned) (ty : Option TypeRef) → IsWritten core ty (written_of (context_of file o) ty)
   written_stands o None = refl
-  written_stands o (Some ty) = subst (λ ks. (p : ℕ × Cap) → (type_of 0 ks ty ≡ Some p) ↔ IsType core ty p) (seen_same file above q c parts) (λ p. (type_is core ty p, is_type core ty p names_differ))
+  written_stands o (Some ty) = subst (λ ks. (p : ℕ × Cap) → (type_of_name 0 ks ty ≡ Some p) ↔ IsType core ty p) (seen_same file above q c parts) (λ p. (type_is core ty p, is_type core ty p names_differ))
 
   -- ---- declarations
 
@@ -109,8 +109,8 @@ module _ (file : t.File) (above : List (List ℕ)) (q : Parts) (c : Collects fil
         let whole : q.slots ≡ a.before.slots ++ (new_slots ++ a.extends.slots) = a.extends.is_slots ∙ append_assoc a.before.slots new_slots a.extends.slots in
         ap (λ xs. slice_range xs (length a.before.slots) (length a.before.slots + length new_slots)) whole ∙ range_middle a.before.slots new_slots a.extends.slots (length a.before.slots + length new_slots) refl
 
-    locals_stand : Match (LocalStands core number) (locals_of o.owner o.member) (map (local_slot own number) (locals_of o.owner o.member))
-    locals_stand = map_matches (LocalStands core number) (local_slot own number) (locals_of o.owner o.member) (λ l h. record { method = refl; kind = refl; depth = refl; written = written_stands o l.ty })
+    locals_stand : Match (LocalStands core number) (member_locals o.owner o.member) (map (local_slot own number) (member_locals o.owner o.member))
+    locals_stand = map_matches (LocalStands core number) (local_slot own number) (member_locals o.owner o.member) (λ l h. record { method = refl; kind = refl; depth = refl; written = written_stands o l.ty })
 
     few : length new_slots ≤ 64
     few = let few = a.made.few in let count : length new_slots ≡ 1 + length (member_names o.owner o.member) = slots_count own number o in omega (arith, few, count)
@@ -136,14 +136,14 @@ module _ (file : t.File) (above : List (List ℕ)) (q : Parts) (c : Collects fil
         let same : owned_context core (members file.entities o.owner) o ≡ own = context_same file above q c parts o in
         record {
           entity = refl;
-          name = text_found (known.texts_of file) (member_text o.member) (text_there file above o.owner o.member c he hm);
+          name = text_found (known.texts_of_file file) (member_text o.member) (text_there file above o.owner o.member c he hm);
           kind = refl;
           receiver = refl;
           params = params_stand o.owner o.member sort;
           result = result_stands o o.member sort;
           span = refl;
           few_slots = few;
-          slots = (map (local_slot own number) (locals_of o.owner o.member), slots_are, locals_stand);
+          slots = (map (local_slot own number) (member_locals o.owner o.member), slots_are, locals_stand);
           no_fault = subst (λ x. faults_in x o.owner o.member ≡ []) (sym same) (faults_same own o.owner o.member ∙ a.made.no_fault);
           body = subst (λ x. BodyIs core number this_method (rose_of x o.owner o.member)) (sym same) body_stands;
         }

@@ -10,7 +10,7 @@ use Rattle.pc_tree.specs.declared.kinds.EntityKind.{EntityKind}
 use Rattle.pc_tree.specs.declared.kinds.EntityKind.TheVariants as kind
 use Rattle.pc_tree.specs.declared.kinds.MethodWord.{MethodWord}
 use Rattle.pc_tree.specs.declared.kinds.MethodWord.TheVariants as word
-use Rattle.pc_tree.specs.declared.names.TypeRef.{TypeRef}
+use Rattle.pc_tree.specs.declared.written_names.TypeRef.{TypeRef}
 use Rattle.pc_tree.specs.declared.file.ParamDef.{ParamDef}
 use Rattle.pc_tree.specs.Tree as t
 use Rattle.pc_tree.specs.BuiltIn.{none_entity}
@@ -21,11 +21,11 @@ use Rattle.pc_members.specs.Members.{Member, written, added, member_text, member
 use Rattle.pc_body_spec.specs.Roses.{Rose}
 use Rattle.pc_body_spec.specs.Scopes.{Context}
 use Rattle.pc_body_spec.specs.Bodies.{body_of, added_body}
-use Rattle.pc_body_spec.specs.Faults.{Fault, body_faults, initial_faults}
+use Rattle.pc_body_spec.specs.Faults.{BodyNameFault, body_faults, initial_faults}
 use Rattle.pc_body_spec.specs.Slots.{cap_or}
 use Rattle.pc_file_spec.specs.Members.{Owned, owned}
 use Rattle.pc_file_spec.specs.Known.{default_cap}
-use Rattle.pc_file_spec.specs.Signatures.{kind_of, receiver_of, word_receiver, result_form, object_of, locals_of, placed_of}
+use Rattle.pc_file_spec.specs.Signatures.{kind_of, receiver_cap, word_receiver, result_form, object_of, member_locals, placed_of}
 use Rattle.pc_core_relation.specs.Lists.{Match}
 use Rattle.pc_core_relation.specs.Types.{IsType}
 use Rattle.pc_core_relation.specs.Contexts.{context_in}
@@ -56,7 +56,7 @@ abbrev pub rose_of : Context → t.Entity → Member → Option Rose
 rose_of c e (written x) = body_of c e.fields x
 rose_of c e added = Some (added_body c e.fields e.name.span)
 
-abbrev pub faults_in : Context → t.Entity → Member → List Fault
+abbrev pub faults_in : Context → t.Entity → Member → List BodyNameFault
 faults_in c e (written x) = body_faults c e.fields x
 faults_in c e added = initial_faults c e.fields
 
@@ -67,12 +67,12 @@ pub record ByTables (core : CoreData) (members : List Member) (m : ℕ) (o : Own
   pub entity : x.entity ≡ o.number
   pub name : slice_get core.names x.name ≡ Some (member_text o.member)
   pub kind : x.kind ≡ kind_of o.owner.kind o.member
-  pub receiver : x.receiver ≡ receiver_of o.member
+  pub receiver : x.receiver ≡ receiver_cap o.member
   pub params : Match (ParamStands core) (params_in o.member) x.params
   pub result : ResultIs core o o.member x.result
   pub span : x.span ≡ member_span o.owner.name.span o.member
   pub few_slots : x.slots ≤ slot_limit
-  pub slots : SlotsStand core m x (locals_of o.owner o.member)
+  pub slots : SlotsStand core m x (member_locals o.owner o.member)
   pub no_fault : faults_in (owned_context core members o) o.owner o.member ≡ []
   pub body : BodyIs core m x (rose_of (owned_context core members o) o.owner o.member)
 

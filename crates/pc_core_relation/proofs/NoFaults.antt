@@ -13,8 +13,8 @@ use Rattle.pc_lists.proofs.Bools.{true_false}
 use Rattle.pc_lists.proofs.Elements.{has_on, has_front}
 use Rattle.pc_lists.proofs.Gets.{get_front, get_behind, get_below, get_append, get_drop, get_map}
 use Rattle.pc_tree.specs.declared.file.ParamDef.{ParamDef}
-use Rattle.pc_tree.specs.declared.names.Name.{Name}
-use Rattle.pc_tree.specs.declared.names.TypeRef.{TypeRef}
+use Rattle.pc_tree.specs.declared.written_names.Name.{Name}
+use Rattle.pc_tree.specs.declared.written_names.TypeRef.{TypeRef}
 use Rattle.pc_tree.specs.Kinds.{is_abstract}
 use Rattle.pc_tree.specs.Tree as t
 use Rattle.pc_tree.specs.BuiltIn.{first_own}
@@ -23,14 +23,16 @@ use Rattle.pc_names.specs.declared.fault.NameFault.TheVariants as fault
 use Rattle.pc_names.specs.declared.fault.Which.TheVariants as which
 use Rattle.pc_members.specs.Words.{is_among, built_in_names, texts_of, entity_names, field_texts, method_texts, has_added}
 use Rattle.pc_members.specs.Tables.{with_name, with_traits, trait_names}
-use Rattle.pc_members.specs.Chains.{Closes}
+use Rattle.pc_members.specs.Chains.{IsTransitiveClosure}
 use Rattle.pc_members.specs.Founded.{IsFounded}
 use Rattle.pc_members.specs.Members.{added_text, own_texts}
-use Rattle.pc_members.specs.Reach.{has}
+use Rattle.pc_members.specs.Reach.{has_number}
 use Rattle.pc_members.proofs.Completed.{among_parts}
 use Rattle.pc_members.proofs.Differences.{among_has, equal_texts, has_among, same_text}
 use Rattle.pc_members.proofs.Reaches.{has_in, in_get}
-use Rattle.pc_names.specs.Faults.{where_, either, type_faults, result_faults, provided_faults, field_faults, param_faults, signature_faults, method_faults, is_taken, added_faults, entity_faults, entities_faults, entity_name_faults, declaration_faults, known_limit}
+use Rattle.pc_names.specs.Faults.{where_, either_fault, type_faults, result_faults, provided_faults, field_faults, param_faults, signature_faults}
+use Rattle.pc_names.specs.Faults.{method_faults, is_member_name, added_faults, entity_faults, entities_faults, entity_name_faults, declaration_faults}
+use Rattle.pc_names.specs.Faults.{known_limit}
 use Rattle.pc_names.specs.Counts.{count_faults, method_count}
 use Rattle.pc_names.specs.Cycles.{cycle_faults}
 use Rattle.pc_names.specs.Mains.{is_main, main_faults}
@@ -48,8 +50,8 @@ none_both xs ys p q = ap₂ (λ a b. a ++ b) p q
 no_where : (b : Bool) (f : NameFault) → b ≡ false → where_ b f ≡ []
 no_where b f e = ap (λ c. where_ c f) e
 
-no_either : (b c : Bool) (f g : NameFault) → b ≡ false → c ≡ false → either b f c g ≡ []
-no_either b c f g p q = ap₂ (λ x y. either x f y g) p q
+no_either : (b c : Bool) (f g : NameFault) → b ≡ false → c ≡ false → either_fault b f c g ≡ []
+no_either b c f g p q = ap₂ (λ x y. either_fault x f y g) p q
 
 -- ---- texts that differ
 
@@ -86,7 +88,7 @@ no_names known (e ∷ es) a l =
     let low : length known < known_limit = omega (arith, l) in
     let count : length (known ++ e.name.text ∷ []) ≡ length known + 1 = length_push known e.name.text in
     let room : not (nat_lt (length known) known_limit) ≡ false = ap not (lt-ltb (length known) known_limit low) in
-    none_both (either (is_among e.name.text known) (fault.Double e.name.span) (not (nat_lt (length known) known_limit)) (fault.TooMany which.Entities e.name.span)) (entity_name_faults (known ++ e.name.text ∷ []) es)
+    none_both (either_fault (is_among e.name.text known) (fault.Double e.name.span) (not (nat_lt (length known) known_limit)) (fault.TooMany which.Entities e.name.span)) (entity_name_faults (known ++ e.name.text ∷ []) es)
     (no_either (is_among e.name.text known) (not (nat_lt (length known) known_limit)) (fault.Double e.name.span) (fault.TooMany which.Entities e.name.span) a.0 room)
     (no_names (known ++ e.name.text ∷ []) es a.1 (omega (arith, l, count)))
 
@@ -138,7 +140,7 @@ no_result names (Some ty) h = no_type names ty (h ty refl)
 no_provided : (traits known : List Text) (ns : List Name) → ((n : Name) → Has ns n → Has traits n.text) → Adds known (map (λ (n : Name). n.text) ns) → provided_faults traits known ns ≡ []
 no_provided traits known [] h a = refl
 no_provided traits known (n ∷ ns) h a =
-    none_both (either (not (is_among n.text traits)) (fault.Unknown n.span) (is_among n.text known) (fault.Double n.span)) (provided_faults traits (known ++ n.text ∷ []) ns)
+    none_both (either_fault (not (is_among n.text traits)) (fault.Unknown n.span) (is_among n.text known) (fault.Double n.span)) (provided_faults traits (known ++ n.text ∷ []) ns)
     (no_either (not (is_among n.text traits)) (is_among n.text known) (fault.Unknown n.span) (fault.Double n.span) (ap not (has_among n.text traits (h n (0, refl)))) a.0)
     (no_provided traits (known ++ n.text ∷ []) ns (λ m g. h m (has_on n ns m g)) a.1)
 
@@ -148,7 +150,7 @@ no_fields names known (f ∷ fs) a l h =
     let low : length known < field_limit = omega (arith, l) in
     let count : length (known ++ f.name.text ∷ []) ≡ length known + 1 = length_push known f.name.text in
     let room : not (nat_lt (length known) field_limit) ≡ false = ap not (lt-ltb (length known) field_limit low) in
-    none_both (either (is_among f.name.text known) (fault.Double f.name.span) (not (nat_lt (length known) field_limit)) (fault.TooMany which.Fields f.name.span)) (type_faults names f.ty ++ field_faults names (known ++ f.name.text ∷ []) fs)
+    none_both (either_fault (is_among f.name.text known) (fault.Double f.name.span) (not (nat_lt (length known) field_limit)) (fault.TooMany which.Fields f.name.span)) (type_faults names f.ty ++ field_faults names (known ++ f.name.text ∷ []) fs)
     (no_either (is_among f.name.text known) (not (nat_lt (length known) field_limit)) (fault.Double f.name.span) (fault.TooMany which.Fields f.name.span) a.0 room)
     (none_both (type_faults names f.ty) (field_faults names (known ++ f.name.text ∷ []) fs) (no_type names f.ty (h f (0, refl)))
     (no_fields names (known ++ f.name.text ∷ []) fs a.1 (omega (arith, l, count)) (λ g k. h g (has_on f fs g k))))
@@ -184,9 +186,9 @@ no_signature file fields m f =
     (no_result (entity_names file) m.result f.result)
 
 no_added : (e : t.Entity) → Differ (own_texts e) → added_faults e ≡ []
-no_added e d = no_where (has_added e && is_taken (codes "create") e) (fault.Double e.name.span) (by (has_added e) d)
+no_added e d = no_where (has_added e && is_member_name (codes "create") e) (fault.Double e.name.span) (by (has_added e) d)
   where
-    by : (b : Bool) → Differ (field_texts e.fields ++ (method_texts e.methods ++ added_text b)) → (b && is_taken (codes "create") e) ≡ false
+    by : (b : Bool) → Differ (field_texts e.fields ++ (method_texts e.methods ++ added_text b)) → (b && is_member_name (codes "create") e) ≡ false
     by false d = refl
     by true d =
         let whole : Differ ((field_texts e.fields ++ method_texts e.methods) ++ codes "create" ∷ []) = subst Differ (sym (append_assoc (field_texts e.fields) (method_texts e.methods) (codes "create" ∷ []))) d in
@@ -225,13 +227,13 @@ no_cycles n (e ∷ es) (l ∷ ls) h =
     (no_where (bad n e l) (fault.Cycle e.name.span) (ap (λ k. bad k e l) zeros ∙ h 0 e l refl refl))
     (no_cycles (n + 1) es ls (λ j d m g k. ap (λ i. bad i d m) (later j) ∙ h (suc j) d m g k))
 
-straight_none : (file : t.File) (above : List (List ℕ)) → Closes file above → NamesAreRight file → cycle_faults first_own file.entities (drop first_own above) ≡ []
+straight_none : (file : t.File) (above : List (List ℕ)) → IsTransitiveClosure file above → NamesAreRight file → cycle_faults first_own file.entities (drop first_own above) ≡ []
 straight_none file above closed f = no_cycles first_own file.entities (drop first_own above) (λ j d m g k. by j d m g k (bad (first_own + j) d m) refl)
   where
     by : (j : ℕ) (d : t.Entity) (m : List ℕ) → slice_get file.entities j ≡ Some d → slice_get (drop first_own above) j ≡ Some m → (b : Bool) → bad (first_own + j) d m ≡ b → b ≡ false
     by j d m g k false e = refl
     by j d m g k true e =
-        let p = and_parts (is_abstract d.kind) (has m (first_own + j)) e in
+        let p = and_parts (is_abstract d.kind) (has_number m (first_own + j)) e in
         let is = closed.1 (first_own + j) m (sym (get_drop above first_own j) ∙ k) in
         let leads = (is.1 (first_own + j)).0 (in_get m (first_own + j) (has_in m (first_own + j) p.1)) in
         absurd (f.straight (first_own + j) (d, own_entity file j d g, p.0, leads))
@@ -277,7 +279,7 @@ no_main (x ∷ es) d i e h s is = by (λ j g. no_main es (λ a b y p q. let k : 
 pub names_founded : (file : t.File) → NamesAreRight file → IsFounded file
 names_founded file f = record { names = f.names; provides = λ e n he hn. named_trait file n ((f.entities e he).provides n hn); straight = f.straight }
 
-pub no_faults : (file : t.File) (above : List (List ℕ)) → Closes file above → NamesAreRight file → count_faults file.entities 0 file.entities ≡ [] → name_faults file above ≡ []
+pub no_faults : (file : t.File) (above : List (List ℕ)) → IsTransitiveClosure file above → NamesAreRight file → count_faults file.entities 0 file.entities ≡ [] → name_faults file above ≡ []
 no_faults file above closed f counts =
     let es = file.entities in
     let few = f.few_entities in

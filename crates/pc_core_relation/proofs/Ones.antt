@@ -14,7 +14,7 @@ use Rattle.pc_lists.proofs.Gets.{get_map, map_get, get_append, get_drop, get_ran
 use Rattle.pc_lists.proofs.Ranges.{run_within}
 use Rattle.pc_tree.specs.declared.kinds.EntityKind.{EntityKind}
 use Rattle.pc_tree.specs.declared.kinds.EntityKind.TheVariants as kind
-use Rattle.pc_tree.specs.declared.names.Name.{Name}
+use Rattle.pc_tree.specs.declared.written_names.Name.{Name}
 use Rattle.pc_tree.specs.Tree as t
 use Rattle.pc_core.specs.declared.declarations.EntityDef.{EntityDef}
 use Rattle.pc_core.specs.declared.declarations.FieldInfo.{FieldInfo}
@@ -28,23 +28,23 @@ use Rattle.pc_members.specs.Words as words
 use Rattle.pc_lists.specs.Texts.{Text}
 use Rattle.pc_members.specs.Words.{built_in_names, entity_names, or_nil}
 use Rattle.pc_members.specs.Founded.{IsFounded}
-use Rattle.pc_members.specs.Edges.{numbers_of}
+use Rattle.pc_members.specs.Edges.{entity_numbers}
 use Rattle.pc_tree.specs.BuiltIn.{first_own}
 use Rattle.pc_members.specs.Members.{Member}
 use Rattle.pc_members.specs.MemberLists.{members}
 use Rattle.pc_names.specs.Counts.{count_faults}
 use Rattle.pc_names.specs.Names.{NamesData, Collected}
 use Rattle.pc_file_spec.specs.Members.{Owned, owned, members_from}
-use Rattle.pc_file_spec.specs.Known.{texts_of, known_of, known_from, default_cap, constructors_from}
+use Rattle.pc_file_spec.specs.Known.{texts_of_file, known_of, known_from, default_cap, constructors_from}
 use Rattle.pc_file_spec.specs.Parts.{if_ok, parts_of}
-use Rattle.pc_file_spec.specs.Cores.{core_with, core_of, built_ins, field_of, entity_of, entities_from, Stands}
+use Rattle.pc_file_spec.specs.Cores.{core_with, core_of, built_ins, core_field, core_entity, entities_from, Stands}
 use Rattle.pc_file_spec.proofs.Ones.{one_core}
 use Rattle.pc_file_spec.proofs.Tables.{language_kept, texts_differ}
 use Rattle.pc_file_spec.proofs.Owners.{starts, entity_at, methods_run, members_follow, Owner, owner_of}
 use Rattle.pc_file_spec.proofs.Collects.{Collects, collects}
 use Rattle.pc_file_spec.proofs.Parts.{slots_run, nodes_run}
 use Rattle.pc_core_relation.specs.Lists.{Match}
-use Rattle.pc_core_relation.specs.Types.{IsNamed}
+use Rattle.pc_core_relation.specs.Types.{EntityHasName}
 use Rattle.pc_core_relation.specs.Contexts.{constructors_among, seen_entity, seen_entities}
 use Rattle.pc_core_relation.specs.Methods.{MethodStands}
 use Rattle.pc_core_relation.specs.Entities.{FieldStands, EntityStands}
@@ -113,28 +113,28 @@ module _ (file : t.File) (core : CoreData) where
   -- ---- the entities
 
   entities_own : (es : List t.Entity) (xs : List EntityDef) (n at last : ℕ) → length es ≡ length xs → Follow at (map methods_run xs) last
-      → ((i : ℕ) (e : t.Entity) (x : EntityDef) → slice_get es i ≡ Some e → slice_get xs i ≡ Some x → (x ≡ entity_of file (above_of core) (n + i) x.first_method e)) → xs ≡ entities_from file (above_of core) n at es
+      → ((i : ℕ) (e : t.Entity) (x : EntityDef) → slice_get es i ≡ Some e → slice_get xs i ≡ Some x → (x ≡ core_entity file (above_of core) (n + i) x.first_method e)) → xs ≡ entities_from file (above_of core) n at es
   entities_own [] [] n at last l f h = refl
   entities_own [] (x ∷ xs) n at last l f h = absurd (omega (arith, l))
   entities_own (e ∷ es) [] n at last l f h = absurd (omega (arith, l))
   entities_own (e ∷ es) (x ∷ xs) n at last l f h =
       let zeros : n + 0 ≡ n = omega arith in
-      let same : x ≡ entity_of file (above_of core) n at e = h 0 e x refl refl ∙ ap₂ (λ k j. entity_of file (above_of core) k j e) zeros f.0 in
+      let same : x ≡ core_entity file (above_of core) n at e = h 0 e x refl refl ∙ ap₂ (λ k j. core_entity file (above_of core) k j e) zeros f.0 in
       let count : x.methods ≡ length (members file.entities e) = ap (λ (y : EntityDef). y.methods) same in
       let next : Follow (at + length (members file.entities e)) (map methods_run xs) last = subst (λ k. Follow (at + k) (map methods_run xs) last) count f.1 in
       let later : (i : ℕ) → n + suc i ≡ suc n + i = λ i. omega arith in
-      ap₂ (λ y ys. y ∷ ys) same (entities_own es xs (suc n) (at + length (members file.entities e)) last (omega (arith, l)) next (λ i a b g k. h (suc i) a b g k ∙ ap (λ j. entity_of file (above_of core) j b.first_method a) (later i)))
+      ap₂ (λ y ys. y ∷ ys) same (entities_own es xs (suc n) (at + length (members file.entities e)) last (omega (arith, l)) next (λ i a b g k. h (suc i) a b g k ∙ ap (λ j. core_entity file (above_of core) j b.first_method a) (later i)))
 
   -- ---- the core of a file
 
   module _ (s : IsCoreOf file core) where
-    texts_same : core.names ≡ texts_of file
+    texts_same : core.names ≡ texts_of_file file
     texts_same = firsts_are_texts file core.names s.texts
 
     names_differ : Differ core.names
     names_differ = subst Differ (sym texts_same) (texts_differ file)
 
-    numbered : (i n : ℕ) (x : Text) → slice_get (texts_of file) i ≡ Some x → slice_get core.names n ≡ Some x → n ≡ i
+    numbered : (i n : ℕ) (x : Text) → slice_get (texts_of_file file) i ≡ Some x → slice_get core.names n ≡ Some x → n ≡ i
     numbered i n x h g = names_differ n i x g (ap (λ xs. slice_get xs i) texts_same ∙ h)
 
     out_is : s.built_in.out ≡ 0
@@ -250,19 +250,19 @@ module _ (file : t.File) (core : CoreData) where
 
     -- ---- the entities
 
-    named_get : (n : Name) (b : ℕ) → IsNamed core n b → slice_get (entity_names file) b ≡ Some n.text
+    named_get : (n : Name) (b : ℕ) → EntityHasName core n b → slice_get (entity_names file) b ≡ Some n.text
     named_get n b h = ap (λ xs. slice_get xs b) (sym all_named) ∙ get_map entity_name core.entities b h.0 h.1 ∙ ap Some h.2
 
-    entity_one : (i : ℕ) (e : t.Entity) (x : EntityDef) → slice_get file.entities i ≡ Some e → slice_get own i ≡ Some x → x ≡ entity_of file (above_of core) (first_own + i) x.first_method e
+    entity_one : (i : ℕ) (e : t.Entity) (x : EntityDef) → slice_get file.entities i ≡ Some e → slice_get own i ≡ Some x → x ≡ core_entity file (above_of core) (first_own + i) x.first_method e
     entity_one i e x h g =
         let st : EntityStands file core (first_own + i) e x = own_stands i e x h g in
-        let provides : numbers_of (entity_names file) e.provides ≡ x.provides = numbers_one (entity_names file) e.provides x.provides sound.names (st.provides.0, λ k n b y z. named_get n b (st.provides.1 k n b y z)) in
+        let provides : entity_numbers (entity_names file) e.provides ≡ x.provides = numbers_one (entity_names file) e.provides x.provides sound.names (st.provides.0, λ k n b y z. named_get n b (st.provides.1 k n b y z)) in
         let above : slice_get (above_of core) (first_own + i) ≡ Some x.above = get_map (λ (y : EntityDef). y.above) core.entities (first_own + i) x (own_get i x g) in
-        let fields : map (field_of core.names (known_of file)) e.fields ≡ x.fields = match_one (FieldStands core) (field_of core.names (known_of file)) (field_one core (known_of file) seen_same entities_differ names_differ) e.fields x.fields st.fields in
+        let fields : map (core_field core.names (known_of file)) e.fields ≡ x.fields = match_one (FieldStands core) (core_field core.names (known_of file)) (field_one core (known_of file) seen_same entities_differ names_differ) e.fields x.fields st.fields in
         ap₂ (λ k c. entity k c x.name x.span x.provides x.above x.fields x.first_method x.methods) st.kind (cap_meant e.kind e.cap x.cap st.cap)
         ∙ ap₂ (λ n z. entity e.kind (default_cap e.kind e.cap) n z x.provides x.above x.fields x.first_method x.methods) st.name st.span
         ∙ ap₂ (λ p a. entity e.kind (default_cap e.kind e.cap) e.name.text e.name.span p a x.fields x.first_method x.methods) (sym provides) (sym (ap or_nil above))
-        ∙ ap₂ (λ fs c. entity e.kind (default_cap e.kind e.cap) e.name.text e.name.span (numbers_of (entity_names file) e.provides) (or_nil (slice_get (above_of core) (first_own + i))) fs x.first_method c) (sym fields ∙ ap (λ xs. map (field_of xs (known_of file)) e.fields) texts_same) (count_same i (first_own + i) e x h st)
+        ∙ ap₂ (λ fs c. entity e.kind (default_cap e.kind e.cap) e.name.text e.name.span (entity_numbers (entity_names file) e.provides) (or_nil (slice_get (above_of core) (first_own + i))) fs x.first_method c) (sym fields ∙ ap (λ xs. map (core_field xs (known_of file)) e.fields) texts_same) (count_same i (first_own + i) e x h st)
 
     entities_same : core.entities ≡ built_ins ++ entities_from file (above_of core) first_own 1 file.entities
     entities_same = split ∙ ap (λ xs. built_ins ++ xs) (entities_own file.entities own first_own 1 (length core.methods) own_count own_follow entity_one)
@@ -281,7 +281,7 @@ module _ (file : t.File) (core : CoreData) where
     member_stands i o x h g =
         let w : Owner file.entities file.entities first_own i o = owner_of file.entities file.entities first_own i o h in
         let r = s.entities w.entity o.owner w.is_owner in
-        let there : slice_get core.entities (first_own + w.entity) ≡ Some (entity_of file (above_of core) (first_own + w.entity) (1 + starts file.entities file.entities w.entity) o.owner) =
+        let there : slice_get core.entities (first_own + w.entity) ≡ Some (core_entity file (above_of core) (first_own + w.entity) (1 + starts file.entities file.entities w.entity) o.owner) =
         ap (λ xs. slice_get xs (first_own + w.entity)) entities_same ∙ get_append built_ins (entities_from file (above_of core) first_own 1 file.entities) w.entity ∙ entity_at file (above_of core) file.entities first_own 1 w.entity o.owner w.is_owner in
         let first : r.0.first_method ≡ 1 + starts file.entities file.entities w.entity = ap (λ (y : EntityDef). y.first_method) (same_Some r.0 _ (sym r.1 ∙ there)) in
         let k = methods_stand w.entity (first_own + w.entity) o.owner r.0 w.is_owner r.2 w.place o.member w.is_member in
@@ -306,7 +306,7 @@ module _ (file : t.File) (core : CoreData) where
         ap (λ r. if_ok r (λ p. Ok (core_with file (above_of core) p))) parts_same
         ∙ ap₂ (λ es xs. Ok (core_from es xs core.methods core.slots core.nodes)) (sym entities_same) (sym texts_same)
 
-    few : length (texts_of file) < 2 ^ 32
+    few : length (texts_of_file file) < 2 ^ 32
     few = subst (λ xs. length xs < 2 ^ 32) texts_same s.few_texts
 
     pub is_made : Stands file core

@@ -10,7 +10,7 @@ use Rattle.pc_lists.proofs.Cuts.{nil_left, nil_right}
 use Rattle.pc_lists.proofs.Elements.{differ_none}
 use Rattle.pc_lists.proofs.Gets.{get_front}
 use Rattle.pc_tree.specs.declared.file.ParamDef.{ParamDef}
-use Rattle.pc_tree.specs.declared.names.Name.{Name}
+use Rattle.pc_tree.specs.declared.written_names.Name.{Name}
 use Rattle.pc_tree.specs.Tree as t
 use Rattle.pc_names.specs.declared.fault.NameFault.{NameFault}
 use Rattle.pc_names.specs.declared.fault.NameFault.TheVariants as fault
@@ -20,7 +20,8 @@ use Rattle.pc_members.specs.Members.{added_text, own_texts}
 use Rattle.pc_members.proofs.Completed.{among_parts}
 use Rattle.pc_members.proofs.Differences.{differ_push, equal_texts}
 use Rattle.pc_members.proofs.Named.{is_trait_named}
-use Rattle.pc_names.specs.Faults.{where_, either, type_faults, provided_faults, field_faults, param_faults, signature_faults, method_faults, added_faults, entity_faults, entities_faults, entity_name_faults, declaration_faults}
+use Rattle.pc_names.specs.Faults.{where_, either_fault, type_faults, provided_faults, field_faults, param_faults, signature_faults, method_faults, added_faults}
+use Rattle.pc_names.specs.Faults.{entity_faults, entities_faults, entity_name_faults, declaration_faults}
 use Rattle.pc_names.specs.Mains.{is_main, main_faults}
 use Rattle.pc_names.specs.Names.{NamesData, Collected}
 use Rattle.pc_names.proofs.Founded.{where_none, either_none, Adds, adds_differ, collected_founded}
@@ -32,7 +33,7 @@ use Rattle.pc_core_relation.specs.Names.{param_texts, SignatureIsRight, Declarat
 provided_add : (traits known : List Text) (ns : List Name) → provided_faults traits known ns ≡ [] → Adds known (map (λ (n : Name). n.text) ns)
 provided_add traits known [] h = tt
 provided_add traits known (n ∷ ns) h =
-    let own : List NameFault = either (not (is_among n.text traits)) (fault.Unknown n.span) (is_among n.text known) (fault.Double n.span) in
+    let own : List NameFault = either_fault (not (is_among n.text traits)) (fault.Unknown n.span) (is_among n.text known) (fault.Double n.span) in
     let rest : List NameFault = provided_faults traits (known ++ n.text ∷ []) ns in
     ((either_none (not (is_among n.text traits)) (fault.Unknown n.span) (is_among n.text known) (fault.Double n.span) (nil_left own rest h)).1, provided_add traits (known ++ n.text ∷ []) ns (nil_right own rest h))
 

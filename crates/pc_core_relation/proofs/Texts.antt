@@ -14,13 +14,13 @@ use Rattle.pc_members.proofs.Tables.{names_in_parts}
 use Rattle.pc_members.proofs.Differences.{among_has, has_among}
 use Rattle.pc_names.specs.Texts.{with_members}
 use Rattle.pc_body_spec.specs.Texts.{entities_texts}
-use Rattle.pc_file_spec.specs.Known.{texts_of}
-use Rattle.pc_core_relation.specs.Texts.{declared_texts, needed_texts, Before, AreFirsts}
+use Rattle.pc_file_spec.specs.Known.{texts_of_file}
+use Rattle.pc_core_relation.specs.Texts.{declared_texts, needed_texts, AppearsBefore, AreFirsts}
 use Rattle.pc_core_relation.proofs.Lists.{only_one, one_order}
 
 -- ---- a list that grows
 
-before_front : (all more : List Text) (x y : Text) → Before all x y → Before (all ++ more) x y
+before_front : (all more : List Text) (x y : Text) → AppearsBefore all x y → AppearsBefore (all ++ more) x y
 before_front all more x y b = (
   b.0,
   get_front all more b.0 x b.1,
@@ -47,7 +47,7 @@ pushed all names x f fresh = record {
   order = λ i j y z l h g. elim (get_push names x i y h) [
     | inl a ↦ elim (get_push names x j z g) [
       | inl b ↦ before_front all (x ∷ []) y z (f.order i j y z l a b)
-      | inr b ↦ subst (Before (all ++ x ∷ []) y) b.1 (last y (i, a))
+      | inr b ↦ subst (AppearsBefore (all ++ x ∷ []) y) b.1 (last y (i, a))
     ]
     | inr a ↦ elim (get_push names x j z g) [
       | inl b ↦ let k = get_below names j z b in let e = a.0 in absurd (omega (arith, k, e, l))
@@ -56,7 +56,7 @@ pushed all names x f fresh = record {
   ];
 }
   where
-    last : (y : Text) → Has names y → Before (all ++ x ∷ []) y x
+    last : (y : Text) → Has names y → AppearsBefore (all ++ x ∷ []) y x
     last y h =
         let there = (f.same y).0 h in
         let low = get_below all there.0 y there.1 in (
@@ -85,9 +85,9 @@ firsts_of xs = firsts_behind xs [] [] (record { same = λ y. (λ (h : Has [] y).
 -- ---- there is only one such list
 
 firsts_one : (all one other : List Text) → AreFirsts all one → AreFirsts all other → one ≡ other
-firsts_one all one other a b = one_order (Before all) not_both one other a.order b.order (λ x h. (b.same x).1 ((a.same x).0 h)) (λ x h. (a.same x).1 ((b.same x).0 h))
+firsts_one all one other a b = one_order (AppearsBefore all) not_both one other a.order b.order (λ x h. (b.same x).1 ((a.same x).0 h)) (λ x h. (a.same x).1 ((b.same x).0 h))
   where
-    not_both : (x y : Text) → Before all x y → Before all y x → ⊥
+    not_both : (x y : Text) → AppearsBefore all x y → AppearsBefore all y x → ⊥
     not_both x y a b = let l : a.0 < b.0 = a.2 b.0 b.1 in let m : b.0 < a.0 = b.2 a.0 a.1 in omega (arith, l, m)
 
 -- ---- the texts of a file
@@ -97,7 +97,7 @@ declared_in [] names = refl
 declared_in (e ∷ es) names =
     declared_in es (with_names names (field_texts e.fields ++ method_texts e.methods)) ∙ sym (names_in_parts names (field_texts e.fields ++ method_texts e.methods) (declared_texts es))
 
-texts_in : (file : t.File) → texts_of file ≡ with_names [] (needed_texts file)
+texts_in : (file : t.File) → texts_of_file file ≡ with_names [] (needed_texts file)
 texts_in file =
     let language : List Text = codes "out" ∷ codes "print" ∷ codes "create" ∷ codes "apply" ∷ [] in
     let declared = declared_texts file.entities in
@@ -106,8 +106,8 @@ texts_in file =
     ∙ sym (names_in_parts (with_names [] language) declared behind)
     ∙ sym (names_in_parts [] language (declared ++ behind))
 
-pub texts_are_firsts : (file : t.File) → AreFirsts (needed_texts file) (texts_of file)
+pub texts_are_firsts : (file : t.File) → AreFirsts (needed_texts file) (texts_of_file file)
 texts_are_firsts file = subst (AreFirsts (needed_texts file)) (sym (texts_in file)) (firsts_of (needed_texts file))
 
-pub firsts_are_texts : (file : t.File) (names : List Text) → AreFirsts (needed_texts file) names → names ≡ texts_of file
-firsts_are_texts file names h = firsts_one (needed_texts file) names (texts_of file) h (texts_are_firsts file)
+pub firsts_are_texts : (file : t.File) (names : List Text) → AreFirsts (needed_texts file) names → names ≡ texts_of_file file
+firsts_are_texts file names h = firsts_one (needed_texts file) names (texts_of_file file) h (texts_are_firsts file)

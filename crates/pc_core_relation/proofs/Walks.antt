@@ -23,12 +23,12 @@ use Rattle.pc_members.specs.Members.{Member, written, added, member_text, member
 use Rattle.pc_members.specs.MemberLists.{members}
 use Rattle.pc_body_spec.specs.Roses.{Rose, put}
 use Rattle.pc_caps.specs.Limits.{node_limit}
-use Rattle.pc_body_spec.specs.Scopes.{Context, Known, text_from}
+use Rattle.pc_body_spec.specs.Scopes.{Context, KnownEntity, text_from}
 use Rattle.pc_body_spec.specs.Slots.{local_slot}
-use Rattle.pc_body_spec.specs.Methods.{unless_fault, unless_name, unless_full, numbered, put_body}
+use Rattle.pc_body_spec.specs.Methods.{unless_fault, unless_name, unless_full, numbered_or_full, put_body}
 use Rattle.pc_file_spec.specs.Members.{Owned}
-use Rattle.pc_file_spec.specs.Known.{texts_of, known_of}
-use Rattle.pc_file_spec.specs.Signatures.{context_of, slots_from, locals_of, params_of, own_this, kind_of, receiver_of, result_of, declared}
+use Rattle.pc_file_spec.specs.Known.{texts_of_file, known_of}
+use Rattle.pc_file_spec.specs.Signatures.{context_of, slots_from, member_locals, params_of, own_this, kind_of, receiver_cap, result_of, declared}
 use Rattle.pc_file_spec.specs.Parts.{Parts, outcome, with_outcome, and_member, and_members, if_ok}
 use Rattle.pc_file_spec.proofs.Steps.{member_rose, member_faults, member_names, slots_count}
 use Rattle.pc_file_spec.proofs.Parts.{slots_run, nodes_run}
@@ -58,7 +58,7 @@ body_put : (core : CoreData) (m : ℕ) (s : Span) (x : Method) (o : Option Rose)
 body_put core m s x None before few e h = ap (λ (ns : List Node). Ok (None, ns)) e ∙ ap (λ (b : Option ℕ). Ok (b, take (node_end x.first_node b) core.nodes)) (sym h)
 body_put core m s x (Some r) before few e h =
     let is : put m r before ≡ Some (h.0, take (h.0 + 1) core.nodes) = ap (put m r) e ∙ what_is_numbered_is_put core.nodes m x.first_node r h.0 few h.2 in
-    ap (numbered s) is ∙ ap (λ (b : Option ℕ). Ok (b, take (node_end x.first_node b) core.nodes)) (sym h.1)
+    ap (numbered_or_full s) is ∙ ap (λ (b : Option ℕ). Ok (b, take (node_end x.first_node b) core.nodes)) (sym h.1)
 
 end_behind : (core : CoreData) (m : ℕ) (x : Method) (o : Option Rose) → BodyIs core m x o → x.first_node ≤ node_end x.first_node x.body
 end_behind core m x None h = let e : node_end x.first_node x.body ≡ x.first_node = ap (node_end x.first_node) h in omega (arith, e)
@@ -70,7 +70,7 @@ end_behind core m x (Some r) h =
 abbrev this_of : ℕ → ℕ → Cap → Slot
 this_of m e k = record { method = m; kind = slot.This; depth = 0; written = Some (e, k) }
 
-abbrev seeing : Context → List Known → List (List ℕ) → Context
+abbrev seeing : Context → List KnownEntity → List (List ℕ) → Context
 seeing c ks xs = record { fields = c.fields; methods = c.methods; entities = ks; texts = xs; slots = c.slots }
 
 abbrev method : ℕ → ℕ → MethodKind → Cap → List ParamInfo → ℕ × Form → ℕ → ℕ → ℕ → Option ℕ → Span → Method
@@ -88,7 +88,7 @@ method entity name kind receiver params result first_slot slots first_node body 
   span = span;
 }
 
-module _ (file : t.File) (core : CoreData) (texts : core.names ≡ texts_of file) (names : Differ core.names) (seen : seen_entities core ≡ known_of file) (differ : Differ (map entity_name core.entities)) (few : length core.nodes ≤ node_limit) where
+module _ (file : t.File) (core : CoreData) (texts : core.names ≡ texts_of_file file) (names : Differ core.names) (seen : seen_entities core ≡ known_of file) (differ : Differ (map entity_name core.entities)) (few : length core.nodes ≤ node_limit) where
   same_context : (o : Owned) → owned_context core (members file.entities o.owner) o ≡ context_of file o
   same_context o = ap₂ (λ ks xs. seeing (context_of file o) ks xs) seen texts
 
@@ -103,7 +103,7 @@ module _ (file : t.File) (core : CoreData) (texts : core.names ≡ texts_of file
 
     slots_same : own_slots core x ≡ slots_from own m o
     slots_same =
-        let locals : map (local_slot own m) (locals_of o.owner o.member) ≡ s.slots.0 = match_one (LocalStands core m) (local_slot own m) (local_one core (known_of file) seen differ own refl m) (locals_of o.owner o.member) s.slots.0 s.slots.2 in
+        let locals : map (local_slot own m) (member_locals o.owner o.member) ≡ s.slots.0 = match_one (LocalStands core m) (local_slot own m) (local_one core (known_of file) seen differ own refl m) (member_locals o.owner o.member) s.slots.0 s.slots.2 in
         let first : this_slot m x ≡ own_this m o = ap₂ (λ e k. this_of m e k) s.entity s.receiver in
         s.slots.1 ∙ ap (λ y. y ∷ map (param_slot m) x.params ++ s.slots.0) first ∙ ap₂ (λ ps ls. own_this m o ∷ map (param_slot m) ps ++ ls) (sym params_same) (sym locals)
 
@@ -112,8 +112,8 @@ module _ (file : t.File) (core : CoreData) (texts : core.names ≡ texts_of file
 
     declared_same : x.first_slot + x.slots ≤ length core.slots → declared own o x.first_slot (length (slots_from own m o)) x.first_node x.body ≡ x
     declared_same l =
-        let text : text_from 0 (texts_of file) (member_text o.member) ≡ x.name = ap (λ ns. text_from 0 ns (member_text o.member)) (sym texts) ∙ text_one core.names (member_text o.member) x.name names s.name in
-        ap₂ (λ a b. method a b (kind_of o.owner.kind o.member) (receiver_of o.member) (params_of (known_of file) o.member) (result_of (known_of file) o.owner.kind o.number o.member) x.first_slot (length (slots_from own m o)) x.first_node x.body (member_span o.owner.name.span o.member)) (sym s.entity) text
+        let text : text_from 0 (texts_of_file file) (member_text o.member) ≡ x.name = ap (λ ns. text_from 0 ns (member_text o.member)) (sym texts) ∙ text_one core.names (member_text o.member) x.name names s.name in
+        ap₂ (λ a b. method a b (kind_of o.owner.kind o.member) (receiver_cap o.member) (params_of (known_of file) o.member) (result_of (known_of file) o.owner.kind o.number o.member) x.first_slot (length (slots_from own m o)) x.first_node x.body (member_span o.owner.name.span o.member)) (sym s.entity) text
         ∙ ap₂ (λ a b. method x.entity x.name a b (params_of (known_of file) o.member) (result_of (known_of file) o.owner.kind o.number o.member) x.first_slot (length (slots_from own m o)) x.first_node x.body (member_span o.owner.name.span o.member)) (sym s.kind) (sym s.receiver)
         ∙ ap₂ (λ a b. method x.entity x.name x.kind x.receiver a b x.first_slot (length (slots_from own m o)) x.first_node x.body (member_span o.owner.name.span o.member)) params_same (result_one core (known_of file) seen differ o o.member x.result s.result)
         ∙ ap₂ (λ a b. method x.entity x.name x.kind x.receiver x.params x.result x.first_slot a x.first_node x.body b) (sym (slots_long l)) (sym s.span)

@@ -10,7 +10,7 @@ use Rattle.pc_core.specs.Lookup.{own_methods}
 use Rattle.pc_lists.specs.Texts.{Text}
 use Rattle.pc_members.specs.Words.{field_texts, or_nil}
 use Rattle.pc_members.specs.Members.{Member, member_text}
-use Rattle.pc_body_spec.specs.Scopes.{Context, Known, Constructor, Placed}
+use Rattle.pc_body_spec.specs.Scopes.{Context, KnownEntity, Constructor, PlacedLocal}
 
 -- A method of this kind makes an object.
 abbrev pub makes : MethodKind → Bool
@@ -29,15 +29,15 @@ constructors_among names at [] = []
 constructors_among names at (m ∷ ms) = if makes m.kind then record { name = text_at names m.name; method = at } ∷ constructors_among names (suc at) ms else constructors_among names (suc at) ms
 
 -- An entity of the core, with its constructors.
-abbrev pub seen_entity : CoreData → EntityDef → Known
+abbrev pub seen_entity : CoreData → EntityDef → KnownEntity
 seen_entity core x = record { name = x.name; kind = x.kind; cap = x.cap; constructors = constructors_among core.names x.first_method (own_methods core x) }
 
-abbrev pub seen_entities : CoreData → List Known
+abbrev pub seen_entities : CoreData → List KnownEntity
 seen_entities core = map (seen_entity core) core.entities
 
 -- What the body of a member knows: the names of its entity's fields and of these members, the entities and texts of the
 -- core, and for each of its locals, by the place of its name, the slot.
-abbrev pub context_in : CoreData → List Member → t.Entity → List Placed → Context
+abbrev pub context_in : CoreData → List Member → t.Entity → List PlacedLocal → Context
 context_in core members e slots = record {
   fields = field_texts e.fields;
   methods = map member_text members;

@@ -14,7 +14,7 @@ use Rattle.pc_members.specs.Members.{Member}
 use Rattle.pc_body_spec.specs.Slots.{cap_or}
 use Rattle.pc_core_relation.specs.Lists.{Match}
 use Rattle.pc_core_relation.specs.Members.{HasMembers}
-use Rattle.pc_core_relation.specs.Types.{IsNamed, IsType}
+use Rattle.pc_core_relation.specs.Types.{EntityHasName, IsType}
 use Rattle.pc_core_relation.specs.Methods.{MethodStands}
 
 -- The capability of an entity's type: that of its declaration, for classes, traits and interfaces, or else `ref`.
@@ -37,7 +37,7 @@ pub record EntityStands (file : t.File) (core : CoreData) (n : ℕ) (e : t.Entit
   pub name : x.name ≡ e.name.text
   pub span : x.span ≡ e.name.span
   -- what its `is` list names
-  pub provides : Match (IsNamed core) e.provides x.provides
+  pub provides : Match (EntityHasName core) e.provides x.provides
   pub fields : Match (FieldStands core) e.fields x.fields
   -- its methods are its members, in order
   pub members : List Member

@@ -7,7 +7,7 @@ use Rattle.pc_core.specs.declared.declarations.EntityDef.{EntityDef}
 use Rattle.pc_core.specs.CoreData.{CoreData}
 use Rattle.pc_core.specs.Entities.{HasBuiltIn}
 use Rattle.pc_core.specs.Lookup.{node_end}
-use Rattle.pc_members.specs.Chains.{Closes}
+use Rattle.pc_members.specs.Chains.{IsTransitiveClosure}
 use Rattle.pc_tree.specs.BuiltIn.{first_own}
 use Rattle.pc_caps.specs.Limits.{method_limit, node_limit}
 use Rattle.pc_core_relation.specs.Names.{NamesAreRight}
@@ -21,7 +21,7 @@ above_of core = map (λ x. x.above) core.entities
 -- This is the core of this file.
 pub record IsCoreOf (file : t.File) (core : CoreData) : Type 0 where
   -- there are the built-in entities and those of the file, and above each is what chains of `is` lead to
-  pub above : Closes file (above_of core)
+  pub above : IsTransitiveClosure file (above_of core)
   -- the names and declarations of the file have no fault
   pub names_are_right : NamesAreRight file
   -- the texts, each once

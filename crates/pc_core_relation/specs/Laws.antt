@@ -10,7 +10,7 @@ use Rattle.pc_names.specs.declared.fault.NameFault.{NameFault}
 use Rattle.pc_names.specs.Names.{NamesData, Collected}
 use Rattle.pc_body_spec.specs.Roses.{Rose, put}
 use Rattle.pc_caps.specs.Limits.{node_limit}
-use Rattle.pc_file_spec.specs.Known.{texts_of}
+use Rattle.pc_file_spec.specs.Known.{texts_of_file}
 use Rattle.pc_file_spec.specs.Cores.{Stands, IsElabFault}
 use Rattle.pc_core_relation.specs.Members.{HasMembers}
 use Rattle.pc_core_relation.specs.Numbers.{IsNumbered}
@@ -45,7 +45,7 @@ StandingCoresAreOne = (file : t.File) (one other : CoreData) → IsCoreOf file o
 -- A file whose names have no fault, and which does not have too many texts, has a core or a fault of its members, and
 -- not both.
 abbrev pub CoreStandsOrFault : Type 0
-CoreStandsOrFault = (file : t.File) (names : NamesData) → Collected file names → length (texts_of file) < 2 ^ 32 → ((core : CoreData) × IsCoreOf file core) ⊎ ((f : NameFault) × IsElabFault file f)
+CoreStandsOrFault = (file : t.File) (names : NamesData) → Collected file names → length (texts_of_file file) < 2 ^ 32 → ((core : CoreData) × IsCoreOf file core) ⊎ ((f : NameFault) × IsElabFault file f)
 
 abbrev pub StandingHasNoFault : Type 0
 StandingHasNoFault = (file : t.File) (core : CoreData) (f : NameFault) → IsCoreOf file core → IsElabFault file f → ⊥

@@ -16,10 +16,10 @@ abbrev pub needed_texts : t.File → List Text
 needed_texts file = (codes "out" ∷ codes "print" ∷ codes "create" ∷ codes "apply" ∷ []) ++ (declared_texts file.entities ++ entities_texts file.entities)
 
 -- In a list one text appears before another.
-abbrev pub Before : List Text → Text → Text → Type 0
-Before all x y = (p : ℕ) × (slice_get all p ≡ Some x) × ((q : ℕ) → slice_get all q ≡ Some y → p < q)
+abbrev pub AppearsBefore : List Text → Text → Text → Type 0
+AppearsBefore all x y = (p : ℕ) × (slice_get all p ≡ Some x) × ((q : ℕ) → slice_get all q ≡ Some y → p < q)
 
 -- The names are the texts of a list in the order of their first appearance: so each occurs once.
 pub record AreFirsts (all names : List Text) : Type 0 where
   pub same : (x : Text) → Has names x ↔ Has all x
-  pub order : (i j : ℕ) (x y : Text) → i < j → slice_get names i ≡ Some x → slice_get names j ≡ Some y → Before all x y
+  pub order : (i j : ℕ) (x y : Text) → i < j → slice_get names i ≡ Some x → slice_get names j ≡ Some y → AppearsBefore all x y

@@ -1,15 +1,15 @@
 -- What a type written in a file is in a finished core.
 use Rattle.std.specs.Prelude.{◌≡◌, ◌↔◌, ℕ, Option, Some, None, slice_get}
 use Rattle.pc_caps.specs.declared.capability.Cap.{Cap}
-use Rattle.pc_tree.specs.declared.names.Name.{Name}
-use Rattle.pc_tree.specs.declared.names.TypeRef.{TypeRef}
+use Rattle.pc_tree.specs.declared.written_names.Name.{Name}
+use Rattle.pc_tree.specs.declared.written_names.TypeRef.{TypeRef}
 use Rattle.pc_core.specs.declared.declarations.EntityDef.{EntityDef}
 use Rattle.pc_core.specs.CoreData.{CoreData}
 use Rattle.pc_body_spec.specs.Slots.{cap_or}
 
 -- Entity number e has this name.
-abbrev pub IsNamed : CoreData → Name → ℕ → Type 0
-IsNamed core n e = (x : EntityDef) × (slice_get core.entities e ≡ Some x) × (x.name ≡ n.text)
+abbrev pub EntityHasName : CoreData → Name → ℕ → Type 0
+EntityHasName core n e = (x : EntityDef) × (slice_get core.entities e ≡ Some x) × (x.name ≡ n.text)
 
 -- A type: the entity with its name, and the capability that is written, or else that of the entity.
 abbrev pub IsType : CoreData → TypeRef → ℕ × Cap → Type 0

@@ -10,7 +10,7 @@ mod inherited;
 #[cfg(test)]
 mod limits;
 #[cfg(test)]
-mod names;
+mod name_fault_cases;
 #[cfg(test)]
 mod parts;
 #[cfg(test)]

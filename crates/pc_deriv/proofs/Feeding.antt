@@ -7,7 +7,7 @@ use Rattle.std.proofs.lemmas.List.{take-append-drop}
 use Rattle.pc_deriv.specs.declared.line.Line.{Line}
 use Rattle.pc_deriv.specs.declared.line.LineFault.{LineFault}
 use Rattle.pc_deriv.specs.declared.line.LineFault.TheVariants as fault
-use Rattle.pc_deriv.specs.Lines.{Taken, said, behind, answered, kept, went_on, took_at, took, one_more, fed, longest_line}
+use Rattle.pc_deriv.specs.Lines.{Taken, line_meaning, behind, answered, with_line_byte, went_on, took_at, took, with_first_line, fed, longest_line}
 use Rattle.pc_deriv.specs.Pieces.{NoEnd, IsNext}
 
 abbrev Answer : Type 0
@@ -15,7 +15,7 @@ Answer = Result (Option Line) LineFault
 
 -- ---- bytes after bytes
 
-pub more_app : (a : Answer) (xs ys : List Line) → one_more a (xs ++ ys) ≡ one_more a xs ++ ys
+pub more_app : (a : Answer) (xs ys : List Line) → with_first_line a (xs ++ ys) ≡ with_first_line a xs ++ ys
 more_app (Ok (Some l)) xs ys = refl
 more_app (Ok None) xs ys = refl
 more_app (Err f) xs ys = refl
@@ -28,7 +28,7 @@ fed_now t (x ∷ a) b = fed_now (took t x).1 a b
 -- the lines of two pieces
 pub fed_lines : (t : Taken) (a b : List ℕ) → (fed t (a ++ b)).0 ≡ (fed t a).0 ++ (fed (fed t a).1 b).0
 fed_lines t [] b = refl
-fed_lines t (x ∷ a) b = ap (one_more (took t x).0) (fed_lines (took t x).1 a b) ∙ more_app (took t x).0 (fed (took t x).1 a).0 (fed (fed (took t x).1 a).1 b).0
+fed_lines t (x ∷ a) b = ap (with_first_line (took t x).0) (fed_lines (took t x).1 a b) ∙ more_app (took t x).0 (fed (took t x).1 a).0 (fed (fed (took t x).1 a).1 b).0
 
 pub fed_both : (t : Taken) (a b : List ℕ) → fed t (a ++ b) ≡ ((fed t a).0 ++ (fed (fed t a).1 b).0, (fed (fed t a).1 b).1)
 fed_both t a b = ap₂ (λ (x : List Line) (y : Taken). (x, y)) (fed_lines t a b) (fed_now t a b)
@@ -39,7 +39,7 @@ stays_at t f b e = ap (λ o. took_at o t b) e
 
 pub fed_stays : (t : Taken) (f : LineFault) (bs : List ℕ) → t.fault ≡ Some f → fed t bs ≡ ([], t)
 fed_stays t f [] e = refl
-fed_stays t f (b ∷ bs) e = ap (λ (s : Answer × Taken). (one_more s.0 (fed s.1 bs).0, (fed s.1 bs).1)) (stays_at t f b e) ∙ fed_stays t f bs e
+fed_stays t f (b ∷ bs) e = ap (λ (s : Answer × Taken). (with_first_line s.0 (fed s.1 bs).0, (fed s.1 bs).1)) (stays_at t f b e) ∙ fed_stays t f bs e
 
 -- ---- one byte
 
@@ -50,19 +50,19 @@ line_is_some : (s : Result Line LineFault) → Ok None ≡ answered s → ⊥
 line_is_some (Ok l) e = cc
 line_is_some (Err f) e = cc
 
-not_kept : (l : Line) (t : Taken) (b : ℕ) (long : Bool) (u : Taken) → (Ok (Some l), u) ≡ kept t b long → ⊥
+not_kept : (l : Line) (t : Taken) (b : ℕ) (long : Bool) (u : Taken) → (Ok (Some l), u) ≡ with_line_byte t b long → ⊥
 not_kept l t b true u e = let h : Ok (Some l) ≡ Err (fault.BadLine (t.ended + 1)) = ap (λ (x : Answer × Taken). x.0) e in cc
 not_kept l t b false u e = let none : Option Line = None in let h : Ok (Some l) ≡ Ok none = ap (λ (x : Answer × Taken). x.0) e in cc
 
-kept_on : (t : Taken) (b : ℕ) (long : Bool) (u : Taken) → t.fault ≡ None → (Ok None, u) ≡ kept t b long → u.fault ≡ None
+kept_on : (t : Taken) (b : ℕ) (long : Bool) (u : Taken) → t.fault ≡ None → (Ok None, u) ≡ with_line_byte t b long → u.fault ≡ None
 kept_on t b true u none e = let h : Ok None ≡ Err (fault.BadLine (t.ended + 1)) = ap (λ (x : Answer × Taken). x.0) e in cc
 kept_on t b false u none e = ap (λ (x : Answer × Taken). x.1.fault) e ∙ none
 
 -- a byte that ends no line, and is no line end
 quiet_by : (t u : Taken) (b : ℕ) (ends : Bool) → (b == 10) ≡ ends → t.fault ≡ None
-    → (Ok None, u) ≡ cond ends (answered (said t.version t.counts t.ended (t.pending ++ b ∷ [])), behind t (said t.version t.counts t.ended (t.pending ++ b ∷ []))) (kept t b (length t.pending + 1 == longest_line))
+    → (Ok None, u) ≡ cond ends (answered (line_meaning t.version t.counts t.ended (t.pending ++ b ∷ [])), behind t (line_meaning t.version t.counts t.ended (t.pending ++ b ∷ []))) (with_line_byte t b (length t.pending + 1 == longest_line))
     → (b ≢ 10) × (u.fault ≡ None)
-quiet_by t u b true p none e = absurd (line_is_some (said t.version t.counts t.ended (t.pending ++ b ∷ [])) (ap (λ (x : Answer × Taken). x.0) e))
+quiet_by t u b true p none e = absurd (line_is_some (line_meaning t.version t.counts t.ended (t.pending ++ b ∷ [])) (ap (λ (x : Answer × Taken). x.0) e))
 quiet_by t u b false p none e = (λ q. true≢false (sym (eq-eqb b 10 q) ∙ p), kept_on t b (length t.pending + 1 == longest_line) u none e)
 
 pub quiet : (t u : Taken) (b : ℕ) → t.fault ≡ None → (Ok None, u) ≡ took t b → (b ≢ 10) × (u.fault ≡ None)
@@ -70,7 +70,7 @@ quiet t u b none e = quiet_by t u b (b == 10) refl none (went t b (Ok None, u) n
 
 -- a byte that ends a line is a line end
 ends_by : (l : Line) (t u : Taken) (b : ℕ) (ends : Bool) → (b == 10) ≡ ends
-    → (Ok (Some l), u) ≡ cond ends (answered (said t.version t.counts t.ended (t.pending ++ b ∷ [])), behind t (said t.version t.counts t.ended (t.pending ++ b ∷ []))) (kept t b (length t.pending + 1 == longest_line)) → b ≡ 10
+    → (Ok (Some l), u) ≡ cond ends (answered (line_meaning t.version t.counts t.ended (t.pending ++ b ∷ [])), behind t (line_meaning t.version t.counts t.ended (t.pending ++ b ∷ []))) (with_line_byte t b (length t.pending + 1 == longest_line)) → b ≡ 10
 ends_by l t u b true p e = eqb-true b 10 p
 ends_by l t u b false p e = absurd (not_kept l t b (length t.pending + 1 == longest_line) u e)
 
@@ -82,13 +82,13 @@ fault_behind : (f : LineFault) (t : Taken) (s : Result Line LineFault) → Err f
 fault_behind f t (Ok l) e = cc
 fault_behind f t (Err g) e = cc
 
-fault_kept : (f : LineFault) (t : Taken) (b : ℕ) (long : Bool) (u : Taken) → (Err f, u) ≡ kept t b long → u.fault ≡ Some f
+fault_kept : (f : LineFault) (t : Taken) (b : ℕ) (long : Bool) (u : Taken) → (Err f, u) ≡ with_line_byte t b long → u.fault ≡ Some f
 fault_kept f t b true u e = let h : Err f ≡ Err (fault.BadLine (t.ended + 1)) = ap (λ (x : Answer × Taken). x.0) e in let k : u.fault ≡ Some (fault.BadLine (t.ended + 1)) = ap (λ (x : Answer × Taken). x.1.fault) e in cc
 fault_kept f t b false u e = let none : Option Line = None in let h : Err f ≡ Ok none = ap (λ (x : Answer × Taken). x.0) e in cc
 
 fault_by : (f : LineFault) (t u : Taken) (b : ℕ) (ends : Bool)
-    → (Err f, u) ≡ cond ends (answered (said t.version t.counts t.ended (t.pending ++ b ∷ [])), behind t (said t.version t.counts t.ended (t.pending ++ b ∷ []))) (kept t b (length t.pending + 1 == longest_line)) → u.fault ≡ Some f
-fault_by f t u b true e = ap (λ (x : Answer × Taken). x.1.fault) e ∙ fault_behind f t (said t.version t.counts t.ended (t.pending ++ b ∷ [])) (ap (λ (x : Answer × Taken). x.0) e)
+    → (Err f, u) ≡ cond ends (answered (line_meaning t.version t.counts t.ended (t.pending ++ b ∷ [])), behind t (line_meaning t.version t.counts t.ended (t.pending ++ b ∷ []))) (with_line_byte t b (length t.pending + 1 == longest_line)) → u.fault ≡ Some f
+fault_by f t u b true e = ap (λ (x : Answer × Taken). x.1.fault) e ∙ fault_behind f t (line_meaning t.version t.counts t.ended (t.pending ++ b ∷ [])) (ap (λ (x : Answer × Taken). x.0) e)
 fault_by f t u b false e = fault_kept f t b (length t.pending + 1 == longest_line) u e
 
 pub faulty : (f : LineFault) (t u : Taken) (b : ℕ) → t.fault ≡ None → (Err f, u) ≡ took t b → u.fault ≡ Some f
@@ -139,11 +139,12 @@ module _ (old : Taken) (piece : List ℕ) (at stop : ℕ) (now : Taken) (so : Qu
   longer : slice_range piece at (stop + 1) ≡ part ++ get_or piece stop 0 ∷ []
   longer = range_next piece at stop so.from within
 
-  taken_on : (a : Answer) (u : Taken) → (a, u) ≡ took now (get_or piece stop 0) → fed old (part ++ get_or piece stop 0 ∷ []) ≡ (one_more a [], u)
+  taken_on : (a : Answer) (u : Taken) → (a, u) ≡ took now (get_or piece stop 0)
+      → fed old (part ++ get_or piece stop 0 ∷ []) ≡ (with_first_line a [], u)
   taken_on a u e =
       fed_both old part (get_or piece stop 0 ∷ [])
       ∙ ap (λ (s : List Line × Taken). (s.0 ++ (fed s.1 (get_or piece stop 0 ∷ [])).0, (fed s.1 (get_or piece stop 0 ∷ [])).1)) so.taken
-      ∙ ap (λ (s : Answer × Taken). (one_more s.0 [], s.1)) (sym e)
+      ∙ ap (λ (s : Answer × Taken). (with_first_line s.0 [], s.1)) (sym e)
 
   pub quiet_on : (u : Taken) → (Ok None, u) ≡ took now (get_or piece stop 0) → Quiet old piece at (stop + 1) u
   quiet_on u e =

@@ -5,7 +5,7 @@ use Rattle.std.specs.List.{AllByRecursion}
 use Rattle.std.proofs.lemmas.List.{drop_more}
 use Rattle.pc_ann.specs.declared.annotation.Ann.{Ann}
 use Rattle.pc_deriv.specs.declared.version.Version.{Version}
-use Rattle.pc_deriv.specs.Text.{lines, deriv_text, SlotFits, NoteFits}
+use Rattle.pc_deriv.specs.Text.{each_line, deriv_text, SlotFits, NoteFits}
 use Rattle.pc_deriv.specs.Faults.{Within, IsText}
 
 module _ {A : Type 0} where
@@ -18,10 +18,10 @@ module _ {A : Type 0} where
       subst (λ n. AllByRecursion P (take n (y ∷ ys))) same (h.0, fits_more P ys i d (omega (arith, within)) p h.1)
 
   -- one more line that is written
-  pub lines_more : (line : A → List ℕ) (xs : List A) (i : ℕ) (d : A) (old new all : List ℕ) → i < length xs → new ≡ old ++ line (get_or xs i d) → old ++ lines line (drop i xs) ≡ all → new ++ lines line (drop (i + 1) xs) ≡ all
+  pub lines_more : (line : A → List ℕ) (xs : List A) (i : ℕ) (d : A) (old new all : List ℕ) → i < length xs → new ≡ old ++ line (get_or xs i d) → old ++ each_line line (drop i xs) ≡ all → new ++ each_line line (drop (i + 1) xs) ≡ all
   lines_more line xs i d old new all within puts so =
-      ap (λ l. l ++ lines line (drop (i + 1) xs)) puts ∙ append_assoc old (line (get_or xs i d)) (lines line (drop (i + 1) xs))
-      ∙ ap (λ l. old ++ lines line l) (sym (drop_more xs i d within)) ∙ so
+      ap (λ l. l ++ each_line line (drop (i + 1) xs)) puts ∙ append_assoc old (line (get_or xs i d)) (each_line line (drop (i + 1) xs))
+      ∙ ap (λ l. old ++ each_line line l) (sym (drop_more xs i d within)) ∙ so
 
 -- an annotation whose text was written
 pub is_text : {E : Type 0} (v : Version) (r : Result (List ℕ) E) (ann : Ann) → Within (length ann.slots, length ann.notes) → IfOk r (λ b. b ≡ deriv_text v ann)

@@ -10,7 +10,8 @@ use Rattle.pc_deriv.specs.declared.version.Version.{Version}
 use Rattle.pc_deriv.specs.Names.{version_name, rule_name, cap_name, form_name}
 use Rattle.pc_lists.specs.Texts.{line_end}
 use Rattle.pc_deriv.specs.Text.{head_line, slot_line, type_text, mask_text, shown_after, note_line, CountsFit, SlotFits, TypeFits, MaskFits, NoteFits}
-use Rattle.pc_deriv.specs.Reading.{digit_of, after, or_else, beside, version_at, rule_at, cap_at, form_at, number_at, decimal_at, mask_at, head_at, slot_at, some_type_at, type_at, masks_at, note_at}
+use Rattle.pc_deriv.specs.Reading.{digit_of, after_bytes, or_else, beside, version_at, rule_at, cap_at, form_at, number_at, decimal_at, mask_at, head_at}
+use Rattle.pc_deriv.specs.Reading.{read_slot, some_type_at, read_type_or_none, masks_at, note_at}
 use Rattle.pc_lists.specs.Options.{◌>>=◌}
 use Rattle.pc_deriv.proofs.Digits.{ten, sixteen}
 use Rattle.pc_deriv.proofs.NumberReading.{bind_own, number_sound, number_own}
@@ -112,7 +113,7 @@ no_dash : (rest : List ℕ) → some_type_at (codes "- " ++ rest) ≡ None
 unfolding some_type_at decimal_at
 no_dash rest = refl
 
-type_by : (bytes : List ℕ) (ty : Option (ℕ × Form)) (rest : List ℕ) (o : Option (List ℕ)) → after (codes "- ") bytes ≡ o → or_else (beside None o) (some_type_at bytes) ≡ Some (ty, rest)
+type_by : (bytes : List ℕ) (ty : Option (ℕ × Form)) (rest : List ℕ) (o : Option (List ℕ)) → after_bytes (codes "- ") bytes ≡ o → or_else (beside None o) (some_type_at bytes) ≡ Some (ty, rest)
     → TypeFits ty × (bytes ≡ type_text ty ++ (32 ∷ rest))
 type_by bytes ty rest None p e = some_sound bytes ty rest e
 type_by bytes ty rest (Some found) p e =
@@ -120,20 +121,20 @@ type_by bytes ty rest (Some found) p e =
     let same : (none, found) ≡ (ty, rest) = same_Some (none, found) (ty, rest) e in
     (subst TypeFits (ap (λ x. x.0) same) tt, after_sound (codes "- ") bytes found p ∙ (λ i. type_text (same i).0 ++ (32 ∷ (same i).1)))
 
-type_own_by : (entity : ℕ) (form : Form) (rest : List ℕ) (o : Option (List ℕ)) → entity < 2 ^ 32 → after (codes "- ") (type_text (Some (entity, form)) ++ (32 ∷ rest)) ≡ o
+type_own_by : (entity : ℕ) (form : Form) (rest : List ℕ) (o : Option (List ℕ)) → entity < 2 ^ 32 → after_bytes (codes "- ") (type_text (Some (entity, form)) ++ (32 ∷ rest)) ≡ o
     → or_else (beside None o) (some_type_at (type_text (Some (entity, form)) ++ (32 ∷ rest))) ≡ Some (Some (entity, form), rest)
 type_own_by entity form rest None small p = some_own entity form rest small
 type_own_by entity form rest (Some found) small p =
     absurd (none_some (sym (ap some_type_at (after_sound (codes "- ") (type_text (Some (entity, form)) ++ (32 ∷ rest)) found p) ∙ no_dash found) ∙ some_own entity form rest small))
 
-type_own : (ty : Option (ℕ × Form)) (rest : List ℕ) → TypeFits ty → type_at (type_text ty ++ (32 ∷ rest)) ≡ Some (ty, rest)
-unfolding type_at
+type_own : (ty : Option (ℕ × Form)) (rest : List ℕ) → TypeFits ty → read_type_or_none (type_text ty ++ (32 ∷ rest)) ≡ Some (ty, rest)
+unfolding read_type_or_none
 type_own None rest f = ap (λ o. or_else (beside None o) (some_type_at (codes "- " ++ rest))) (after_own (codes "- ") rest)
-type_own (Some (entity, form)) rest f = type_own_by entity form rest (after (codes "- ") (type_text (Some (entity, form)) ++ (32 ∷ rest))) f refl
+type_own (Some (entity, form)) rest f = type_own_by entity form rest (after_bytes (codes "- ") (type_text (Some (entity, form)) ++ (32 ∷ rest))) f refl
 
-type_reads : Reads type_at (λ ty rest. type_text ty ++ (32 ∷ rest)) TypeFits
-unfolding type_at
-type_reads = record { sound = λ bytes ty rest e. type_by bytes ty rest (after (codes "- ") bytes) refl e; own = type_own }
+type_reads : Reads read_type_or_none (λ ty rest. type_text ty ++ (32 ∷ rest)) TypeFits
+unfolding read_type_or_none
+type_reads = record { sound = λ bytes ty rest e. type_by bytes ty rest (after_bytes (codes "- ") bytes) refl e; own = type_own }
 
 -- a line before the rest
 onto : (a b r : List ℕ) {c : List ℕ} → b ++ r ≡ c → (a ++ b) ++ r ≡ a ++ c
@@ -170,7 +171,7 @@ head_sound : (bytes : List ℕ) (x : Version × (ℕ × ℕ)) (rest : List ℕ) 
 unfolding head_at
 head_sound bytes x rest e =
     let w = codes "rcap-derivation " in
-    let h = bind_some (after w bytes) version_on (x, rest) e in
+    let h = bind_some (after_bytes w bytes) version_on (x, rest) e in
     let v = bind_some (version_at h.0) (λ v. counts_on v.0 v.1) (x, rest) h.2 in
     let k = both_sound (head_of v.0.0) (decimal_reads 32 refl) (decimal_reads 10 refl) v.0.1 x rest v.2 in
     let fits : HeadFits (head_of v.0.0 k.0 k.1) = (k.3, k.4) in (
@@ -186,31 +187,31 @@ head_own (version, (slots, nodes)) rest f =
     let t = decimal slots ++ (32 ∷ (decimal nodes ++ (10 ∷ rest))) in
     let v = version_name version ++ (32 ∷ t) in
     ap head_at (flat_head w (version_name version) (decimal slots) (decimal nodes) rest)
-    ∙ bind_own (after w (w ++ v)) version_on v (Some ((version, (slots, nodes)), rest)) (after_own w v)
+    ∙ bind_own (after_bytes w (w ++ v)) version_on v (Some ((version, (slots, nodes)), rest)) (after_own w v)
     (bind_own (version_at v) (λ v. counts_on v.0 v.1) (version, t) (Some ((version, (slots, nodes)), rest)) (version_own version t)
     (both_own (head_of version) (decimal_reads 32 refl) (decimal_reads 10 refl) slots nodes rest f.0 f.1))
 
 pub head_reads : Reads head_at (λ x rest. head_text x ++ rest) HeadFits
 head_reads = record { sound = head_sound; own = head_own }
 
-slot_sound : (bytes : List ℕ) (x : ℕ × Cap) (rest : List ℕ) → slot_at bytes ≡ Some (x, rest) → SlotFits x × (bytes ≡ slot_line x ++ rest)
-unfolding slot_at
+slot_sound : (bytes : List ℕ) (x : ℕ × Cap) (rest : List ℕ) → read_slot bytes ≡ Some (x, rest) → SlotFits x × (bytes ≡ slot_line x ++ rest)
+unfolding read_slot
 slot_sound bytes x rest e =
     let w = codes "s " in
-    let h = bind_some (after w bytes) (λ t. decimal_at 32 t >>= (λ a. cap_at a.1 >>= (λ b. Some ((a.0, b.0), b.1)))) (x, rest) e in
+    let h = bind_some (after_bytes w bytes) (λ t. decimal_at 32 t >>= (λ a. cap_at a.1 >>= (λ b. Some ((a.0, b.0), b.1)))) (x, rest) e in
     let k = both_sound (λ (a : ℕ) (b : Cap). (a, b)) (decimal_reads 32 refl) cap_reads h.0 x rest h.2 in
     (subst SlotFits k.2 k.3, after_sound w bytes h.0 h.1 ∙ ap (λ l. w ++ l) k.5 ∙ sym (flat_two w (decimal k.0) (cap_name k.1) rest) ∙ (λ i. slot_line (k.2 i) ++ rest))
 
-slot_own : (x : ℕ × Cap) (rest : List ℕ) → SlotFits x → slot_at (slot_line x ++ rest) ≡ Some (x, rest)
-unfolding slot_at
+slot_own : (x : ℕ × Cap) (rest : List ℕ) → SlotFits x → read_slot (slot_line x ++ rest) ≡ Some (x, rest)
+unfolding read_slot
 slot_own (entity, cap) rest f =
     let w = codes "s " in
     let t = decimal entity ++ (32 ∷ (cap_name cap ++ (10 ∷ rest))) in
-    ap slot_at (flat_two w (decimal entity) (cap_name cap) rest)
-    ∙ bind_own (after w (w ++ t)) (λ t. decimal_at 32 t >>= (λ a. cap_at a.1 >>= (λ b. Some ((a.0, b.0), b.1)))) t (Some ((entity, cap), rest)) (after_own w t)
+    ap read_slot (flat_two w (decimal entity) (cap_name cap) rest)
+    ∙ bind_own (after_bytes w (w ++ t)) (λ t. decimal_at 32 t >>= (λ a. cap_at a.1 >>= (λ b. Some ((a.0, b.0), b.1)))) t (Some ((entity, cap), rest)) (after_own w t)
     (both_own (λ (a : ℕ) (b : Cap). (a, b)) (decimal_reads 32 refl) cap_reads entity cap rest f tt)
 
-pub slot_reads : Reads slot_at (λ x rest. slot_line x ++ rest) SlotFits
+pub slot_reads : Reads read_slot (λ x rest. slot_line x ++ rest) SlotFits
 slot_reads = record { sound = slot_sound; own = slot_own }
 
 -- what is written for the two masks after a node
@@ -229,7 +230,7 @@ abbrev masks_on : Version → Rule → Option (ℕ × Form) → List ℕ → Opt
 masks_on version rule ty text = masks_at 32 text >>= (λ b. masks_at 10 b.1 >>= (λ a. Some (note_of version rule ty b.0 a.0, a.1)))
 
 abbrev type_on : Version → Rule → List ℕ → Option (Note × List ℕ)
-type_on version rule text = type_at text >>= (λ ty. masks_on version rule ty.0 ty.1)
+type_on version rule text = read_type_or_none text >>= (λ ty. masks_on version rule ty.0 ty.1)
 
 abbrev rule_on : Version → List ℕ → Option (Note × List ℕ)
 rule_on version text = rule_at text >>= (λ r. type_on version r.0 r.1)
@@ -246,9 +247,9 @@ note_sound : (version : Version) (bytes : List ℕ) (x : Note) (rest : List ℕ)
 unfolding note_at
 note_sound version bytes x rest e =
     let w = codes "n " in
-    let h = bind_some (after w bytes) (rule_on version) (x, rest) e in
+    let h = bind_some (after_bytes w bytes) (rule_on version) (x, rest) e in
     let r = bind_some (rule_at h.0) (λ r. type_on version r.0 r.1) (x, rest) h.2 in
-    let ty = bind_some (type_at r.0.1) (λ ty. masks_on version r.0.0 ty.0 ty.1) (x, rest) r.2 in
+    let ty = bind_some (read_type_or_none r.0.1) (λ ty. masks_on version r.0.0 ty.0 ty.1) (x, rest) r.2 in
     let m = both_sound (note_of version r.0.0 ty.0.0) (masks_reads 32 refl) (masks_reads 10 refl) ty.0.1 x rest ty.2 in
     let t = type_reads.sound r.0.1 ty.0.0 ty.0.1 ty.1 in
     let n = note_of version r.0.0 ty.0.0 m.0 m.1 in
@@ -274,9 +275,9 @@ note_own version x rest f =
     let again : note_of version x.rule x.ty before after_it ≡ x =
     ap (λ (p : Mask × Mask). let n : Note = record { rule = x.rule; ty = x.ty; live_before = x.live_before; set_before = x.set_before; live_after = p.0; set_after = p.1 } in n) (shown_again version before behind) in
     ap (note_at version) (flat_note w (rule_name x.rule) (type_text x.ty) (mask_text x.live_before) (mask_text x.set_before) (mask_text after_it.0) (mask_text after_it.1) rest)
-    ∙ bind_own (after w (w ++ r)) (rule_on version) r (Some (x, rest)) (after_own w r)
+    ∙ bind_own (after_bytes w (w ++ r)) (rule_on version) r (Some (x, rest)) (after_own w r)
     (bind_own (rule_at r) (λ r. type_on version r.0 r.1) (x.rule, ty) (Some (x, rest)) (rule_own x.rule ty)
-    (bind_own (type_at ty) (λ ty. masks_on version x.rule ty.0 ty.1) (x.ty, m) (Some (x, rest)) (type_own x.ty m f.0)
+    (bind_own (read_type_or_none ty) (λ ty. masks_on version x.rule ty.0 ty.1) (x.ty, m) (Some (x, rest)) (type_own x.ty m f.0)
     (both_own (note_of version x.rule x.ty) (masks_reads 32 refl) (masks_reads 10 refl) before after_it rest f.1.0 fits ∙ ap (λ (n : Note). Some (n, rest)) again)))
 
 pub note_reads : (version : Version) → Reads (note_at version) (λ x rest. note_line version x ++ rest) NoteFits

@@ -9,11 +9,11 @@ use Rattle.pc_caps.specs.declared.capability.Form.{Form}
 use Rattle.pc_caps.specs.declared.capability.Form.TheVariants as form
 use Rattle.pc_ann.specs.declared.annotation.Rule.{Rule}
 use Rattle.pc_ann.specs.declared.annotation.Rule.TheVariants as rule
-use Rattle.pc_deriv.specs.declared.names.TheConstants.{VERSIONS, RULES, CAPS, FORMS}
+use Rattle.pc_deriv.specs.declared.vocabulary.TheConstants.{VERSIONS, RULES, CAPS, FORMS}
 use Rattle.pc_deriv.specs.declared.version.Version.{Version}
 use Rattle.pc_deriv.specs.declared.version.Version.TheVariants as version
 use Rattle.pc_deriv.specs.Names.{version_name, rule_name, cap_name, form_name}
-use Rattle.pc_deriv.specs.Reading.{after, after_word, or_else, beside, named_at, version_at, rule_at, cap_at, form_at}
+use Rattle.pc_deriv.specs.Reading.{after_bytes, after_word, or_else, beside, read_named, version_at, rule_at, cap_at, form_at}
 use Rattle.std.proofs.lemmas.Option.{same_Some}
 use Rattle.pc_lists.proofs.Options.{none_some, bind_some}
 use Rattle.pc_lists.proofs.Prefixes.{begins_own}
@@ -29,32 +29,32 @@ after_by : (word text rest : List ℕ) (t : Bool) → starts_with nat_eq text wo
 after_by word text rest true p e = begins_cut text word p ∙ ap (λ l. word ++ l) (same_Some (drop (length word) text) rest e)
 after_by word text rest false p e = absurd (none_some e)
 
-pub after_sound : (word text rest : List ℕ) → after word text ≡ Some rest → text ≡ word ++ rest
-unfolding after
+pub after_sound : (word text rest : List ℕ) → after_bytes word text ≡ Some rest → text ≡ word ++ rest
+unfolding after_bytes
 after_sound word text rest e = after_by word text rest (starts_with nat_eq text word) refl e
 
 drop_own : (word rest : List ℕ) → drop (length word) (word ++ rest) ≡ rest
 drop_own [] rest = refl
 drop_own (b ∷ word) rest = drop_own word rest
 
-pub after_own : (word rest : List ℕ) → after word (word ++ rest) ≡ Some rest
-unfolding after
+pub after_own : (word rest : List ℕ) → after_bytes word (word ++ rest) ≡ Some rest
+unfolding after_bytes
 after_own word rest = ap (λ t. cond t (Some (drop (length word) (word ++ rest))) None) (begins_own word rest) ∙ ap Some (drop_own word rest)
 
 word_sound : (word : List ℕ) (end : ℕ) (text rest : List ℕ) → after_word word end text ≡ Some rest → text ≡ word ++ (end ∷ rest)
 unfolding after_word
 word_sound word end text rest e =
-    let h = bind_some (after word text) (after (end ∷ [])) rest e in
+    let h = bind_some (after_bytes word text) (after_bytes (end ∷ [])) rest e in
     after_sound word text h.0 h.1 ∙ ap (λ l. word ++ l) (after_sound (end ∷ []) h.0 rest h.2)
 
 named_by : {A : Type 0} (name : A → List ℕ) (end : ℕ) (y : A) (ys : List A) (text : List ℕ) (x : A) (rest : List ℕ) (o : Option (List ℕ)) → after_word (name y) end text ≡ o
-    → or_else (beside y o) (named_at name end ys text) ≡ Some (x, rest) → (named_at name end ys text ≡ Some (x, rest) → text ≡ name x ++ (end ∷ rest)) → text ≡ name x ++ (end ∷ rest)
+    → or_else (beside y o) (read_named name end ys text) ≡ Some (x, rest) → (read_named name end ys text ≡ Some (x, rest) → text ≡ name x ++ (end ∷ rest)) → text ≡ name x ++ (end ∷ rest)
 named_by name end y ys text x rest None p e more = more e
 named_by name end y ys text x rest (Some found) p e more =
     let same : (y, found) ≡ (x, rest) = same_Some (y, found) (x, rest) e in
     word_sound (name y) end text found p ∙ (λ i. name (same i).0 ++ (end ∷ (same i).1))
 
-named_sound : {A : Type 0} (name : A → List ℕ) (end : ℕ) (xs : List A) (text : List ℕ) (x : A) (rest : List ℕ) → named_at name end xs text ≡ Some (x, rest) → text ≡ name x ++ (end ∷ rest)
+named_sound : {A : Type 0} (name : A → List ℕ) (end : ℕ) (xs : List A) (text : List ℕ) (x : A) (rest : List ℕ) → read_named name end xs text ≡ Some (x, rest) → text ≡ name x ++ (end ∷ rest)
 named_sound name end [] text x rest e = absurd (none_some e)
 named_sound name end (y ∷ ys) text x rest e = named_by name end y ys text x rest (after_word (name y) end text) refl e (named_sound name end ys text x rest)
 
@@ -75,12 +75,12 @@ unfolding form_at
 form_sound text x rest e = named_sound form_name 32 FORMS text x rest e
 
 pub version_own : (x : Version) (rest : List ℕ) → version_at (version_name x ++ (32 ∷ rest)) ≡ Some (x, rest)
-unfolding version_at after_word after
+unfolding version_at after_word after_bytes
 version_own version.One rest = refl
 version_own version.Two rest = refl
 
 pub rule_own : (x : Rule) (rest : List ℕ) → rule_at (rule_name x ++ (32 ∷ rest)) ≡ Some (x, rest)
-unfolding rule_at after_word after
+unfolding rule_at after_word after_bytes
 rule_own rule.Number rest = refl
 rule_own rule.Truth rest = refl
 rule_own rule.Text rest = refl
@@ -114,7 +114,7 @@ rule_own rule.Recover rest = refl
 rule_own rule.Body rest = refl
 
 pub cap_own : (x : Cap) (rest : List ℕ) → cap_at (cap_name x ++ (10 ∷ rest)) ≡ Some (x, rest)
-unfolding cap_at after_word after
+unfolding cap_at after_word after_bytes
 cap_own cap.Iso rest = refl
 cap_own cap.Trn rest = refl
 cap_own cap.Ref rest = refl
@@ -123,7 +123,7 @@ cap_own cap.Box rest = refl
 cap_own cap.Tag rest = refl
 
 pub form_own : (x : Form) (rest : List ℕ) → form_at (form_name x ++ (32 ∷ rest)) ≡ Some (x, rest)
-unfolding form_at after_word after
+unfolding form_at after_word after_bytes
 form_own form.IsoE rest = refl
 form_own form.TrnE rest = refl
 form_own form.Iso rest = refl

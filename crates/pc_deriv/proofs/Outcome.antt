@@ -9,11 +9,11 @@ use Rattle.pc_ann.specs.declared.annotation.Ann.{Ann}
 use Rattle.pc_deriv.specs.declared.version.Version.{Version}
 use Rattle.pc_deriv.specs.declared.fault.DerivFault.{DerivFault}
 use Rattle.pc_deriv.specs.declared.fault.DerivFault.TheVariants as fault
-use Rattle.pc_deriv.specs.Limits.{slot_limit, node_limit}
-use Rattle.pc_deriv.specs.Text.{slot_line, note_line, lines, CountsFit, SlotFits, NoteFits}
-use Rattle.pc_deriv.specs.Reading.{head_at, slot_at, note_at}
-use Rattle.pc_deriv.specs.Faults.{Within, IsText, Begins, NoLine, BeginsHead, IsBadLine, bad_head, bad_slot, bad_node, bad_end, IsFault, Refuses}
-use Rattle.pc_deriv.specs.Answers.{Answers}
+use Rattle.pc_deriv.specs.Limits.{derivation_slot_limit, derivation_node_limit}
+use Rattle.pc_deriv.specs.Text.{slot_line, note_line, each_line, CountsFit, SlotFits, NoteFits}
+use Rattle.pc_deriv.specs.Reading.{head_at, read_slot, note_at}
+use Rattle.pc_deriv.specs.Faults.{Within, IsText, BeginsLine, NoLine, BeginsHead, IsBadLine, bad_head, bad_slot, bad_node, bad_end, IsFault, RefusesDerivation}
+use Rattle.pc_deriv.specs.Answers.{AnswersDerivation}
 use Rattle.pc_deriv.proofs.LineReading.{Reads, head_text, HeadFits, head_reads, slot_reads, note_reads}
 
 -- one more, and the later ones
@@ -35,14 +35,14 @@ module _ {A : Type 0} (read : List ℕ → Option (A × List ℕ)) (line : A →
   no_read : (text : List ℕ) → NoLine line Fits text → read text ≡ None
   no_read text h = none_by read line Fits reads text (read text) h refl
 
-  many_are : (xs : List A) (n : ℕ) (text rest : List ℕ) → AllByRecursion Fits xs → text ≡ lines line xs ++ rest → length xs ≤ n → (length xs ≡ n) ⊎ (read rest ≡ None) → many read n text ≡ (xs, rest)
+  many_are : (xs : List A) (n : ℕ) (text rest : List ℕ) → AllByRecursion Fits xs → text ≡ each_line line xs ++ rest → length xs ≤ n → (length xs ≡ n) ⊎ (read rest ≡ None) → many read n text ≡ (xs, rest)
   many_are [] zero text rest fit cut less ends = ap (λ (l : List ℕ). ([], l)) cut
   many_are [] (suc n) text rest fit cut less (inl e) = absurd (omega (arith, e))
   many_are [] (suc n) text rest fit cut less (inr e) = ap (λ l. one_more l (many read n) (read l)) cut ∙ ap (one_more rest (many read n)) e
   many_are (x ∷ xs) zero text rest fit cut less ends = absurd (omega (arith, less))
   many_are (x ∷ xs) (suc n) text rest fit cut less ends =
-      let after = lines line xs ++ rest in
-      let first : read text ≡ Some (x, after) = ap read (cut ∙ append_assoc (line x) (lines line xs) rest) ∙ reads.own x after fit.0 in
+      let after = each_line line xs ++ rest in
+      let first : read text ≡ Some (x, after) = ap read (cut ∙ append_assoc (line x) (each_line line xs) rest) ∙ reads.own x after fit.0 in
       let more : (length xs ≡ n) ⊎ (read rest ≡ None) = shorter ends in
       ap (one_more text (many read n)) first ∙ ap (λ (r : List A × List ℕ). (x ∷ r.0, r.1)) (many_are xs n after rest fit.1 refl (omega (arith, less)) more)
     where
@@ -50,10 +50,10 @@ module _ {A : Type 0} (read : List ℕ → Option (A × List ℕ)) (line : A →
       shorter (inl e) = inl (omega (arith, e))
       shorter (inr e) = inr e
 
-  some_read : (n : ℕ) (text : List ℕ) (xs : List A) (rest : List ℕ) → Begins line Fits text xs rest → length xs ≡ n → many read n text ≡ (xs, rest)
+  some_read : (n : ℕ) (text : List ℕ) (xs : List A) (rest : List ℕ) → BeginsLine line Fits text xs rest → length xs ≡ n → many read n text ≡ (xs, rest)
   some_read n text xs rest so e = many_are xs n text rest so.fit so.cut (omega (arith, e)) (inl e)
 
-  few_read : (n : ℕ) (text : List ℕ) (xs : List A) (rest : List ℕ) → Begins line Fits text xs rest → length xs < n → NoLine line Fits rest → many read n text ≡ (xs, rest)
+  few_read : (n : ℕ) (text : List ℕ) (xs : List A) (rest : List ℕ) → BeginsLine line Fits text xs rest → length xs < n → NoLine line Fits rest → many read n text ≡ (xs, rest)
   few_read n text xs rest so e h = many_are xs n text rest so.fit so.cut (omega (arith, e)) (inr (no_read rest h))
 
 -- an annotation, and the version of its text
@@ -72,7 +72,7 @@ slots_on v counts r = cond (nat_lt (length r.0) counts.0) (Err (fault.BadLine (l
 
 abbrev head_on : Option ((Version × (ℕ × ℕ)) × List ℕ) → Read
 head_on None = Err (fault.BadLine 1)
-head_on (Some ((v, counts), text)) = cond (nat_le counts.0 slot_limit && nat_le counts.1 node_limit) (slots_on v counts (many slot_at counts.0 text)) (Err fault.TooMany)
+head_on (Some ((v, counts), text)) = cond (nat_le counts.0 derivation_slot_limit && nat_le counts.1 derivation_node_limit) (slots_on v counts (many read_slot counts.0 text)) (Err fault.TooMany)
 
 -- what a text is read as
 abbrev outcome : List ℕ → Read
@@ -84,14 +84,15 @@ not_less n m e = grind (arith, nat_tests)
 less : (n m : ℕ) → n < m → nat_lt n m ≡ true
 less n m h = grind (arith, nat_tests)
 
-both_within : (a b : ℕ) → a ≤ slot_limit → b ≤ node_limit → (nat_le a slot_limit && nat_le b node_limit) ≡ true
+both_within : (a b : ℕ) → a ≤ derivation_slot_limit → b ≤ derivation_node_limit
+    → (nat_le a derivation_slot_limit && nat_le b derivation_node_limit) ≡ true
 both_within a b p q = grind (arith, nat_tests)
 
-not_within_by : (a b : ℕ) (t : Bool) → (nat_le a slot_limit && nat_le b node_limit) ≡ t → (Within (a, b) → ⊥) → t ≡ false
+not_within_by : (a b : ℕ) (t : Bool) → (nat_le a derivation_slot_limit && nat_le b derivation_node_limit) ≡ t → (Within (a, b) → ⊥) → t ≡ false
 not_within_by a b false e h = refl
 not_within_by a b true e h =
-    let p : a ≤ slot_limit = grind (arith, nat_tests) in
-    let q : b ≤ node_limit = grind (arith, nat_tests) in
+    let p : a ≤ derivation_slot_limit = grind (arith, nat_tests) in
+    let q : b ≤ derivation_node_limit = grind (arith, nat_tests) in
     absurd (h (p, q))
 
 module _ (bytes : List ℕ) (v : Version) (a b : ℕ) (text : List ℕ) (head : BeginsHead bytes v (a, b) text) where
@@ -99,25 +100,25 @@ module _ (bytes : List ℕ) (v : Version) (a b : ℕ) (text : List ℕ) (head : 
   head_read = ap head_on (ap head_at head.1 ∙ head_reads.own (v, (a, b)) text head.0)
 
   over : (Within (a, b) → ⊥) → outcome bytes ≡ Err fault.TooMany
-  over h = head_read ∙ ap (λ t. cond t (slots_on v (a, b) (many slot_at a text)) (Err fault.TooMany)) (not_within_by a b (nat_le a slot_limit && nat_le b node_limit) refl h)
+  over h = head_read ∙ ap (λ t. cond t (slots_on v (a, b) (many read_slot a text)) (Err fault.TooMany)) (not_within_by a b (nat_le a derivation_slot_limit && nat_le b derivation_node_limit) refl h)
 
   module _ (w : Within (a, b)) where
-    under : outcome bytes ≡ slots_on v (a, b) (many slot_at a text)
-    under = head_read ∙ ap (λ t. cond t (slots_on v (a, b) (many slot_at a text)) (Err fault.TooMany)) (both_within a b w.0 w.1)
+    under : outcome bytes ≡ slots_on v (a, b) (many read_slot a text)
+    under = head_read ∙ ap (λ t. cond t (slots_on v (a, b) (many read_slot a text)) (Err fault.TooMany)) (both_within a b w.0 w.1)
 
-    module _ (slots : List (ℕ × Cap)) (mid : List ℕ) (so : Begins slot_line SlotFits text slots mid) where
+    module _ (slots : List (ℕ × Cap)) (mid : List ℕ) (so : BeginsLine slot_line SlotFits text slots mid) where
       slot_bad : length slots < a → NoLine slot_line SlotFits mid → outcome bytes ≡ Err (fault.BadLine (length slots + 2))
       slot_bad h none =
-          under ∙ ap (slots_on v (a, b)) (few_read slot_at slot_line SlotFits slot_reads a text slots mid so h none)
+          under ∙ ap (slots_on v (a, b)) (few_read read_slot slot_line SlotFits slot_reads a text slots mid so h none)
           ∙ ap (λ t. cond t (Err (fault.BadLine (length slots + 2))) (notes_on v (a, b) slots (many (note_at v) b mid))) (less (length slots) a h)
 
       module _ (full : length slots ≡ a) where
         slots_read : outcome bytes ≡ notes_on v (a, b) slots (many (note_at v) b mid)
         slots_read =
-            under ∙ ap (slots_on v (a, b)) (some_read slot_at slot_line SlotFits slot_reads a text slots mid so full)
+            under ∙ ap (slots_on v (a, b)) (some_read read_slot slot_line SlotFits slot_reads a text slots mid so full)
             ∙ ap (λ t. cond t (Err (fault.BadLine (length slots + 2))) (notes_on v (a, b) slots (many (note_at v) b mid))) (not_less (length slots) a full)
 
-        module _ (notes : List Note) (rest : List ℕ) (on : Begins (note_line v) NoteFits mid notes rest) where
+        module _ (notes : List Note) (rest : List ℕ) (on : BeginsLine (note_line v) NoteFits mid notes rest) where
           note_bad : length notes < b → NoLine (note_line v) NoteFits rest → outcome bytes ≡ Err (fault.BadLine (a + length notes + 2))
           note_bad h none =
               slots_read ∙ ap (notes_on v (a, b) slots) (few_read (note_at v) (note_line v) NoteFits (note_reads v) b mid notes rest on h none)
@@ -136,9 +137,9 @@ pub text_outcome : (bytes : List ℕ) (ann : Ann) → (is : IsText bytes ann) �
 text_outcome bytes ann is =
     let a = length ann.slots in
     let b = length ann.notes in
-    let mid = lines (note_line is.version) ann.notes in
+    let mid = each_line (note_line is.version) ann.notes in
     let fits : CountsFit (a, b) = (omega (arith, is.within.0), omega (arith, is.within.1)) in
-    notes_read bytes is.version a b (lines slot_line ann.slots ++ mid) (fits, is.same) is.within ann.slots mid (record { fit = is.slots; cut = refl }) refl ann.notes [] (record { fit = is.notes; cut = sym (append-nil mid) }) refl
+    notes_read bytes is.version a b (each_line slot_line ann.slots ++ mid) (fits, is.same) is.within ann.slots mid (record { fit = is.slots; cut = refl }) refl ann.notes [] (record { fit = is.notes; cut = sym (append-nil mid) }) refl
 
 bad_outcome : (bytes : List ℕ) (n : ℕ) → IsBadLine bytes n → outcome bytes ≡ Err (fault.BadLine n)
 bad_outcome bytes n (bad_head none e) =
@@ -185,13 +186,13 @@ pub no_fault : (bytes : List ℕ) (ann : Ann) (f : DerivFault) → IsText bytes 
 no_fault bytes ann f p q = ok_err (outcome bytes) (p.version, ann) f (text_outcome bytes ann p) (fault_outcome bytes f q)
 
 -- what is returned if the bytes are a text, and if they have a fault
-pub answers_text : (bytes : List ℕ) (result : Result Ann DerivFault) (ann : Ann) → IfOk result (IsText bytes) → IfErr result (Refuses bytes) → IsText bytes ann → Answers result (Ok ann)
+pub answers_text : (bytes : List ℕ) (result : Result Ann DerivFault) (ann : Ann) → IfOk result (IsText bytes) → IfErr result (RefusesDerivation bytes) → IsText bytes ann → AnswersDerivation result (Ok ann)
 answers_text bytes (Ok other) ann ok err is = inl (ap Ok (one_annotation bytes other ann ok is))
 answers_text bytes (Err fault.Memory) ann ok err is = inr refl
 answers_text bytes (Err fault.TooMany) ann ok err is = absurd (no_fault bytes ann fault.TooMany is err)
 answers_text bytes (Err (fault.BadLine n)) ann ok err is = absurd (no_fault bytes ann (fault.BadLine n) is err)
 
-pub answers_fault : (bytes : List ℕ) (result : Result Ann DerivFault) (f : DerivFault) → IfOk result (IsText bytes) → IfErr result (Refuses bytes) → IsFault bytes f → Answers result (Err f)
+pub answers_fault : (bytes : List ℕ) (result : Result Ann DerivFault) (f : DerivFault) → IfOk result (IsText bytes) → IfErr result (RefusesDerivation bytes) → IsFault bytes f → AnswersDerivation result (Err f)
 answers_fault bytes (Ok other) f ok err is = absurd (no_fault bytes other f ok is)
 answers_fault bytes (Err fault.Memory) f ok err is = inr refl
 answers_fault bytes (Err fault.TooMany) f ok err is = inl (ap Err (one_fault bytes fault.TooMany f err is))

@@ -4,9 +4,10 @@ use Rattle.std.proofs.lemmas.Bool.{true≢false, eqb-true}
 use Rattle.std.specs.List.{AllByRecursion}
 use Rattle.pc_caps.specs.declared.capability.Cap.{Cap}
 use Rattle.pc_ann.specs.declared.annotation.Note.{Note}
-use Rattle.pc_deriv.specs.Text.{head_line, slot_line, note_line, lines, SlotFits, NoteFits}
-use Rattle.pc_deriv.specs.Reading.{head_at, slot_at, note_at}
-use Rattle.pc_deriv.specs.Faults.{Within, IsText, Begins, NoLine, BeginsHead, IsBadLine, bad_head, bad_slot, bad_node, bad_end, IsTooMany, Refuses}
+use Rattle.pc_deriv.specs.Text.{head_line, slot_line, note_line, each_line, SlotFits, NoteFits}
+use Rattle.pc_deriv.specs.Reading.{head_at, read_slot, note_at}
+use Rattle.pc_deriv.specs.Faults.{Within, IsText, BeginsLine, NoLine, BeginsHead, IsBadLine, bad_head, bad_slot, bad_node, bad_end, IsTooMany}
+use Rattle.pc_deriv.specs.Faults.{RefusesDerivation}
 use Rattle.pc_deriv.specs.declared.version.Version.{Version}
 use Rattle.pc_deriv.specs.declared.fault.DerivFault.{DerivFault}
 use Rattle.pc_deriv.specs.declared.fault.DerivFault.TheVariants as fault
@@ -14,47 +15,47 @@ use Rattle.pc_deriv.specs.Stops.{StopsEarly, SlotsStop, NotesStop}
 use Rattle.pc_lists.proofs.Options.{none_some}
 use Rattle.pc_deriv.proofs.LineReading.{Reads, head_text, HeadFits, head_reads, slot_reads, note_reads}
 
-lines_app : {A : Type 0} (line : A → List ℕ) (xs : List A) (x : A) (rest : List ℕ) → lines line (xs ++ x ∷ []) ++ rest ≡ lines line xs ++ (line x ++ rest)
+lines_app : {A : Type 0} (line : A → List ℕ) (xs : List A) (x : A) (rest : List ℕ) → each_line line (xs ++ x ∷ []) ++ rest ≡ each_line line xs ++ (line x ++ rest)
 lines_app line [] x rest = ap (λ l. l ++ rest) (append-nil (line x))
 lines_app line (y ∷ ys) x rest =
-    append_assoc (line y) (lines line (ys ++ x ∷ [])) rest ∙ ap (λ l. line y ++ l) (lines_app line ys x rest) ∙ sym (append_assoc (line y) (lines line ys) (line x ++ rest))
+    append_assoc (line y) (each_line line (ys ++ x ∷ [])) rest ∙ ap (λ l. line y ++ l) (lines_app line ys x rest) ∙ sym (append_assoc (line y) (each_line line ys) (line x ++ rest))
 
 pub all_app : {A : Type 0} (P : A → Type 0) (xs : List A) (x : A) → AllByRecursion P xs → P x → AllByRecursion P (xs ++ x ∷ [])
 all_app P [] x h p = (p, tt)
 all_app P (y ∷ ys) x h p = (h.0, all_app P ys x h.1 p)
 
 module _ {A : Type 0} (read : List ℕ → Option (A × List ℕ)) (line : A → List ℕ) (Fits : A → Type 0) (reads : Reads read (λ x rest. line x ++ rest) Fits) where
-  starts_so : (text : List ℕ) → Begins line Fits text [] text
+  starts_so : (text : List ℕ) → BeginsLine line Fits text [] text
   starts_so text = record { fit = tt; cut = refl }
 
-  goes_on : (text : List ℕ) (xs : List A) (mid : List ℕ) (x : A) (rest : List ℕ) → Begins line Fits text xs mid → read mid ≡ Some (x, rest) → Begins line Fits text (xs ++ x ∷ []) rest
+  goes_on : (text : List ℕ) (xs : List A) (mid : List ℕ) (x : A) (rest : List ℕ) → BeginsLine line Fits text xs mid → read mid ≡ Some (x, rest) → BeginsLine line Fits text (xs ++ x ∷ []) rest
   goes_on text xs mid x rest so e =
       let r = reads.sound mid x rest e in
-      record { fit = all_app Fits xs x so.fit r.0; cut = so.cut ∙ ap (λ l. lines line xs ++ l) r.1 ∙ sym (lines_app line xs x rest) }
+      record { fit = all_app Fits xs x so.fit r.0; cut = so.cut ∙ ap (λ l. each_line line xs ++ l) r.1 ∙ sym (lines_app line xs x rest) }
 
   no_line : (text : List ℕ) → read text ≡ None → NoLine line Fits text
   no_line text h x rest f e = none_some (sym h ∙ ap read e ∙ reads.own x rest f)
 
-  stops_so : (text : List ℕ) (xs : List A) (rest : List ℕ) (before wanted n : ℕ) → Begins line Fits text xs rest → length xs < wanted → read rest ≡ None → n ≡ before + length xs + 2 → StopsEarly line Fits text before wanted n
+  stops_so : (text : List ℕ) (xs : List A) (rest : List ℕ) (before wanted n : ℕ) → BeginsLine line Fits text xs rest → length xs < wanted → read rest ≡ None → n ≡ before + length xs + 2 → StopsEarly line Fits text before wanted n
   stops_so text xs rest before wanted n so less h e = record { read = xs; rest = rest; begins = so; fewer = less; ends = no_line rest h; number = e }
 
-pub no_slot : (text : List ℕ) → Begins slot_line SlotFits text [] text
-no_slot = starts_so slot_at slot_line SlotFits slot_reads
+pub no_slot : (text : List ℕ) → BeginsLine slot_line SlotFits text [] text
+no_slot = starts_so read_slot slot_line SlotFits slot_reads
 
-pub slot_more : (text : List ℕ) (xs : List (ℕ × Cap)) (mid : List ℕ) (x : ℕ × Cap) (rest : List ℕ) → Begins slot_line SlotFits text xs mid → slot_at mid ≡ Some (x, rest) → Begins slot_line SlotFits text (xs ++ x ∷ []) rest
-slot_more = goes_on slot_at slot_line SlotFits slot_reads
+pub slot_more : (text : List ℕ) (xs : List (ℕ × Cap)) (mid : List ℕ) (x : ℕ × Cap) (rest : List ℕ) → BeginsLine slot_line SlotFits text xs mid → read_slot mid ≡ Some (x, rest) → BeginsLine slot_line SlotFits text (xs ++ x ∷ []) rest
+slot_more = goes_on read_slot slot_line SlotFits slot_reads
 
-pub slot_stops : (text : List ℕ) (xs : List (ℕ × Cap)) (rest : List ℕ) (before wanted n : ℕ) → Begins slot_line SlotFits text xs rest → length xs < wanted → slot_at rest ≡ None → n ≡ before + length xs + 2 → StopsEarly slot_line SlotFits text before wanted n
-slot_stops = stops_so slot_at slot_line SlotFits slot_reads
+pub slot_stops : (text : List ℕ) (xs : List (ℕ × Cap)) (rest : List ℕ) (before wanted n : ℕ) → BeginsLine slot_line SlotFits text xs rest → length xs < wanted → read_slot rest ≡ None → n ≡ before + length xs + 2 → StopsEarly slot_line SlotFits text before wanted n
+slot_stops = stops_so read_slot slot_line SlotFits slot_reads
 
 module _ (v : Version) where
-  pub no_note : (text : List ℕ) → Begins (note_line v) NoteFits text [] text
+  pub no_note : (text : List ℕ) → BeginsLine (note_line v) NoteFits text [] text
   no_note = starts_so (note_at v) (note_line v) NoteFits (note_reads v)
 
-  pub note_more : (text : List ℕ) (xs : List Note) (mid : List ℕ) (x : Note) (rest : List ℕ) → Begins (note_line v) NoteFits text xs mid → note_at v mid ≡ Some (x, rest) → Begins (note_line v) NoteFits text (xs ++ x ∷ []) rest
+  pub note_more : (text : List ℕ) (xs : List Note) (mid : List ℕ) (x : Note) (rest : List ℕ) → BeginsLine (note_line v) NoteFits text xs mid → note_at v mid ≡ Some (x, rest) → BeginsLine (note_line v) NoteFits text (xs ++ x ∷ []) rest
   note_more = goes_on (note_at v) (note_line v) NoteFits (note_reads v)
 
-  pub note_stops : (text : List ℕ) (xs : List Note) (rest : List ℕ) (before wanted n : ℕ) → Begins (note_line v) NoteFits text xs rest → length xs < wanted → note_at v rest ≡ None → n ≡ before + length xs + 2
+  pub note_stops : (text : List ℕ) (xs : List Note) (rest : List ℕ) (before wanted n : ℕ) → BeginsLine (note_line v) NoteFits text xs rest → length xs < wanted → note_at v rest ≡ None → n ≡ before + length xs + 2
       → StopsEarly (note_line v) NoteFits text before wanted n
   note_stops = stops_so (note_at v) (note_line v) NoteFits (note_reads v)
 
@@ -81,21 +82,21 @@ module _ (bytes : List ℕ) where
     bad_slots : (n : ℕ) → Within (a, b) → StopsEarly slot_line SlotFits text 0 a n → IsBadLine bytes n
     bad_slots n w s = bad_slot v begins_head w s.begins s.fewer s.ends (omega (arith, s.number))
 
-    pub slots_refused : (f : DerivFault) → Within (a, b) → SlotsStop text a f → Refuses bytes f
+    pub slots_refused : (f : DerivFault) → Within (a, b) → SlotsStop text a f → RefusesDerivation bytes f
     slots_refused (fault.BadLine n) w s = bad_slots n w s
     slots_refused fault.TooMany w s = absurd s
     slots_refused fault.Memory w s = tt
 
-    module _ (slots : List (ℕ × Cap)) (mid : List ℕ) (w : Within (a, b)) (so : Begins slot_line SlotFits text slots mid) (full : length slots ≡ a) where
+    module _ (slots : List (ℕ × Cap)) (mid : List ℕ) (w : Within (a, b)) (so : BeginsLine slot_line SlotFits text slots mid) (full : length slots ≡ a) where
       bad_notes : (n : ℕ) → StopsEarly (note_line v) NoteFits mid a b n → IsBadLine bytes n
       bad_notes n s = bad_node v begins_head w so full s.begins s.fewer s.ends (omega (arith, s.number))
 
-      pub notes_refused : (f : DerivFault) → NotesStop v mid a b f → Refuses bytes f
+      pub notes_refused : (f : DerivFault) → NotesStop v mid a b f → RefusesDerivation bytes f
       notes_refused (fault.BadLine n) s = bad_notes n s
       notes_refused fault.TooMany s = absurd s
       notes_refused fault.Memory s = tt
 
-      module _ (notes : List Note) (rest : List ℕ) (on : Begins (note_line v) NoteFits mid notes rest) (all : length notes ≡ b) where
+      module _ (notes : List Note) (rest : List ℕ) (on : BeginsLine (note_line v) NoteFits mid notes rest) (all : length notes ≡ b) where
         pub bad_rest : (n : ℕ) → 0 < length rest → n ≡ a + b + 2 → IsBadLine bytes n
         bad_rest n some e = bad_end v begins_head w so full on all some e
 
@@ -106,5 +107,5 @@ module _ (bytes : List ℕ) where
           notes = on.fit;
           within = (omega (arith, w.0, full), omega (arith, w.1, all));
           same = begins_head.1 ∙ (λ i. head_line v (sym full i, sym all i) ++ text)
-              ∙ ap (λ l. head_line v (length slots, length notes) ++ l) (so.cut ∙ ap (λ l. lines slot_line slots ++ l) (on.cut ∙ ap (λ l. lines (note_line v) notes ++ l) none ∙ append-nil (lines (note_line v) notes)));
+              ∙ ap (λ l. head_line v (length slots, length notes) ++ l) (so.cut ∙ ap (λ l. each_line slot_line slots ++ l) (on.cut ∙ ap (λ l. each_line (note_line v) notes ++ l) none ∙ append-nil (each_line (note_line v) notes)));
         }

@@ -13,12 +13,13 @@ use Rattle.pc_deriv.specs.declared.version.Version.TheVariants as version
 use Rattle.pc_deriv.specs.declared.line.Line.{Line}
 use Rattle.pc_deriv.specs.declared.line.Line.TheVariants as line
 use Rattle.pc_deriv.specs.declared.line.LineFault.TheVariants as fault
-use Rattle.pc_deriv.specs.Limits.{slot_limit, node_limit}
+use Rattle.pc_deriv.specs.Limits.{derivation_slot_limit, derivation_node_limit}
 use Rattle.pc_deriv.specs.Names.{version_number}
-use Rattle.pc_deriv.specs.Text.{head_line, slot_line, note_line, lines, CountsFit, SlotFits, NoteFits}
-use Rattle.pc_deriv.specs.Reading.{head_at, slot_at, note_at}
+use Rattle.pc_deriv.specs.Text.{head_line, slot_line, note_line, each_line, CountsFit, SlotFits, NoteFits}
+use Rattle.pc_deriv.specs.Reading.{head_at, read_slot, note_at}
 use Rattle.pc_deriv.specs.Faults.{Within, IsText, NoLine, IsBadLine, bad_head, bad_slot, bad_node, bad_end, IsTooMany}
-use Rattle.pc_deriv.specs.Lines.{longest_line, head_in, slot_in, node_in, line_in, within_limits, version_of, version_with, counts_with, is_whole, slot_of, lines_of}
+use Rattle.pc_deriv.specs.Lines.{longest_line, head_in, slot_line_in, node_in, line_in, within_limits, version_of, version_with, counts_with, is_whole}
+use Rattle.pc_deriv.specs.Lines.{line_of_slot, lines_of}
 use Rattle.pc_deriv.specs.Pieces.{NoEnd}
 use Rattle.pc_lists.proofs.Options.{none_some}
 use Rattle.pc_deriv.proofs.Reached.{all_app}
@@ -33,10 +34,10 @@ pub record InSlots (v : Version) (counts : ℕ × ℕ) (prefix : List ℕ) (ls :
   pub fits : CountsFit counts
   pub within : Within counts
   pub fit : AllByRecursion SlotFits slots
-  pub is : prefix ≡ head_line v counts ++ lines slot_line slots
+  pub is : prefix ≡ head_line v counts ++ each_line slot_line slots
   pub fewer : length slots < counts.0
   pub number : ended ≡ length slots + 1
-  pub said : ls ≡ line.Head (version_number v) counts.0 counts.1 ∷ map slot_of slots
+  pub said : ls ≡ line.Head (version_number v) counts.0 counts.1 ∷ map line_of_slot slots
 
 -- all slots, and this number of nodes
 pub record InNotes (v : Version) (counts : ℕ × ℕ) (prefix : List ℕ) (ls : List Line) (ended : ℕ) : Type 0 where
@@ -46,11 +47,11 @@ pub record InNotes (v : Version) (counts : ℕ × ℕ) (prefix : List ℕ) (ls :
   pub within : Within counts
   pub fit : AllByRecursion SlotFits slots
   pub note_fit : AllByRecursion NoteFits notes
-  pub is : prefix ≡ head_line v counts ++ (lines slot_line slots ++ lines (note_line v) notes)
+  pub is : prefix ≡ head_line v counts ++ (each_line slot_line slots ++ each_line (note_line v) notes)
   pub full : length slots ≡ counts.0
   pub few : length notes ≤ counts.1
   pub number : ended ≡ counts.0 + length notes + 1
-  pub said : ls ≡ line.Head (version_number v) counts.0 counts.1 ∷ (map slot_of slots ++ map line.Node notes)
+  pub said : ls ≡ line.Head (version_number v) counts.0 counts.1 ∷ (map line_of_slot slots ++ map line.Node notes)
 
 pub data Place (v : Version) (counts : Option (ℕ × ℕ)) (prefix : List ℕ) (ls : List Line) (ended : ℕ) : Type 0 where
   at_first : counts ≡ None → prefix ≡ [] → ls ≡ [] → ended ≡ 0 → Place v counts prefix ls ended
@@ -85,9 +86,9 @@ mapped_some : {A B : Type 0} (f : A → B) (o : Option A) (y : B) → option_map
 mapped_some f None y e = absurd (none_some e)
 mapped_some f (Some x) y e = (x, refl, same_Some (f x) y e)
 
-lines_push : {A : Type 0} (text : A → List ℕ) (xs : List A) (x : A) → lines text (xs ++ x ∷ []) ≡ lines text xs ++ text x
+lines_push : {A : Type 0} (text : A → List ℕ) (xs : List A) (x : A) → each_line text (xs ++ x ∷ []) ≡ each_line text xs ++ text x
 lines_push text [] x = append-nil (text x)
-lines_push text (y ∷ ys) x = ap (λ l. text y ++ l) (lines_push text ys x) ∙ sym (append_assoc (text y) (lines text ys) (text x))
+lines_push text (y ∷ ys) x = ap (λ l. text y ++ l) (lines_push text ys x) ∙ sym (append_assoc (text y) (each_line text ys) (text x))
 
 map_push : {A B : Type 0} (f : A → B) (xs : List A) (x : A) → map f (xs ++ x ∷ []) ≡ map f xs ++ f x ∷ []
 map_push f [] x = refl
@@ -111,19 +112,19 @@ version_again : (v : Version) → version_of (version_number v) ≡ v
 version_again version.One = refl
 version_again version.Two = refl
 
-past_by : (a b : ℕ) (t : Bool) → (nat_le a slot_limit && nat_le b node_limit) ≡ t → t ≡ false → Within (a, b) → ⊥
+past_by : (a b : ℕ) (t : Bool) → (nat_le a derivation_slot_limit && nat_le b derivation_node_limit) ≡ t → t ≡ false → Within (a, b) → ⊥
 past_by a b t p e w =
-    let first : nat_le a slot_limit ≡ true = le_true a slot_limit w.0 in
-    let second : nat_le b node_limit ≡ true = le_true b node_limit w.1 in
+    let first : nat_le a derivation_slot_limit ≡ true = le_true a derivation_slot_limit w.0 in
+    let second : nat_le b derivation_node_limit ≡ true = le_true b derivation_node_limit w.1 in
     true≢false (sym (ap₂ (λ x y. x && y) first second) ∙ p ∙ e)
 
-within_by : (a b : ℕ) → (nat_le a slot_limit && nat_le b node_limit) ≡ true → Within (a, b)
+within_by : (a b : ℕ) → (nat_le a derivation_slot_limit && nat_le b derivation_node_limit) ≡ true → Within (a, b)
 within_by a b e =
-    let h = and_parts (nat_le a slot_limit) (nat_le b node_limit) e in
+    let h = and_parts (nat_le a derivation_slot_limit) (nat_le b derivation_node_limit) e in
     let first = h.0 in
     let second = h.1 in
-    let p : a ≤ slot_limit = grind (arith, nat_tests) in
-    let q : b ≤ node_limit = grind (arith, nat_tests) in
+    let p : a ≤ derivation_slot_limit = grind (arith, nat_tests) in
+    let q : b ≤ derivation_node_limit = grind (arith, nat_tests) in
     (p, q)
 
 behind_head : (v : Version) (a b : ℕ) (prefix : List ℕ) (ls : List Line) (ended : ℕ) → CountsFit (a, b) → Within (a, b) → prefix ≡ head_line v (a, b) → ls ≡ line.Head (version_number v) a b ∷ [] → ended ≡ 1 → Place v (Some (a, b)) prefix ls ended
@@ -145,7 +146,7 @@ behind_head v a b prefix ls ended fits w is said number = elim (cases_lt 0 a) [
 ]
 
 module _ (v : Version) where
-  head_by : (pending : List ℕ) (x : Version × (ℕ × ℕ)) (t : Bool) → (nat_le x.1.0 slot_limit && nat_le x.1.1 node_limit) ≡ t → NoEnd pending → HeadFits x → pending ++ 10 ∷ [] ≡ head_text x
+  head_by : (pending : List ℕ) (x : Version × (ℕ × ℕ)) (t : Bool) → (nat_le x.1.0 derivation_slot_limit && nat_le x.1.1 derivation_node_limit) ≡ t → NoEnd pending → HeadFits x → pending ++ 10 ∷ [] ≡ head_text x
       → Took v None [] [] 0 pending (line.Head (version_number x.0) x.1.0 x.1.1)
   head_by pending x true p none fits is =
       let l = line.Head (version_number x.0) x.1.0 x.1.1 in
@@ -161,7 +162,8 @@ module _ (v : Version) where
   head_line_of pending l none e =
       let m = mapped_some head_of (head_at (pending ++ 10 ∷ [])) l e in
       let h = is_line head_at head_text HeadFits head_reads head_framed pending m.0.0 m.0.1 none m.1 in
-      subst (Took v None [] [] 0 pending) m.2 (head_by pending m.0.0 (nat_le m.0.0.1.0 slot_limit && nat_le m.0.0.1.1 node_limit) refl none h.0 h.1)
+      subst (Took v None [] [] 0 pending) m.2
+          (head_by pending m.0.0 (nat_le m.0.0.1.0 derivation_slot_limit && nat_le m.0.0.1.1 derivation_node_limit) refl none h.0 h.1)
 
   first_stage : Stage v None [] [] 0
   first_stage = record {
@@ -177,26 +179,26 @@ abbrev slot_read : (ℕ × Cap) × List ℕ → Line
 slot_read r = line.Slot r.0.0 r.0.1
 
 module _ (v : Version) (counts : ℕ × ℕ) (prefix : List ℕ) (ls : List Line) (ended : ℕ) (so : InSlots v counts prefix ls ended) where
-  slot_cut : (rest : List ℕ) → prefix ++ rest ≡ head_line v counts ++ (lines slot_line so.slots ++ rest)
-  slot_cut rest = ap (λ l. l ++ rest) so.is ∙ append_assoc (head_line v counts) (lines slot_line so.slots) rest
+  slot_cut : (rest : List ℕ) → prefix ++ rest ≡ head_line v counts ++ (each_line slot_line so.slots ++ rest)
+  slot_cut rest = ap (λ l. l ++ rest) so.is ∙ append_assoc (head_line v counts) (each_line slot_line so.slots) rest
 
   slot_bad : (rest : List ℕ) → NoLine slot_line SlotFits rest → IsBadLine (prefix ++ rest) (ended + 1)
   slot_bad rest none = bad_slot v (so.fits, slot_cut rest) so.within (record { fit = so.fit; cut = refl }) so.fewer none (omega (arith, so.number))
 
-  slot_stands : (l : List ℕ) → line_in v (Some counts) ended l ≡ slot_in l
+  slot_stands : (l : List ℕ) → line_in v (Some counts) ended l ≡ slot_line_in l
   slot_stands l =
       let low = so.number in
       let less = so.fewer in
-      ap (λ t. cond t (slot_in l) (cond (nat_le ended (counts.0 + counts.1)) (node_in v l) None)) (le_true ended counts.0 (omega (arith, low, less)))
+      ap (λ t. cond t (slot_line_in l) (cond (nat_le ended (counts.0 + counts.1)) (node_in v l) None)) (le_true ended counts.0 (omega (arith, low, less)))
 
-  slot_on : (pending : List ℕ) (x : ℕ × Cap) → SlotFits x → pending ++ 10 ∷ [] ≡ slot_line x → Place v (Some counts) (prefix ++ (pending ++ 10 ∷ [])) (ls ++ slot_of x ∷ []) (ended + 1)
+  slot_on : (pending : List ℕ) (x : ℕ × Cap) → SlotFits x → pending ++ 10 ∷ [] ≡ slot_line x → Place v (Some counts) (prefix ++ (pending ++ 10 ∷ [])) (ls ++ line_of_slot x ∷ []) (ended + 1)
   slot_on pending x fits is =
       let slots = so.slots ++ x ∷ [] in
       let size = count_push so.slots x in
       let low = so.number in
       let less = so.fewer in
-      let same : prefix ++ (pending ++ 10 ∷ []) ≡ head_line v counts ++ lines slot_line slots = slot_cut (pending ++ 10 ∷ []) ∙ ap (λ l. head_line v counts ++ (lines slot_line so.slots ++ l)) is ∙ ap (λ l. head_line v counts ++ l) (sym (lines_push slot_line so.slots x)) in
-      let told : ls ++ slot_of x ∷ [] ≡ line.Head (version_number v) counts.0 counts.1 ∷ map slot_of slots = ap (λ l. l ++ slot_of x ∷ []) so.said ∙ ap (λ l. line.Head (version_number v) counts.0 counts.1 ∷ l) (sym (map_push slot_of so.slots x)) in
+      let same : prefix ++ (pending ++ 10 ∷ []) ≡ head_line v counts ++ each_line slot_line slots = slot_cut (pending ++ 10 ∷ []) ∙ ap (λ l. head_line v counts ++ (each_line slot_line so.slots ++ l)) is ∙ ap (λ l. head_line v counts ++ l) (sym (lines_push slot_line so.slots x)) in
+      let told : ls ++ line_of_slot x ∷ [] ≡ line.Head (version_number v) counts.0 counts.1 ∷ map line_of_slot slots = ap (λ l. l ++ line_of_slot x ∷ []) so.said ∙ ap (λ l. line.Head (version_number v) counts.0 counts.1 ∷ l) (sym (map_push line_of_slot so.slots x)) in
       elim (cases_lt (length slots) counts.0) [
         | inl some ↦ in_slots counts refl (record {
           slots = slots;
@@ -215,18 +217,18 @@ module _ (v : Version) (counts : ℕ × ℕ) (prefix : List ℕ) (ls : List Line
           within = so.within;
           fit = all_app SlotFits so.slots x so.fit fits;
           note_fit = tt;
-          is = same ∙ ap (λ l. head_line v counts ++ l) (sym (append-nil (lines slot_line slots)));
+          is = same ∙ ap (λ l. head_line v counts ++ l) (sym (append-nil (each_line slot_line slots)));
           full = omega (arith, all, less, size);
           few = omega arith;
           number = omega (arith, low, all, less, size);
-          said = told ∙ ap (λ l. line.Head (version_number v) counts.0 counts.1 ∷ l) (sym (append-nil (map slot_of slots)));
+          said = told ∙ ap (λ l. line.Head (version_number v) counts.0 counts.1 ∷ l) (sym (append-nil (map line_of_slot slots)));
         })
       ]
 
   slot_line_of : (pending : List ℕ) (l : Line) → NoEnd pending → line_in v (Some counts) ended (pending ++ 10 ∷ []) ≡ Some l → Took v (Some counts) prefix ls ended pending l
   slot_line_of pending l none e =
-      let m = mapped_some slot_read (slot_at (pending ++ 10 ∷ [])) l (sym (slot_stands (pending ++ 10 ∷ [])) ∙ e) in
-      let h = is_line slot_at slot_line SlotFits slot_reads slot_framed pending m.0.0 m.0.1 none m.1 in
+      let m = mapped_some slot_read (read_slot (pending ++ 10 ∷ [])) l (sym (slot_stands (pending ++ 10 ∷ [])) ∙ e) in
+      let h = is_line read_slot slot_line SlotFits slot_reads slot_framed pending m.0.0 m.0.1 none m.1 in
       subst (Took v (Some counts) prefix ls ended pending) m.2 (next refl (slot_on pending m.0.0 h.0 h.1))
 
   slot_open : (pending : List ℕ) → is_whole (Some counts) ended pending ≡ false
@@ -237,10 +239,10 @@ module _ (v : Version) (counts : ℕ × ℕ) (prefix : List ℕ) (ls : List Line
 
   slot_stage : Stage v (Some counts) prefix ls ended
   slot_stage = record {
-    long = λ l more none h. slot_bad (l ++ more) (none_long slot_at slot_line SlotFits slot_reads slot_framed l more none h);
-    no_line = λ pending more none e. slot_bad (pending ++ 10 ∷ more) (none_ended slot_at slot_line SlotFits slot_reads slot_framed pending more none (mapped_none slot_read (slot_at (pending ++ 10 ∷ [])) (sym (slot_stands (pending ++ 10 ∷ [])) ∙ e)));
+    long = λ l more none h. slot_bad (l ++ more) (none_long read_slot slot_line SlotFits slot_reads slot_framed l more none h);
+    no_line = λ pending more none e. slot_bad (pending ++ 10 ∷ more) (none_ended read_slot slot_line SlotFits slot_reads slot_framed pending more none (mapped_none slot_read (read_slot (pending ++ 10 ∷ [])) (sym (slot_stands (pending ++ 10 ∷ [])) ∙ e)));
     line = slot_line_of;
-    closes = λ pending none. subst (Closes (prefix ++ pending) ls (ended + 1)) (sym (slot_open pending)) (slot_bad pending (none_open slot_at slot_line SlotFits slot_reads slot_framed pending none));
+    closes = λ pending none. subst (Closes (prefix ++ pending) ls (ended + 1)) (sym (slot_open pending)) (slot_bad pending (none_open read_slot slot_line SlotFits slot_reads slot_framed pending none));
   }
 
 -- ---- a node, and the end
@@ -249,10 +251,10 @@ abbrev node_read : Note × List ℕ → Line
 node_read r = line.Node r.0
 
 module _ (v : Version) (counts : ℕ × ℕ) (prefix : List ℕ) (ls : List Line) (ended : ℕ) (so : InNotes v counts prefix ls ended) where
-  note_cut : (rest : List ℕ) → prefix ++ rest ≡ head_line v counts ++ (lines slot_line so.slots ++ (lines (note_line v) so.notes ++ rest))
+  note_cut : (rest : List ℕ) → prefix ++ rest ≡ head_line v counts ++ (each_line slot_line so.slots ++ (each_line (note_line v) so.notes ++ rest))
   note_cut rest =
-      ap (λ l. l ++ rest) so.is ∙ append_assoc (head_line v counts) (lines slot_line so.slots ++ lines (note_line v) so.notes) rest
-      ∙ ap (λ l. head_line v counts ++ l) (append_assoc (lines slot_line so.slots) (lines (note_line v) so.notes) rest)
+      ap (λ l. l ++ rest) so.is ∙ append_assoc (head_line v counts) (each_line slot_line so.slots ++ each_line (note_line v) so.notes) rest
+      ∙ ap (λ l. head_line v counts ++ l) (append_assoc (each_line slot_line so.slots) (each_line (note_line v) so.notes) rest)
 
   note_bad : (rest : List ℕ) → length so.notes < counts.1 → NoLine (note_line v) NoteFits rest → IsBadLine (prefix ++ rest) (ended + 1)
   note_bad rest less none = bad_node v (so.fits, note_cut rest) so.within (record { fit = so.fit; cut = refl }) so.full (record { fit = so.note_fit; cut = refl }) less none (omega (arith, so.number))
@@ -266,13 +268,13 @@ module _ (v : Version) (counts : ℕ × ℕ) (prefix : List ℕ) (ls : List Line
   note_stands : (l : List ℕ) → length so.notes < counts.1 → line_in v (Some counts) ended l ≡ node_in v l
   note_stands l less =
       let number = so.number in
-      ap (λ t. cond t (slot_in l) (cond (nat_le ended (counts.0 + counts.1)) (node_in v l) None)) no_slot
+      ap (λ t. cond t (slot_line_in l) (cond (nat_le ended (counts.0 + counts.1)) (node_in v l) None)) no_slot
       ∙ ap (λ t. cond t (node_in v l) None) (le_true ended (counts.0 + counts.1) (omega (arith, number, less)))
 
   none_stands : (l : List ℕ) → length so.notes ≡ counts.1 → line_in v (Some counts) ended l ≡ None
   none_stands l all =
       let number = so.number in
-      ap (λ t. cond t (slot_in l) (cond (nat_le ended (counts.0 + counts.1)) (node_in v l) None)) no_slot
+      ap (λ t. cond t (slot_line_in l) (cond (nat_le ended (counts.0 + counts.1)) (node_in v l) None)) no_slot
       ∙ ap (λ t. cond t (node_in v l) None) (le_false ended (counts.0 + counts.1) (omega (arith, number, all)))
 
   note_on : (pending : List ℕ) (x : Note) → length so.notes < counts.1 → NoteFits x → pending ++ 10 ∷ [] ≡ note_line v x → Place v (Some counts) (prefix ++ (pending ++ 10 ∷ [])) (ls ++ line.Node x ∷ []) (ended + 1)
@@ -287,13 +289,13 @@ module _ (v : Version) (counts : ℕ × ℕ) (prefix : List ℕ) (ls : List Line
         within = so.within;
         fit = so.fit;
         note_fit = all_app NoteFits so.notes x so.note_fit fits;
-        is = note_cut (pending ++ 10 ∷ []) ∙ ap (λ l. head_line v counts ++ (lines slot_line so.slots ++ (lines (note_line v) so.notes ++ l))) is
-            ∙ ap (λ l. head_line v counts ++ (lines slot_line so.slots ++ l)) (sym (lines_push (note_line v) so.notes x));
+        is = note_cut (pending ++ 10 ∷ []) ∙ ap (λ l. head_line v counts ++ (each_line slot_line so.slots ++ (each_line (note_line v) so.notes ++ l))) is
+            ∙ ap (λ l. head_line v counts ++ (each_line slot_line so.slots ++ l)) (sym (lines_push (note_line v) so.notes x));
         full = so.full;
         few = omega (arith, less, size);
         number = omega (arith, number, size);
         said = ap (λ l. l ++ line.Node x ∷ []) so.said
-            ∙ ap (λ l. line.Head (version_number v) counts.0 counts.1 ∷ l) (append_assoc (map slot_of so.slots) (map line.Node so.notes) (line.Node x ∷ []) ∙ ap (λ l. map slot_of so.slots ++ l) (sym (map_push line.Node so.notes x)));
+            ∙ ap (λ l. line.Head (version_number v) counts.0 counts.1 ∷ l) (append_assoc (map line_of_slot so.slots) (map line.Node so.notes) (line.Node x ∷ []) ∙ ap (λ l. map line_of_slot so.slots ++ l) (sym (map_push line.Node so.notes x)));
       })
 
   note_line_of : (pending : List ℕ) (l : Line) → length so.notes < counts.1 → NoEnd pending → line_in v (Some counts) ended (pending ++ 10 ∷ []) ≡ Some l → Took v (Some counts) prefix ls ended pending l
@@ -320,8 +322,8 @@ module _ (v : Version) (counts : ℕ × ℕ) (prefix : List ℕ) (ls : List Line
       let ann : Ann = record { slots = so.slots; notes = so.notes } in
       let counted : (length so.slots, length so.notes) ≡ counts = ap₂ (λ (a : ℕ) (b : ℕ). (a, b)) so.full all in (
         ann,
-        record { version = v; slots = so.fit; notes = so.note_fit; within = subst Within (sym counted) so.within; same = so.is ∙ ap (λ c. head_line v c ++ (lines slot_line so.slots ++ lines (note_line v) so.notes)) (sym counted) },
-        so.said ∙ ap (λ (c : ℕ × ℕ). line.Head (version_number v) c.0 c.1 ∷ (map slot_of so.slots ++ map line.Node so.notes)) (sym counted),
+        record { version = v; slots = so.fit; notes = so.note_fit; within = subst Within (sym counted) so.within; same = so.is ∙ ap (λ c. head_line v c ++ (each_line slot_line so.slots ++ each_line (note_line v) so.notes)) (sym counted) },
+        so.said ∙ ap (λ (c : ℕ × ℕ). line.Head (version_number v) c.0 c.1 ∷ (map line_of_slot so.slots ++ map line.Node so.notes)) (sym counted),
       )
 
   end_closes : (pending : List ℕ) → length so.notes ≡ counts.1 → Closes (prefix ++ pending) ls (ended + 1) (is_whole (Some counts) ended pending)

@@ -7,7 +7,8 @@ use Rattle.pc_deriv.specs.declared.line.Line.{Line}
 use Rattle.pc_deriv.specs.declared.line.LineFault.{LineFault}
 use Rattle.pc_deriv.specs.declared.line.LineFault.TheVariants as fault
 use Rattle.pc_deriv.specs.Faults.{IsText, IsBadLine, IsTooMany, IsFault}
-use Rattle.pc_deriv.specs.Lines.{Taken, nothing_taken, line_in, within_limits, checked, said, behind, answered, kept, took_at, took, one_more, fed, longest_line, is_whole, ended_at, ended_so, lines_of}
+use Rattle.pc_deriv.specs.Lines.{Taken, nothing_taken, line_in, within_limits, checked, line_meaning, behind, answered, with_line_byte, took_at, took}
+use Rattle.pc_deriv.specs.Lines.{with_first_line, fed, longest_line, is_whole, fault_at_end, ended_so, lines_of}
 use Rattle.pc_deriv.specs.Pieces.{NoEnd}
 use Rattle.pc_deriv.specs.Laws.{as_read, IsRead}
 use Rattle.pc_lists.proofs.Options.{none_some}
@@ -27,7 +28,7 @@ pub data Known (bytes : List ℕ) (ls : List Line) (t : Taken) : Type 0 where
 -- ---- one more byte
 
 abbrev Goes : List ℕ → List Line → ℕ → Answer × Taken → Type 0
-Goes bytes ls b r = Known (bytes ++ b ∷ []) (ls ++ one_more r.0 []) r.1
+Goes bytes ls b r = Known (bytes ++ b ∷ []) (ls ++ with_first_line r.0 []) r.1
 
 module _ (bytes : List ℕ) (ls : List Line) (t : Taken) (b : ℕ) (prefix : List ℕ) (place : Place t.version t.counts prefix ls t.ended) (is : bytes ≡ prefix ++ t.pending) (none : NoEnd t.pending) (short : length t.pending < longest_line) (right : t.fault ≡ None) where
   abbrev st : Stage t.version t.counts prefix ls t.ended
@@ -39,7 +40,7 @@ module _ (bytes : List ℕ) (ls : List Line) (t : Taken) (b : ℕ) (prefix : Lis
   here : bytes ++ b ∷ [] ≡ prefix ++ (t.pending ++ b ∷ [])
   here = ap (λ l. l ++ b ∷ []) is ∙ append_assoc prefix t.pending (b ∷ [])
 
-  kept_by : (long : Bool) → (length t.pending + 1 == longest_line) ≡ long → b ≢ 10 → Goes bytes ls b (kept t b long)
+  kept_by : (long : Bool) → (length t.pending + 1 == longest_line) ≡ long → b ≢ 10 → Goes bytes ls b (with_line_byte t b long)
   kept_by true e other =
       let size = length-append t.pending (b ∷ []) in
       let all : length t.pending + 1 ≡ longest_line = eqb-true (length t.pending + 1) longest_line e in
@@ -71,13 +72,14 @@ module _ (bytes : List ℕ) (ls : List Line) (t : Taken) (b : ℕ) (prefix : Lis
     line_by None e = wrong (fault.BadLine (t.ended + 1)) refl (λ more. subst (λ l. IsBadLine l (t.ended + 1)) (sym (further_end more)) (st.no_line t.pending more none e))
     line_by (Some l) e = limits_by l (within_limits l) refl (st.line t.pending l none e)
 
-    end_by : Goes bytes ls b (answered (said t.version t.counts t.ended (t.pending ++ b ∷ [])), behind t (said t.version t.counts t.ended (t.pending ++ b ∷ [])))
+    end_by : Goes bytes ls b (answered (line_meaning t.version t.counts t.ended (t.pending ++ b ∷ [])), behind t (line_meaning t.version t.counts t.ended (t.pending ++ b ∷ [])))
     end_by =
-        subst (λ (l : List ℕ). Goes bytes ls b (answered (said t.version t.counts t.ended l), behind t (said t.version t.counts t.ended l))) (sym ended)
+        subst (λ (l : List ℕ). Goes bytes ls b (answered (line_meaning t.version t.counts t.ended l), behind t (line_meaning t.version t.counts t.ended l)))
+            (sym ended)
         (line_by (line_in t.version t.counts t.ended (t.pending ++ 10 ∷ [])) refl)
 
   went_by : (ends : Bool) → (b == 10) ≡ ends
-      → Goes bytes ls b (cond ends (answered (said t.version t.counts t.ended (t.pending ++ b ∷ [])), behind t (said t.version t.counts t.ended (t.pending ++ b ∷ []))) (kept t b (length t.pending + 1 == longest_line)))
+      → Goes bytes ls b (cond ends (answered (line_meaning t.version t.counts t.ended (t.pending ++ b ∷ [])), behind t (line_meaning t.version t.counts t.ended (t.pending ++ b ∷ []))) (with_line_byte t b (length t.pending + 1 == longest_line)))
   went_by true e = end_by (eqb-true b 10 e)
   went_by false e = kept_by (length t.pending + 1 == longest_line) refl (λ (q : b ≡ 10). true≢false (sym (eq-eqb b 10 q) ∙ e))
 
@@ -96,9 +98,9 @@ run : (bs bytes : List ℕ) (ls : List Line) (t : Taken) → Known bytes ls t �
 run [] bytes ls t k = subst (λ x. Known x (ls ++ []) t) (sym (append-nil bytes)) (subst (λ x. Known bytes x t) (sym (append-nil ls)) k)
 run (b ∷ bs) bytes ls t k =
     let r = took t b in
-    let more = run bs (bytes ++ b ∷ []) (ls ++ one_more r.0 []) r.1 (step bytes ls t b k) in
-    let lines_are : (ls ++ one_more r.0 []) ++ (fed r.1 bs).0 ≡ ls ++ one_more r.0 (fed r.1 bs).0 = append_assoc ls (one_more r.0 []) (fed r.1 bs).0 ∙ ap (λ l. ls ++ l) (sym (more_app r.0 [] (fed r.1 bs).0)) in
-    subst (λ x. Known x (ls ++ one_more r.0 (fed r.1 bs).0) (fed r.1 bs).1) (append_assoc bytes (b ∷ []) bs) (subst (λ x. Known ((bytes ++ b ∷ []) ++ bs) x (fed r.1 bs).1) lines_are more)
+    let more = run bs (bytes ++ b ∷ []) (ls ++ with_first_line r.0 []) r.1 (step bytes ls t b k) in
+    let lines_are : (ls ++ with_first_line r.0 []) ++ (fed r.1 bs).0 ≡ ls ++ with_first_line r.0 (fed r.1 bs).0 = append_assoc ls (with_first_line r.0 []) (fed r.1 bs).0 ∙ ap (λ l. ls ++ l) (sym (more_app r.0 [] (fed r.1 bs).0)) in
+    subst (λ x. Known x (ls ++ with_first_line r.0 (fed r.1 bs).0) (fed r.1 bs).1) (append_assoc bytes (b ∷ []) bs) (subst (λ x. Known ((bytes ++ b ∷ []) ++ bs) x (fed r.1 bs).1) lines_are more)
 
 known : (bytes : List ℕ) → Known bytes (fed nothing_taken bytes).0 (fed nothing_taken bytes).1
 known bytes = run bytes [] [] nothing_taken (going [] (at_first refl refl refl refl) refl tt (omega arith) refl)
@@ -112,8 +114,9 @@ closed bytes ls n false h = h
 ended_known : (bytes : List ℕ) (ls : List Line) (t : Taken) → Known bytes ls t → IsRead bytes ls (ended_so t)
 ended_known bytes ls t (going prefix place is none short right) =
     let c = (stage t.version t.counts prefix ls t.ended place).closes t.pending none in
-    subst (IsRead bytes ls) (sym (ap (λ o. ended_at o t) right)) (closed bytes ls (t.ended + 1) (is_whole t.counts t.ended t.pending) (subst (λ l. Closes l ls (t.ended + 1) (is_whole t.counts t.ended t.pending)) (sym is) c))
-ended_known bytes ls t (wrong f e h) = subst (IsRead bytes ls) (sym (ap (λ o. ended_at o t) e)) (subst (λ l. IsFault l (as_read f)) (append-nil bytes) (h []))
+    subst (IsRead bytes ls) (sym (ap (λ o. fault_at_end o t) right)) (closed bytes ls (t.ended + 1) (is_whole t.counts t.ended t.pending) (subst (λ l. Closes l ls (t.ended + 1) (is_whole t.counts t.ended t.pending)) (sym is) c))
+ended_known bytes ls t (wrong f e h) =
+    subst (IsRead bytes ls) (sym (ap (λ o. fault_at_end o t) e)) (subst (λ l. IsFault l (as_read f)) (append-nil bytes) (h []))
 
 pub read_whole : (bytes : List ℕ) → IsRead bytes (fed nothing_taken bytes).0 (ended_so (fed nothing_taken bytes).1)
 read_whole bytes = ended_known bytes (fed nothing_taken bytes).0 (fed nothing_taken bytes).1 (known bytes)

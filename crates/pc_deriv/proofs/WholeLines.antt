@@ -10,8 +10,9 @@ use Rattle.pc_deriv.specs.declared.line.Line.{Line}
 use Rattle.pc_deriv.specs.declared.line.Line.TheVariants as line
 use Rattle.pc_deriv.specs.declared.line.LineFault.{LineFault}
 use Rattle.pc_deriv.specs.Text.{slot_line, note_line, SlotFits, NoteFits}
-use Rattle.pc_deriv.specs.Reading.{head_at, slot_at, note_at}
-use Rattle.pc_deriv.specs.Lines.{Taken, slot_in, node_in, line_in, checked, said, behind, answered, kept, took_at, took, one_more, fed, longest_line}
+use Rattle.pc_deriv.specs.Reading.{head_at, read_slot, note_at}
+use Rattle.pc_deriv.specs.Lines.{Taken, slot_line_in, node_in, line_in, checked, line_meaning, behind, answered, with_line_byte, took_at, took, with_first_line}
+use Rattle.pc_deriv.specs.Lines.{fed, longest_line}
 use Rattle.pc_deriv.specs.Front.{counted, head_says, slot_says, front_slot, front_node, front_line}
 use Rattle.pc_deriv.specs.Pieces.{NoEnd, EndsOnce, IsNext}
 use Rattle.pc_lists.proofs.Options.{none_some}
@@ -34,8 +35,8 @@ front_is_in v None ended text = without_count head_says text (head_at text)
 front_is_in v (Some (slots, nodes)) ended text =
     let first : Line × ℕ → Line = λ r. r.0 in
     let none : Option (Line × ℕ) = None in
-    mapped_cond first (nat_le ended slots) (front_slot text) (cond (nat_le ended (slots + nodes)) (front_node v text) none) (slot_in text) (cond (nat_le ended (slots + nodes)) (node_in v text) None)
-    (without_count slot_says text (slot_at text))
+    mapped_cond first (nat_le ended slots) (front_slot text) (cond (nat_le ended (slots + nodes)) (front_node v text) none) (slot_line_in text) (cond (nat_le ended (slots + nodes)) (node_in v text) None)
+    (without_count slot_says text (read_slot text))
     (mapped_cond first (nat_le ended (slots + nodes)) (front_node v text) none (node_in v text) None (without_count line.Node text (note_at v text)) refl)
 
 -- ---- a complete line at the start of a text
@@ -82,8 +83,8 @@ pub stands : (v : Version) (counts : Option (ℕ × ℕ)) (ended : ℕ) (text : 
 stands v None ended text l size e = stands_by head_at head_text HeadFits head_reads head_framed head_says text l size e
 stands v (Some (slots, nodes)) ended text l size e =
     let none : Option (Line × ℕ) = None in
-    cond_stands (nat_le ended slots) (front_slot text) (cond (nat_le ended (slots + nodes)) (front_node v text) none) slot_in (λ bytes. cond (nat_le ended (slots + nodes)) (node_in v bytes) None) text l size e
-    (stands_by slot_at slot_line SlotFits slot_reads slot_framed slot_says text l size)
+    cond_stands (nat_le ended slots) (front_slot text) (cond (nat_le ended (slots + nodes)) (front_node v text) none) slot_line_in (λ bytes. cond (nat_le ended (slots + nodes)) (node_in v bytes) None) text l size e
+    (stands_by read_slot slot_line SlotFits slot_reads slot_framed slot_says text l size)
     (λ f. cond_stands (nat_le ended (slots + nodes)) (front_node v text) none (node_in v) (λ bytes. None) text l size f
     (stands_by (note_at v) (note_line v) NoteFits (note_reads v) (note_framed v) line.Node text l size) (λ g. absurd (none_some g)))
 
@@ -92,10 +93,10 @@ stands v (Some (slots, nodes)) ended text l size e =
 -- bytes that end no line, and do not fill the buffer
 quiet_byte : (t : Taken) (b : ℕ) → t.fault ≡ None → b ≢ 10 → length t.pending + 1 < longest_line → took t b ≡ (Ok None, record t { pending = t.pending ++ b ∷ [] })
 quiet_byte t b right other short =
-    let answer : Result Line LineFault = said t.version t.counts t.ended (t.pending ++ b ∷ []) in
+    let answer : Result Line LineFault = line_meaning t.version t.counts t.ended (t.pending ++ b ∷ []) in
     ap (λ o. took_at o t b) right
-    ∙ ap (λ s. cond s (answered answer, behind t answer) (kept t b (length t.pending + 1 == longest_line))) (ne_eqb b 10 other)
-    ∙ ap (kept t b) (ne_eqb (length t.pending + 1) longest_line (λ e. omega (arith, e, short)))
+    ∙ ap (λ s. cond s (answered answer, behind t answer) (with_line_byte t b (length t.pending + 1 == longest_line))) (ne_eqb b 10 other)
+    ∙ ap (with_line_byte t b) (ne_eqb (length t.pending + 1) longest_line (λ e. omega (arith, e, short)))
 
 fed_quiet : (t : Taken) (bs : List ℕ) → t.fault ≡ None → NoEnd bs → length t.pending + length bs < longest_line → fed t bs ≡ ([], record t { pending = t.pending ++ bs })
 fed_quiet t [] right none short = ap (λ (p : List ℕ). ([], record t { pending = p })) (sym (append-nil t.pending))
@@ -103,7 +104,7 @@ fed_quiet t (b ∷ bs) right none short =
     let one : length (b ∷ bs) ≡ suc (length bs) = refl in
     let u : Taken = record t { pending = t.pending ++ b ∷ [] } in
     let size = length-append t.pending (b ∷ []) in
-    ap (λ (s : Result (Option Line) LineFault × Taken). (one_more s.0 (fed s.1 bs).0, (fed s.1 bs).1)) (quiet_byte t b right none.0 (omega (arith, short, one)))
+    ap (λ (s : Result (Option Line) LineFault × Taken). (with_first_line s.0 (fed s.1 bs).0, (fed s.1 bs).1)) (quiet_byte t b right none.0 (omega (arith, short, one)))
     ∙ fed_quiet u bs right none.1 (omega (arith, short, one, size))
     ∙ ap (λ (p : List ℕ). ([], record t { pending = p })) (append_assoc t.pending (b ∷ []) bs)
 
@@ -117,7 +118,7 @@ module _ (t : Taken) (right : t.fault ≡ None) (fresh : t.pending ≡ []) (says
       ap (λ o. took_at o (record t { pending = front }) 10) right
       ∙ ap (λ (o : Option Line). let r : Result Line LineFault = checked (t.ended + 1) o in (answered r, behind t r)) is
 
-  fed_line : (bytes : List ℕ) → Framed 127 bytes → line_in t.version t.counts t.ended bytes ≡ says → fed t bytes ≡ (one_more (answered answer) [], behind t answer)
+  fed_line : (bytes : List ℕ) → Framed 127 bytes → line_in t.version t.counts t.ended bytes ≡ says → fed t bytes ≡ (with_first_line (answered answer) [], behind t answer)
   fed_line bytes f is =
       let few = f.short in
       let none : length t.pending ≡ 0 = ap length fresh in
@@ -125,7 +126,7 @@ module _ (t : Taken) (right : t.fault ≡ None) (fresh : t.pending ≡ []) (says
       fed_quiet t f.front right f.none (omega (arith, few, none)) ∙ ap (λ (p : List ℕ). ([], record t { pending = p ++ f.front })) fresh in
       ap (fed t) f.is ∙ fed_both t f.front (10 ∷ [])
       ∙ ap (λ (s : List Line × Taken). (s.0 ++ (fed s.1 (10 ∷ [])).0, (fed s.1 (10 ∷ [])).1)) front
-      ∙ ap (λ (s : Result (Option Line) LineFault × Taken). (one_more s.0 [], s.1)) (end_byte f.front (ap (line_in t.version t.counts t.ended) (sym f.is) ∙ is))
+      ∙ ap (λ (s : Result (Option Line) LineFault × Taken). (with_first_line s.0 [], s.1)) (end_byte f.front (ap (line_in t.version t.counts t.ended) (sym f.is) ∙ is))
 
 -- ---- in a piece
 
@@ -133,7 +134,7 @@ module _ (t : Taken) (piece : List ℕ) (at size : ℕ) (l : Line) (right : t.fa
   abbrev verdict : Result Line LineFault
   verdict = checked (t.ended + 1) (Some l)
 
-  taken : fed t so.line ≡ (one_more (answered verdict) [], behind t verdict)
+  taken : fed t so.line ≡ (with_first_line (answered verdict) [], behind t verdict)
   taken = fed_line t right fresh (Some l) so.line so.framed so.same
 
   sizes : length piece - at ≡ size + length so.rest
@@ -159,13 +160,13 @@ module _ (t : Taken) (piece : List ℕ) (at size : ℕ) (l : Line) (right : t.fa
         omega (arith, some),
         omega (arith, all, within),
         subst EndsOnce (sym range) once,
-        ap (fed t) range ∙ taken ∙ ap (λ (r : Result Line LineFault). (one_more (answered r) [], behind t r)) (sym e) ∙ ap (λ (w : Taken). (m ∷ [], w)) (sym is),
+        ap (fed t) range ∙ taken ∙ ap (λ (r : Result Line LineFault). (with_first_line (answered r) [], behind t r)) (sym e) ∙ ap (λ (w : Taken). (m ∷ [], w)) (sym is),
       )
 
   pub whole_fault : (f : LineFault) (u : Taken) → Err f ≡ verdict → u ≡ behind t (Err f) → IsNext t piece at (Err f) u
   whole_fault f u e is =
       let wrong : u.fault ≡ Some f = ap (λ (w : Taken). w.fault) is in
-      let here : fed t so.line ≡ ([], u) = taken ∙ ap (λ (r : Result Line LineFault). (one_more (answered r) [], behind t r)) (sym e) ∙ ap (λ (w : Taken). ([], w)) (sym is) in (
+      let here : fed t so.line ≡ ([], u) = taken ∙ ap (λ (r : Result Line LineFault). (with_first_line (answered r) [], behind t r)) (sym e) ∙ ap (λ (w : Taken). ([], w)) (sym is) in (
         ap (fed t) so.is ∙ fed_both t so.line so.rest ∙ ap (λ (s : List Line × Taken). (s.0 ++ (fed s.1 so.rest).0, (fed s.1 so.rest).1)) here ∙ fed_stays u f so.rest wrong,
         wrong,
       )

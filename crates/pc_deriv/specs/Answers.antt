@@ -5,5 +5,5 @@ use Rattle.pc_deriv.specs.declared.fault.DerivFault.{DerivFault}
 use Rattle.pc_deriv.specs.declared.fault.DerivFault.TheVariants as fault
 
 -- The result is this answer, or memory ran out.
-abbrev pub Answers : Result Ann DerivFault → Result Ann DerivFault → Type 0
-Answers result wanted = (result ≡ wanted) ⊎ (result ≡ Err fault.Memory)
+abbrev pub AnswersDerivation : Result Ann DerivFault → Result Ann DerivFault → Type 0
+AnswersDerivation result wanted = (result ≡ wanted) ⊎ (result ≡ Err fault.Memory)

@@ -2,7 +2,7 @@
 use Rattle.std.specs.Prelude.{ℕ, ◌+◌, ◌-◌, nat_le, List, length, Option, Some, None, option_map, if◌then◌else◌}
 use Rattle.pc_caps.specs.declared.capability.Cap.{Cap}
 use Rattle.pc_deriv.specs.Names.{version_number}
-use Rattle.pc_deriv.specs.Reading.{head_at, slot_at, note_at}
+use Rattle.pc_deriv.specs.Reading.{head_at, read_slot, note_at}
 use Rattle.pc_deriv.specs.declared.version.Version.{Version}
 use Rattle.pc_deriv.specs.declared.line.Line.{Line}
 use Rattle.pc_deriv.specs.declared.line.Line.TheVariants as line
@@ -21,7 +21,7 @@ abbrev pub front_head : List ℕ → Option (Line × ℕ)
 front_head text = counted head_says text (head_at text)
 
 abbrev pub front_slot : List ℕ → Option (Line × ℕ)
-front_slot text = counted slot_says text (slot_at text)
+front_slot text = counted slot_says text (read_slot text)
 
 abbrev pub front_node : Version → List ℕ → Option (Line × ℕ)
 front_node version text = counted line.Node text (note_at version text)

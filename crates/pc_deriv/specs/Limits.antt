@@ -2,8 +2,8 @@
 use Rattle.std.specs.Prelude.{ℕ}
 use Rattle.pc_caps.specs.Limits as program
 
-abbrev pub slot_limit : ℕ
-slot_limit = program.program_slot_limit
+abbrev pub derivation_slot_limit : ℕ
+derivation_slot_limit = program.program_slot_limit
 
-abbrev pub node_limit : ℕ
-node_limit = program.node_limit
+abbrev pub derivation_node_limit : ℕ
+derivation_node_limit = program.node_limit

@@ -1,6 +1,6 @@
 -- The state of the reader of lines.
 use Rattle.std.specs.Prelude.{◌≡◌, ℕ, ◌+◌, ◌<◌, ◌≤◌, length, take, Option, Some, None}
-use Rattle.pc_deriv.specs.Limits.{slot_limit, node_limit}
+use Rattle.pc_deriv.specs.Limits.{derivation_slot_limit, derivation_node_limit}
 use Rattle.pc_deriv.specs.Lines.{Taken, longest_line}
 use Rattle.pc_deriv.specs.declared.line_state.LineState.{LineState}
 
@@ -10,7 +10,7 @@ taken_of s = record { version = s.version; counts = s.counts; ended = s.ended; p
 -- at most as many lines have ended as there are
 abbrev pub Room : Option (ℕ × ℕ) → ℕ → Type 0
 Room None ended = ended ≡ 0
-Room (Some (slots, nodes)) ended = (slots ≤ slot_limit) × (nodes ≤ node_limit) × (ended ≤ slots + nodes + 1)
+Room (Some (slots, nodes)) ended = (slots ≤ derivation_slot_limit) × (nodes ≤ derivation_node_limit) × (ended ≤ slots + nodes + 1)
 
 -- the buffer has room for one more byte
 pub record Sound (s : LineState) : Type 0 where

@@ -2,8 +2,8 @@
 use Rattle.std.specs.Prelude.{ℕ, ◌+◌, ◌==◌, nat_le, Bool, false, ◌&&◌, List, [], ◌∷◌, ◌++◌, length, map, Option, Some, None, option_map, Result, Ok, Err, if◌then◌else◌}
 use Rattle.pc_caps.specs.declared.capability.Cap.{Cap}
 use Rattle.pc_ann.specs.declared.annotation.Ann.{Ann}
-use Rattle.pc_deriv.specs.Limits.{slot_limit, node_limit}
-use Rattle.pc_deriv.specs.Reading.{head_at, slot_at, note_at}
+use Rattle.pc_deriv.specs.Limits.{derivation_slot_limit, derivation_node_limit}
+use Rattle.pc_deriv.specs.Reading.{head_at, read_slot, note_at}
 use Rattle.pc_deriv.specs.Names.{version_number}
 use Rattle.pc_deriv.specs.declared.version.Version.{Version}
 use Rattle.pc_deriv.specs.declared.version.Version.TheVariants as version
@@ -33,8 +33,8 @@ longest_line = 128
 abbrev pub head_in : List ℕ → Option Line
 head_in bytes = option_map (λ r. line.Head (version_number r.0.0) r.0.1.0 r.0.1.1) (head_at bytes)
 
-abbrev pub slot_in : List ℕ → Option Line
-slot_in bytes = option_map (λ r. line.Slot r.0.0 r.0.1) (slot_at bytes)
+abbrev pub slot_line_in : List ℕ → Option Line
+slot_line_in bytes = option_map (λ r. line.Slot r.0.0 r.0.1) (read_slot bytes)
 
 abbrev pub node_in : Version → List ℕ → Option Line
 node_in version bytes = option_map (λ r. line.Node r.0) (note_at version bytes)
@@ -43,11 +43,11 @@ node_in version bytes = option_map (λ r. line.Node r.0) (note_at version bytes)
 -- nodes, and then nothing.
 abbrev pub line_in : Version → Option (ℕ × ℕ) → (ended : ℕ) → List ℕ → Option Line
 line_in version None ended bytes = head_in bytes
-line_in version (Some (slots, nodes)) ended bytes = if nat_le ended slots then slot_in bytes else (if nat_le ended (slots + nodes) then node_in version bytes else None)
+line_in version (Some (slots, nodes)) ended bytes = if nat_le ended slots then slot_line_in bytes else (if nat_le ended (slots + nodes) then node_in version bytes else None)
 
 -- counts that exceed a limit are refused
 abbrev pub within_limits : Line → Result Line LineFault
-within_limits (line.Head version slots nodes) = if nat_le slots slot_limit && nat_le nodes node_limit then Ok (line.Head version slots nodes) else Err fault.TooMany
+within_limits (line.Head version slots nodes) = if nat_le slots derivation_slot_limit && nat_le nodes derivation_node_limit then Ok (line.Head version slots nodes) else Err fault.TooMany
 within_limits (line.Slot entity cap) = Ok (line.Slot entity cap)
 within_limits (line.Node note) = Ok (line.Node note)
 
@@ -57,8 +57,8 @@ checked n None = Err (fault.BadLine n)
 checked n (Some l) = within_limits l
 
 -- the line that these bytes are after `ended` lines, or its fault
-abbrev pub said : Version → Option (ℕ × ℕ) → (ended : ℕ) → List ℕ → Result Line LineFault
-said version counts ended bytes = checked (ended + 1) (line_in version counts ended bytes)
+abbrev pub line_meaning : Version → Option (ℕ × ℕ) → (ended : ℕ) → List ℕ → Result Line LineFault
+line_meaning version counts ended bytes = checked (ended + 1) (line_in version counts ended bytes)
 
 -- the version with this number, which is 1 or 2
 abbrev pub version_of : ℕ → Version
@@ -91,12 +91,13 @@ abbrev pub closed : Taken → Result Line LineFault → Result (Option Line) Lin
 closed t r = (answered r, behind t r)
 
 -- a byte that is no line end: the line becomes longer, or longer than any line may be
-abbrev pub kept : Taken → ℕ → Bool → Result (Option Line) LineFault × Taken
-kept t b long = if long then closed t (Err (fault.BadLine (t.ended + 1))) else (Ok None, record t { pending = t.pending ++ b ∷ [] })
+abbrev pub with_line_byte : Taken → ℕ → Bool → Result (Option Line) LineFault × Taken
+with_line_byte t b long = if long then closed t (Err (fault.BadLine (t.ended + 1))) else (Ok None, record t { pending = t.pending ++ b ∷ [] })
 
 -- the result of a byte if there was no fault before
 abbrev pub went_on : Taken → ℕ → Result (Option Line) LineFault × Taken
-went_on t b = if b == 10 then closed t (said t.version t.counts t.ended (t.pending ++ b ∷ [])) else kept t b (length t.pending + 1 == longest_line)
+went_on t b = if b == 10 then closed t (line_meaning t.version t.counts t.ended (t.pending ++ b ∷ [])) else with_line_byte t b
+    (length t.pending + 1 == longest_line)
 
 -- the result of a byte: after a fault the same fault, and nothing is taken
 abbrev pub took_at : Option LineFault → Taken → ℕ → Result (Option Line) LineFault × Taken
@@ -107,15 +108,15 @@ abbrev pub took : Taken → ℕ → Result (Option Line) LineFault × Taken
 took t b = took_at t.fault t b
 
 -- lines, and one before them
-abbrev pub one_more : Result (Option Line) LineFault → List Line → List Line
-one_more (Ok (Some l)) ls = l ∷ ls
-one_more (Ok None) ls = ls
-one_more (Err f) ls = ls
+abbrev pub with_first_line : Result (Option Line) LineFault → List Line → List Line
+with_first_line (Ok (Some l)) ls = l ∷ ls
+with_first_line (Ok None) ls = ls
+with_first_line (Err f) ls = ls
 
 -- all bytes, one by one: the lines that end in them, and the state after them
 abbrev pub fed : Taken → List ℕ → List Line × Taken
 fed t [] = ([], t)
-fed t (b ∷ bs) = (one_more (took t b).0 (fed (took t b).1 bs).0, (fed (took t b).1 bs).1)
+fed t (b ∷ bs) = (with_first_line (took t b).0 (fed (took t b).1 bs).0, (fed (took t b).1 bs).1)
 
 -- whether all lines have ended, and nothing follows
 abbrev pub is_whole : Option (ℕ × ℕ) → (ended : ℕ) → List ℕ → Bool
@@ -123,16 +124,16 @@ is_whole None ended pending = false
 is_whole (Some (slots, nodes)) ended pending = ended == slots + nodes + 1 && length pending == 0
 
 -- the fault if nothing follows: the fault so far, or else the line that is incomplete
-abbrev pub ended_at : Option LineFault → Taken → Result (Unit {0}) LineFault
-ended_at (Some f) t = Err f
-ended_at None t = if is_whole t.counts t.ended t.pending then Ok tt else Err (fault.BadLine (t.ended + 1))
+abbrev pub fault_at_end : Option LineFault → Taken → Result (Unit {0}) LineFault
+fault_at_end (Some f) t = Err f
+fault_at_end None t = if is_whole t.counts t.ended t.pending then Ok tt else Err (fault.BadLine (t.ended + 1))
 
 abbrev pub ended_so : Taken → Result (Unit {0}) LineFault
-ended_so t = ended_at t.fault t
+ended_so t = fault_at_end t.fault t
 
 -- the lines of an annotation's text in a version
-abbrev pub slot_of : ℕ × Cap → Line
-slot_of (entity, cap) = line.Slot entity cap
+abbrev pub line_of_slot : ℕ × Cap → Line
+line_of_slot (entity, cap) = line.Slot entity cap
 
 abbrev pub lines_of : Version → Ann → List Line
-lines_of version ann = line.Head (version_number version) (length ann.slots) (length ann.notes) ∷ (map slot_of ann.slots ++ map line.Node ann.notes)
+lines_of version ann = line.Head (version_number version) (length ann.slots) (length ann.notes) ∷ (map line_of_slot ann.slots ++ map line.Node ann.notes)

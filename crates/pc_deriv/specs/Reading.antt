@@ -7,19 +7,19 @@ use Rattle.pc_caps.specs.declared.capability.Form.{Form}
 use Rattle.pc_masks.specs.declared.mask.Mask.{Mask}
 use Rattle.pc_ann.specs.declared.annotation.Rule.{Rule}
 use Rattle.pc_ann.specs.declared.annotation.Note.{Note}
-use Rattle.pc_deriv.specs.declared.names.TheConstants.{VERSIONS, RULES, CAPS, FORMS}
+use Rattle.pc_deriv.specs.declared.vocabulary.TheConstants.{VERSIONS, RULES, CAPS, FORMS}
 use Rattle.pc_deriv.specs.declared.version.Version.{Version}
 use Rattle.pc_deriv.specs.Names.{version_name, rule_name, cap_name, form_name}
 use Rattle.pc_deriv.specs.Text.{shown_after}
 use Rattle.pc_lists.specs.Options.{◌>>=◌}
 
 -- what follows these bytes
-unfoldable pub after : List ℕ → List ℕ → Option (List ℕ)
-after word text = if starts_with nat_eq text word then Some (drop (length word) text) else None
+unfoldable pub after_bytes : List ℕ → List ℕ → Option (List ℕ)
+after_bytes word text = if starts_with nat_eq text word then Some (drop (length word) text) else None
 
 -- what follows a word and the byte that ends it
 unfoldable pub after_word : List ℕ → ℕ → List ℕ → Option (List ℕ)
-after_word word end text = after word text >>= after (end ∷ [])
+after_word word end text = after_bytes word text >>= after_bytes (end ∷ [])
 
 -- the first reading, or else the second
 abbrev pub or_else : {A : Type 0} → Option A → Option A → Option A
@@ -32,21 +32,21 @@ beside x None = None
 beside x (Some rest) = Some (x, rest)
 
 -- the first of these whose name, followed by this end, is at the start
-abbrev pub named_at : {A : Type 0} → (A → List ℕ) → ℕ → List A → List ℕ → Option (A × List ℕ)
-named_at name end [] text = None
-named_at name end (x ∷ xs) text = or_else (beside x (after_word (name x) end text)) (named_at name end xs text)
+abbrev pub read_named : {A : Type 0} → (A → List ℕ) → ℕ → List A → List ℕ → Option (A × List ℕ)
+read_named name end [] text = None
+read_named name end (x ∷ xs) text = or_else (beside x (after_word (name x) end text)) (read_named name end xs text)
 
 unfoldable pub version_at : List ℕ → Option (Version × List ℕ)
-version_at = named_at version_name 32 VERSIONS
+version_at = read_named version_name 32 VERSIONS
 
 unfoldable pub rule_at : List ℕ → Option (Rule × List ℕ)
-rule_at = named_at rule_name 32 RULES
+rule_at = read_named rule_name 32 RULES
 
 unfoldable pub cap_at : List ℕ → Option (Cap × List ℕ)
-cap_at = named_at cap_name 10 CAPS
+cap_at = read_named cap_name 10 CAPS
 
 unfoldable pub form_at : List ℕ → Option (Form × List ℕ)
-form_at = named_at form_name 32 FORMS
+form_at = read_named form_name 32 FORMS
 
 -- the digit that a byte denotes
 abbrev pub digit_of : (base byte : ℕ) → Option ℕ
@@ -79,15 +79,15 @@ mask_at end text = do
 
 unfoldable pub head_at : List ℕ → Option ((Version × (ℕ × ℕ)) × List ℕ)
 head_at text = do
-  t ← after (codes "rcap-derivation ") text
+  t ← after_bytes (codes "rcap-derivation ") text
   v ← version_at t
   a ← decimal_at 32 v.1
   b ← decimal_at 10 a.1
   Some ((v.0, (a.0, b.0)), b.1)
 
-unfoldable pub slot_at : List ℕ → Option ((ℕ × Cap) × List ℕ)
-slot_at text = do
-  t ← after (codes "s ") text
+unfoldable pub read_slot : List ℕ → Option ((ℕ × Cap) × List ℕ)
+read_slot text = do
+  t ← after_bytes (codes "s ") text
   e ← decimal_at 32 t
   k ← cap_at e.1
   Some ((e.0, k.0), k.1)
@@ -98,8 +98,8 @@ some_type_at text = do
   f ← form_at e.1
   Some (Some (e.0, f.0), f.1)
 
-unfoldable pub type_at : List ℕ → Option (Option (ℕ × Form) × List ℕ)
-type_at text = or_else (beside None (after (codes "- ") text)) (some_type_at text)
+unfoldable pub read_type_or_none : List ℕ → Option (Option (ℕ × Form) × List ℕ)
+read_type_or_none text = or_else (beside None (after_bytes (codes "- ") text)) (some_type_at text)
 
 unfoldable pub masks_at : ℕ → List ℕ → Option ((Mask × Mask) × List ℕ)
 masks_at end text = do
@@ -110,9 +110,9 @@ masks_at end text = do
 -- what is written for a mask after a node is turned into that mask by the same rule as in writing
 unfoldable pub note_at : Version → List ℕ → Option (Note × List ℕ)
 note_at version text = do
-  t ← after (codes "n ") text
+  t ← after_bytes (codes "n ") text
   r ← rule_at t
-  ty ← type_at r.1
+  ty ← read_type_or_none r.1
   b ← masks_at 32 ty.1
   a ← masks_at 10 b.1
   Some (record { rule = r.0; ty = ty.0; live_before = b.0.0; set_before = b.0.1; live_after = shown_after version b.0.0 a.0.0; set_after = shown_after version b.0.1 a.0.1 }, a.1)

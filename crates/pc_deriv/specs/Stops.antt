@@ -1,7 +1,7 @@
 -- How reading lines stops before the last.
 use Rattle.std.specs.Prelude.{◌≡◌, ℕ, ◌+◌, ◌<◌, List, length, ⊤}
 use Rattle.pc_deriv.specs.Text.{slot_line, note_line, SlotFits, NoteFits}
-use Rattle.pc_deriv.specs.Faults.{Begins, NoLine}
+use Rattle.pc_deriv.specs.Faults.{BeginsLine, NoLine}
 use Rattle.pc_deriv.specs.declared.version.Version.{Version}
 use Rattle.pc_deriv.specs.declared.fault.DerivFault.{DerivFault}
 use Rattle.pc_deriv.specs.declared.fault.DerivFault.TheVariants as fault
@@ -10,7 +10,7 @@ use Rattle.pc_deriv.specs.declared.fault.DerivFault.TheVariants as fault
 pub record StopsEarly {A : Type 0} (line : A → List ℕ) (Fits : A → Type 0) (text : List ℕ) (before wanted n : ℕ) : Type 0 where
   pub read : List A
   pub rest : List ℕ
-  pub begins : Begins line Fits text read rest
+  pub begins : BeginsLine line Fits text read rest
   pub fewer : length read < wanted
   pub ends : NoLine line Fits rest
   pub number : n ≡ before + length read + 2

@@ -48,13 +48,13 @@ abbrev pub note_line : Version → Note → List ℕ
 note_line version note = codes "n " ++ (rule_name note.rule ++ (blank ++ (type_text note.ty ++ masks_text version note)))
 
 -- the lines of several things, one after the other
-abbrev pub lines : {A : Type 0} → (A → List ℕ) → List A → List ℕ
-lines line [] = []
-lines line (x ∷ xs) = line x ++ lines line xs
+abbrev pub each_line : {A : Type 0} → (A → List ℕ) → List A → List ℕ
+each_line line [] = []
+each_line line (x ∷ xs) = line x ++ each_line line xs
 
 -- the whole text
 abbrev pub deriv_text : Version → Ann → List ℕ
-deriv_text version ann = head_line version (length ann.slots, length ann.notes) ++ (lines slot_line ann.slots ++ lines (note_line version) ann.notes)
+deriv_text version ann = head_line version (length ann.slots, length ann.notes) ++ (each_line slot_line ann.slots ++ each_line (note_line version) ann.notes)
 
 -- What can be written: counts and entities' numbers are below 2^32, masks below 2^64.
 abbrev pub CountsFit : ℕ × ℕ → Type 0

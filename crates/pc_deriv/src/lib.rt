@@ -15,7 +15,7 @@ mod laws;
 mod line;
 mod line_state;
 mod lines;
-mod names;
+mod vocabulary;
 mod number_writing;
 mod numbers;
 mod pieces;

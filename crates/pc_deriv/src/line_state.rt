@@ -139,7 +139,7 @@ impl LineState {
         requires room { Room self.old.counts self.old.ended }
         requires size { length self.old.buffer ≡ lines.longest_line }
         requires within { filled ≤ lines.longest_line }
-        ensures answer { result ≡ lines.said self.old.version self.old.counts self.old.ended (take filled self.old.buffer) }
+        ensures answer { result ≡ lines.line_meaning self.old.version self.old.counts self.old.ended (take filled self.old.buffer) }
         ensures taken { taken_of self.new ≡ lines.behind (taken_of self.old) result }
         ensures sound { Sound self.new }
     {

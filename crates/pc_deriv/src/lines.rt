@@ -2,7 +2,7 @@
 ghost use Rattle.std.specs.Prelude.{◌≡◌, option_map};
 ghost use Rattle.pc_deriv.specs.Reading as reading;
 
-use crate::names::{after, cap_at, form_at, rule_at, version_at};
+use crate::vocabulary::{after, cap_at, form_at, rule_at, version_at};
 use crate::numbers::{decimal_at, mask_at};
 use crate::version::{Version, shown_after};
 use pc_ann::Note;
@@ -22,9 +22,9 @@ pub fn head_at(text: &[u8]) -> Option<((Version, (u32, u32)), &[u8])>
 }
 
 /// The entity and the capability in the line of a slot, and what follows the line.
-#[tactic(auto, unfolding(crate::specs::Reading::slot_at))]
+#[tactic(auto, unfolding(crate::specs::Reading::read_slot))]
 pub fn slot_at(text: &[u8]) -> Option<((u32, Cap), &[u8])>
-    ensures { option_map (λ r. (r.0, r.1.now)) result ≡ reading.slot_at text.now }
+    ensures { option_map (λ r. (r.0, r.1.now)) result ≡ reading.read_slot text.now }
 {
     let text = after(text, b"s ")?;
     let (entity, text) = decimal_at(text, b' ')?;
@@ -43,9 +43,9 @@ fn some_type_at(text: &[u8]) -> Option<(Option<(u32, Form)>, &[u8])>
 }
 
 /// The type of a node, or `-` for none.
-#[tactic(auto, unfolding(crate::specs::Reading::type_at))]
+#[tactic(auto, unfolding(crate::specs::Reading::read_type_or_none))]
 fn type_at(text: &[u8]) -> Option<(Option<(u32, Form)>, &[u8])>
-    ensures { option_map (λ r. (r.0, r.1.now)) result ≡ reading.type_at text.now }
+    ensures { option_map (λ r. (r.0, r.1.now)) result ≡ reading.read_type_or_none text.now }
 {
     match after(text, b"- ") {
         Some(rest) => Some((None, rest)),

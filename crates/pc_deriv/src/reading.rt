@@ -2,11 +2,11 @@
 ghost use Rattle.std.specs.Prelude.{◌≡◌, ◌≤◌, length, Ok, Err, IfOk, IfErr};
 ghost use Rattle.pc_ann.specs.declared.annotation.Ann.{Ann};
 ghost use Rattle.pc_deriv.specs.declared.fault.DerivFault.{DerivFault};
-ghost use Rattle.pc_deriv.specs.Limits.{slot_limit, node_limit};
+ghost use Rattle.pc_deriv.specs.Limits.{derivation_slot_limit, derivation_node_limit};
 ghost use Rattle.pc_deriv.specs.Text.{slot_line, note_line, SlotFits, NoteFits};
-ghost use Rattle.pc_deriv.specs.Faults.{IsText, IsFault, Refuses, Begins};
+ghost use Rattle.pc_deriv.specs.Faults.{IsText, IsFault, RefusesDerivation, BeginsLine};
 ghost use Rattle.pc_deriv.specs.Stops.{SlotsStop, NotesStop};
-ghost use Rattle.pc_deriv.specs.Answers.{Answers};
+ghost use Rattle.pc_deriv.specs.Answers.{AnswersDerivation};
 
 use crate::fault::DerivFault;
 use crate::lines::{head_at, note_at, slot_at};
@@ -22,8 +22,8 @@ fn read_slots<'a>(
     text: &'a [u8],
     count: u32,
 ) -> Result<(List<(u32, Cap)>, &'a [u8]), DerivFault>
-    requires { count ≤ slot_limit }
-    ensures ok { IfOk result (λ r. Begins slot_line SlotFits text.now r.0 r.1.now × (length r.0 ≡ count)) }
+    requires { count ≤ derivation_slot_limit }
+    ensures ok { IfOk result (λ r. BeginsLine slot_line SlotFits text.now r.0 r.1.now × (length r.0 ≡ count)) }
     ensures err { IfErr result (SlotsStop text.now count) }
 {
     let mut slots: List<(u32, Cap)> = List::new(alloc);
@@ -48,8 +48,8 @@ fn read_notes<'a>(
     slots: u32,
     count: u32,
 ) -> Result<(List<Note>, &'a [u8]), DerivFault>
-    requires { (slots ≤ slot_limit) × (count ≤ node_limit) }
-    ensures ok { IfOk result (λ r. Begins (note_line version) NoteFits text.now r.0 r.1.now × (length r.0 ≡ count)) }
+    requires { (slots ≤ derivation_slot_limit) × (count ≤ derivation_node_limit) }
+    ensures ok { IfOk result (λ r. BeginsLine (note_line version) NoteFits text.now r.0 r.1.now × (length r.0 ≡ count)) }
     ensures err { IfErr result (NotesStop version text.now slots count) }
 {
     let mut notes: List<Note> = List::new(alloc);
@@ -68,7 +68,7 @@ fn read_notes<'a>(
 /// Reads the whole text line by line.
 fn read_lines(alloc: Global, bytes: &[u8]) -> Result<Ann, DerivFault>
     ensures ok { IfOk result (IsText bytes.now) }
-    ensures err { IfErr result (Refuses bytes.now) }
+    ensures err { IfErr result (RefusesDerivation bytes.now) }
 {
     let ((version, (slot_count, node_count)), text) = match head_at(bytes) {
         Some(head) => head,
@@ -93,11 +93,11 @@ pub fn read(alloc: Global, bytes: &[u8]) -> Result<Ann, DerivFault>
     // The bytes are the annotation's text in some version.
     ensures ok { IfOk result (IsText bytes.now) }
     // The fault is that of the bytes, or memory ran out.
-    ensures err { IfErr result (Refuses bytes.now) }
+    ensures err { IfErr result (RefusesDerivation bytes.now) }
     // If the bytes are the text of an annotation within the limits, it is returned, unless memory ran out.
-    ensures texts { (ann : Ann) → IsText bytes.now ann → Answers result (Ok ann) }
+    ensures texts { (ann : Ann) → IsText bytes.now ann → AnswersDerivation result (Ok ann) }
     // If the bytes have a fault, it is returned, unless memory ran out.
-    ensures faults { (fault : DerivFault) → IsFault bytes.now fault → Answers result (Err fault) }
+    ensures faults { (fault : DerivFault) → IsFault bytes.now fault → AnswersDerivation result (Err fault) }
 {
     read_lines(alloc, bytes)
 }

@@ -5,9 +5,9 @@ ghost use Rattle.std.specs.List.{AllByRecursion};
 ghost use Rattle.pc_deriv.specs.Text as text;
 ghost use Rattle.pc_deriv.specs.declared.version.Version.TheVariants as version;
 ghost use Rattle.pc_deriv.specs.Faults.{IsText};
-ghost use Rattle.pc_deriv.specs.Limits.{slot_limit, node_limit};
+ghost use Rattle.pc_deriv.specs.Limits.{derivation_slot_limit, derivation_node_limit};
 
-use crate::names::{cap_name, form_name, rule_name, version_name};
+use crate::vocabulary::{cap_name, form_name, rule_name, version_name};
 use crate::number_writing::{push_decimal, push_hex};
 use crate::version::{Version, shown_after};
 use pc_ann::{Ann, Note};
@@ -151,7 +151,7 @@ fn push_note(
 
 /// Appends the lines of slots.
 fn push_slots(out: &mut Vec<u8>, slots: &[(u32, Cap)]) -> Result<(), AllocError>
-    ensures puts { OnOk result (out.new.items ≡ out.old.items ++ text.lines text.slot_line slots.now) }
+    ensures puts { OnOk result (out.new.items ≡ out.old.items ++ text.each_line text.slot_line slots.now) }
     ensures fit { OnOk result (AllByRecursion text.SlotFits slots.now) }
 {
     for slot in slots {
@@ -167,7 +167,7 @@ fn push_notes(
     version: Version,
     notes: &[Note],
 ) -> Result<(), AllocError>
-    ensures puts { OnOk result (out.new.items ≡ out.old.items ++ text.lines (text.note_line version) notes.now) }
+    ensures puts { OnOk result (out.new.items ≡ out.old.items ++ text.each_line (text.note_line version) notes.now) }
     ensures fit { OnOk result (AllByRecursion text.NoteFits notes.now) }
 {
     let mut masks: Vec<u8> = Vec::new(alloc);
@@ -194,7 +194,7 @@ fn write_lines(alloc: Global, version: Version, ann: &Ann) -> Result<List<u8>, A
 
 /// The derivation text in version 1 of an annotation of at most 640,000 slots and 200,000 nodes.
 pub fn write(alloc: Global, ann: &Ann) -> Result<List<u8>, AllocError>
-    requires { (length ann.now.slots ≤ slot_limit) × (length ann.now.notes ≤ node_limit) }
+    requires { (length ann.now.slots ≤ derivation_slot_limit) × (length ann.now.notes ≤ derivation_node_limit) }
     // The bytes are the annotation's text in version 1.
     ensures text { IfOk result (λ bytes. bytes ≡ text.deriv_text version.One ann.now) }
     // So they are read as this annotation.
@@ -205,7 +205,7 @@ pub fn write(alloc: Global, ann: &Ann) -> Result<List<u8>, AllocError>
 
 /// The derivation text in version 2 of an annotation of at most 640,000 slots and 200,000 nodes.
 pub fn write2(alloc: Global, ann: &Ann) -> Result<List<u8>, AllocError>
-    requires { (length ann.now.slots ≤ slot_limit) × (length ann.now.notes ≤ node_limit) }
+    requires { (length ann.now.slots ≤ derivation_slot_limit) × (length ann.now.notes ≤ derivation_node_limit) }
     // The bytes are the annotation's text in version 2.
     ensures text { IfOk result (λ bytes. bytes ≡ text.deriv_text version.Two ann.now) }
     // So they are read as this annotation.

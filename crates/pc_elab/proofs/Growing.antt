@@ -6,7 +6,7 @@ use Rattle.pc_body_spec.specs.Scopes.{Context}
 use Rattle.pc_members.specs.Members.{Member}
 use Rattle.pc_members.specs.MemberLists.{members}
 use Rattle.pc_file_spec.specs.Members.{Owned, owned, members_from}
-use Rattle.pc_file_spec.specs.Known.{known_of, texts_of}
+use Rattle.pc_file_spec.specs.Known.{known_of, texts_of_file}
 use Rattle.pc_file_spec.specs.Signatures.{placed_of, context_of}
 use Rattle.pc_file_spec.specs.Parts.{Parts, if_ok, and_member, and_members}
 use Rattle.pc_elab.specs.Outcomes.{own_members, with_slots, with_members, entity_members, row_members}
@@ -31,7 +31,7 @@ own_same file c n e p (m ∷ ms) h =
     by (Err f) rest = refl
 
 -- In the file's context the rows are the members of the file.
-pub rows_same : (file : t.File) (c : Context) (es : List t.Entity) (n : ℕ) (p : Parts) → c.entities ≡ known_of file → c.texts ≡ texts_of file → row_members c p n es (map (members file.entities) es) ≡ and_members file p (members_from file.entities n es)
+pub rows_same : (file : t.File) (c : Context) (es : List t.Entity) (n : ℕ) (p : Parts) → c.entities ≡ known_of file → c.texts ≡ texts_of_file file → row_members c p n es (map (members file.entities) es) ≡ and_members file p (members_from file.entities n es)
 rows_same file c [] n p k x = refl
 rows_same file c (e ∷ es) n p k x =
     by (λ q. rows_same file c es (suc n) q k x) (entity_members c p n e (members file.entities e)) refl

@@ -22,7 +22,7 @@ use Rattle.pc_body_spec.specs.Scopes.{Context}
 use Rattle.pc_members.specs.Members.{Member}
 use Rattle.pc_members.specs.MemberLists.{members}
 use Rattle.pc_file_spec.specs.Members.{members_from}
-use Rattle.pc_file_spec.specs.Known.{known_of, known_from, texts_of, built_in_known}
+use Rattle.pc_file_spec.specs.Known.{known_of, known_from, texts_of_file, built_in_known}
 use Rattle.pc_file_spec.specs.Order as o
 use Rattle.pc_file_spec.specs.Cores.{built_ins, entities_from, core_with, core_of, Stands}
 use Rattle.pc_file_spec.specs.Laws.{StandsIsFormed}
@@ -30,7 +30,7 @@ use Rattle.pc_file_spec.specs.Parts.{Parts, parts_of, and_members, if_ok, built_
 use Rattle.pc_file_spec.proofs.Collects.{collects}
 use Rattle.pc_file_spec.proofs.Steps.{same_ok}
 use Rattle.pc_file_spec.proofs.Owners.{known_count}
-use Rattle.pc_elab.specs.Cores.{Makes, Spelled, made_view}
+use Rattle.pc_elab.specs.Cores.{Makes, IsSpelledFile, made_view}
 use Rattle.pc_elab.specs.declared.elaborating.Made.{Made}
 use Rattle.pc_members.specs.declared.member.Member.{Member as CodeMember}
 use Rattle.pc_members.specs.Views.{members_view, table_view}
@@ -44,7 +44,7 @@ pub known_are : (file : t.File) (es : List t.Entity) (at : ℕ) → known_rows a
 known_are file [] at = refl
 known_are file (e ∷ es) at = ap (λ ks. known_with at e (members file.entities e) ∷ ks) (known_are file es (at + length (members file.entities e)))
 
-pub entities_are : (file : t.File) (names : NamesData) (c : Context) (es : List t.Entity) (n at : ℕ) → Collected file names → c.entities ≡ known_of file → c.texts ≡ texts_of file
+pub entities_are : (file : t.File) (names : NamesData) (c : Context) (es : List t.Entity) (n at : ℕ) → Collected file names → c.entities ≡ known_of file → c.texts ≡ texts_of_file file
     → entity_rows c names n at es (map (members file.entities) es) ≡ entities_from file names.above n at es
 entities_are file names c [] n at col k x = refl
 entities_are file names c (e ∷ es) n at col k x =
@@ -58,7 +58,7 @@ few_known file names c = let f = (collects file names c).few in let n = known_co
 
 -- ---- if a text spells the file
 
-pub in_order : (file : t.File) → BodiesAscend → Spelled file → o.InOrder file
+pub in_order : (file : t.File) → BodiesAscend → IsSpelledFile file → o.NamesInOrder file
 in_order file law h e he = let r = law file h.0 h.1 h.2 he.0 e he.1 in (r.0, λ m hm. r.1 hm.0 m hm.1)
 
 more_entities : (es : List t.Entity) (ts : List Token) (i : ℕ) (e : t.Entity) → s.SpellsMoreEntities es ts → slice_get es i ≡ Some e → (us : List Token) × s.SpellsEntity e us
@@ -77,7 +77,7 @@ all_methods k (x ∷ ms) ts zero m h g = (h.0, subst (λ y. s.SpellsMethod k y h
 all_methods k (x ∷ ms) ts (suc i) m h g = all_methods k ms h.1 i m h.4 g
 
 -- In a file that tokens spell, fields, methods and bodies are only where they are allowed.
-pub in_place : (file : t.File) → Spelled file → o.InPlace file
+pub in_place : (file : t.File) → IsSpelledFile file → o.InPlace file
 in_place file h e he =
     let r = all_entities file.entities h.1.1 he.0 e h.1.5 he.1 in
     let q = r.1 in
@@ -100,13 +100,13 @@ pub known_all : (file : t.File) (rows : List (List Member)) → rows ≡ map (me
 known_all file rows h = ap (λ table. built_in_known ++ known_rows 1 file.entities table) h ∙ ap (λ ks. built_in_known ++ ks) (known_are file file.entities 1)
 
 -- The members of the rows are those of the file.
-pub parts_are : (file : t.File) (c : Context) (p : Parts) (rows : List (List Member)) → rows ≡ map (members file.entities) file.entities → p ≡ built_in_parts → c.entities ≡ known_of file → c.texts ≡ texts_of file → row_members c p first_own file.entities rows ≡ parts_of file
+pub parts_are : (file : t.File) (c : Context) (p : Parts) (rows : List (List Member)) → rows ≡ map (members file.entities) file.entities → p ≡ built_in_parts → c.entities ≡ known_of file → c.texts ≡ texts_of_file file → row_members c p first_own file.entities rows ≡ parts_of file
 parts_are file c p rows h s k x =
     ap (λ table. row_members c p first_own file.entities table) h ∙ rows_same file c file.entities first_own p k x ∙ ap (λ q. and_members file q (members_from file.entities first_own file.entities)) s
 
 -- A core of these lists.
 pub core_is : (file : t.File) (names : NamesData) (c : Context) (p : Parts) (rows : List (List Member)) (es : List EntityDef) (texts : List (List ℕ)) → Collected file names → rows ≡ map (members file.entities) file.entities
-    → c.entities ≡ known_of file → c.texts ≡ texts_of file → parts_of file ≡ Ok p → es ≡ built_ins ++ entity_rows c names first_own 1 file.entities rows → texts ≡ c.texts
+    → c.entities ≡ known_of file → c.texts ≡ texts_of_file file → parts_of file ≡ Ok p → es ≡ built_ins ++ entity_rows c names first_own 1 file.entities rows → texts ≡ c.texts
     → core_of names.above file ≡ Ok (record { entities = es; methods = p.methods; slots = p.slots; nodes = p.nodes; names = texts })
 core_is file names c p rows es texts col h k x parts e n =
     let all : es ≡ built_ins ++ entities_from file names.above first_own 1 file.entities =
@@ -128,15 +128,15 @@ grows_stop fault.Memory p file above want e h = tt
 
 -- ---- the whole
 
-texts_made : (file : t.File) (above : List (List ℕ)) (m : Made) (r : Result Parts NameFault) → if_ok r (λ p. Ok (core_with file above p)) ≡ Ok (made_view m) → m.names ≡ texts_of file
+texts_made : (file : t.File) (above : List (List ℕ)) (m : Made) (r : Result Parts NameFault) → if_ok r (λ p. Ok (core_with file above p)) ≡ Ok (made_view m) → m.names ≡ texts_of_file file
 texts_made file above m (Ok p) g = sym (ap (λ (x : CoreData). x.names) (same_ok (core_with file above p) (made_view m) (Ok (core_with file above p)) refl g))
 texts_made file above m (Err f) g = (let no : ⊥ = cc in absurd no)
 
 pub made_stands : (file : t.File) (names : NamesData) (m : Made) → length m.names < 2 ^ 32 → Collected file names → core_of names.above file ≡ Ok (made_view m) → Stands file (made_view m)
 made_stands file names m few c h = (names, c, h, subst (λ xs. length xs < 2 ^ 32) (texts_made file names.above m (parts_of file) h) few)
 
-pub core_formed : BodiesAscend → StandsIsFormed → (file : t.File) (core : CoreData) → Spelled file → Stands file core → Formed core
+pub core_formed : BodiesAscend → StandsIsFormed → (file : t.File) (core : CoreData) → IsSpelledFile file → Stands file core → Formed core
 core_formed bodies law file core sp stands = law file core (in_order file bodies sp) (in_place file sp) stands
 
-pub made_formed : (file : t.File) (names : NamesData) (m : Made) → BodiesAscend → StandsIsFormed → Spelled file → length m.names < 2 ^ 32 → Collected file names → core_of names.above file ≡ Ok (made_view m) → Formed (made_view m)
+pub made_formed : (file : t.File) (names : NamesData) (m : Made) → BodiesAscend → StandsIsFormed → IsSpelledFile file → length m.names < 2 ^ 32 → Collected file names → core_of names.above file ≡ Ok (made_view m) → Formed (made_view m)
 made_formed file names m bodies law sp few c h = core_formed bodies law file (made_view m) sp (made_stands file names m few c h)

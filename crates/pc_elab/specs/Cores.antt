@@ -14,12 +14,12 @@ use Rattle.pc_file_spec.specs.Cores.{Stands, IsElabFault}
 use Rattle.pc_elab.specs.declared.elaborating.Made.{Made}
 
 -- Some tokens in the order of a text spell the file.
-abbrev pub Spelled : t.File → Type 0
-Spelled f = (ts : List Token) × SpellsFile f ts × Ascends (starts ts)
+abbrev pub IsSpelledFile : t.File → Type 0
+IsSpelledFile f = (ts : List Token) × SpellsFile f ts × Ascends (starts ts)
 
 -- The core of a file that tokens spell is formed, and its slots and nodes are within the limits.
 abbrev pub CoresAreFormed : Type 0
-CoresAreFormed = (file : t.File) (core : CoreData) → Spelled file → Stands file core → Formed core × (length core.slots ≤ program_slot_limit) × (length core.nodes ≤ node_limit)
+CoresAreFormed = (file : t.File) (core : CoreData) → IsSpelledFile file → Stands file core → Formed core × (length core.slots ≤ program_slot_limit) × (length core.nodes ≤ node_limit)
 
 -- The first fault of the file's members. Memory may run out at any time.
 abbrev pub IsFirstFault : t.File → NameFault → Type 0

@@ -2,7 +2,7 @@
 use Rattle.std.specs.Prelude.{◌≡◌, ℕ, suc, List, [], ◌∷◌, ◌++◌, map, length, Option, Some, None, Result, Ok, Err, slice_get, ◌-◌}
 use Rattle.pc_caps.specs.declared.span.Span.{Span}
 use Rattle.pc_caps.specs.Limits.{slot_limit}
-use Rattle.pc_tree.specs.declared.names.Name.{Name}
+use Rattle.pc_tree.specs.declared.written_names.Name.{Name}
 use Rattle.pc_tree.specs.Tree as t
 use Rattle.pc_core.specs.declared.nodes.Node.{Node}
 use Rattle.pc_names.specs.declared.fault.NameFault.{NameFault}
@@ -12,11 +12,11 @@ use Rattle.pc_body_walks.specs.declared.fault.BodyFault.{BodyFault}
 use Rattle.pc_body_walks.specs.declared.fault.BodyFault.TheVariants as body
 use Rattle.pc_members.specs.Words.{field_texts}
 use Rattle.pc_body_spec.specs.Roses.{Rose}
-use Rattle.pc_body_spec.specs.Scopes.{Context, Placed}
+use Rattle.pc_body_spec.specs.Scopes.{Context, PlacedLocal}
 use Rattle.pc_body_spec.specs.Bodies.{body_of, added_body}
-use Rattle.pc_body_spec.specs.Faults.{Fault, body_faults, initial_faults}
+use Rattle.pc_body_spec.specs.Faults.{BodyNameFault, body_faults, initial_faults}
 use Rattle.pc_body_spec.specs.Slots.{Local}
-use Rattle.pc_body_spec.specs.Methods.{MethodFault, Outcome, param_names, local_names, unless_fault, unless_full, put_body}
+use Rattle.pc_body_spec.specs.Methods.{MethodFault, MethodOutcome, param_names, local_names, unless_fault, unless_full, put_body}
 use Rattle.pc_members.specs.Members.{Member, written, added, member_span, member_text}
 use Rattle.pc_file_spec.specs.Members.{Owned, owned}
 use Rattle.pc_file_spec.specs.Signatures.{placed_of, slots_from, declared}
@@ -30,7 +30,7 @@ as_name_fault (body.LongText s) = fault.TooMany which.Text s
 as_name_fault body.Memory = fault.Memory
 
 -- A value and nodes are the wanted ones, or a fault is the wanted one. Memory may run out at any time.
-abbrev pub Becomes : Result (Option ℕ) NameFault → List Node → Outcome → Type 0
+abbrev pub Becomes : Result (Option ℕ) NameFault → List Node → MethodOutcome → Type 0
 Becomes (Ok b) nodes want = want ≡ Ok (b, nodes)
 Becomes (Err fault.Memory) nodes want = Unit {0}
 Becomes (Err f) nodes want = (g : MethodFault) × (f ≡ name_fault g) × (want ≡ Err g)
@@ -43,7 +43,7 @@ Grows (Err f) p want = want ≡ Err f
 
 -- ---- a member
 
-abbrev pub member_faults : Context → t.Entity → Member → List Fault
+abbrev pub member_faults : Context → t.Entity → Member → List BodyNameFault
 member_faults c e (written m) = body_faults c e.fields m
 member_faults c e added = initial_faults c e.fields
 
@@ -64,17 +64,17 @@ abbrev pub extra_slot : Member → List Local → Option Span
 extra_slot x locals = span_of (slice_get (member_params x ++ local_names locals) (slot_limit - 1))
 
 -- The elaboration of a member with these locals, given that of its nodes.
-abbrev pub before_nodes : Context → t.Entity → Member → List Local → Outcome → Outcome
+abbrev pub before_nodes : Context → t.Entity → Member → List Local → MethodOutcome → MethodOutcome
 before_nodes c e x locals rest = unless_fault (member_faults c e x) (unless_full (member_params x ++ local_names locals) rest)
 
-abbrev pub outcome_with : Context → ℕ → t.Entity → Member → List Local → List Node → Outcome
+abbrev pub outcome_with : Context → ℕ → t.Entity → Member → List Local → List Node → MethodOutcome
 outcome_with c m e x locals before = before_nodes c e x locals (put_body m (member_span e.name.span x) (member_rose c e x) before)
 
 -- Nothing takes precedence over the nodes; or this fault does, whatever their outcome.
-abbrev pub Passes : Result (Unit {0}) NameFault → (Outcome → Outcome) → Type 0
-Passes (Ok x) step = (rest : Outcome) → step rest ≡ rest
-Passes (Err fault.Memory) step = Unit {0}
-Passes (Err f) step = (g : MethodFault) × (f ≡ name_fault g) × ((rest : Outcome) → step rest ≡ Err g)
+abbrev pub PassesOrStops : Result (Unit {0}) NameFault → (MethodOutcome → MethodOutcome) → Type 0
+PassesOrStops (Ok x) step = (rest : MethodOutcome) → step rest ≡ rest
+PassesOrStops (Err fault.Memory) step = Unit {0}
+PassesOrStops (Err f) step = (g : MethodFault) × (f ≡ name_fault g) × ((rest : MethodOutcome) → step rest ≡ Err g)
 
 -- These parts, whose nodes include those of the member already, followed by its method and its slots.
 abbrev pub joined_with : Context → Parts → Owned → ℕ → Option ℕ → Parts
@@ -86,7 +86,7 @@ joined_with c p o first_node b = record {
 
 -- ---- the members of an entity
 
-abbrev pub with_slots : Context → List Placed → Context
+abbrev pub with_slots : Context → List PlacedLocal → Context
 with_slots c slots = record { fields = c.fields; methods = c.methods; entities = c.entities; texts = c.texts; slots = slots }
 
 -- A member in this context, except for the slots of its own locals.

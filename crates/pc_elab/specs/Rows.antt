@@ -3,18 +3,18 @@ use Rattle.std.specs.Prelude.{ℕ, suc, ◌+◌, List, [], ◌∷◌, map, lengt
 use Rattle.pc_tree.specs.Tree as t
 use Rattle.pc_core.specs.declared.declarations.EntityDef.{EntityDef}
 use Rattle.pc_names.specs.Names.{NamesData}
-use Rattle.pc_members.specs.Edges.{numbers_of}
+use Rattle.pc_members.specs.Edges.{entity_numbers}
 use Rattle.pc_members.specs.Words.{or_nil}
-use Rattle.pc_body_spec.specs.Scopes.{Known, Context}
+use Rattle.pc_body_spec.specs.Scopes.{KnownEntity, Context}
 use Rattle.pc_members.specs.Members.{Member}
 use Rattle.pc_file_spec.specs.Known.{default_cap, constructors_from}
-use Rattle.pc_file_spec.specs.Cores.{field_of}
+use Rattle.pc_file_spec.specs.Cores.{core_field}
 
 -- What bodies know of an entity with these members, of which the first has this number among the methods.
-abbrev pub known_with : ℕ → t.Entity → List Member → Known
+abbrev pub known_with : ℕ → t.Entity → List Member → KnownEntity
 known_with at e ms = record { name = e.name.text; kind = e.kind; cap = default_cap e.kind e.cap; constructors = constructors_from at ms }
 
-abbrev pub known_rows : ℕ → List t.Entity → List (List Member) → List Known
+abbrev pub known_rows : ℕ → List t.Entity → List (List Member) → List KnownEntity
 known_rows at (e ∷ es) (ms ∷ table) = known_with at e ms ∷ known_rows (at + length ms) es table
 known_rows at es table = []
 
@@ -25,9 +25,9 @@ entity_with c names n first_method e methods = record {
   cap = default_cap e.kind e.cap;
   name = e.name.text;
   span = e.name.span;
-  provides = numbers_of names.entities e.provides;
+  provides = entity_numbers names.entities e.provides;
   above = or_nil (slice_get names.above n);
-  fields = map (field_of c.texts c.entities) e.fields;
+  fields = map (core_field c.texts c.entities) e.fields;
   first_method = first_method;
   methods = methods;
 }

@@ -7,7 +7,7 @@ use Rattle.pc_core.specs.MethodKinds.{param_slot}
 use Rattle.pc_body_spec.specs.Scopes.{Context}
 use Rattle.pc_body_spec.specs.Slots.{Local, local_slot}
 use Rattle.pc_members.specs.Members.{Member, written, added}
-use Rattle.pc_file_spec.specs.Signatures.{receiver_of}
+use Rattle.pc_file_spec.specs.Signatures.{receiver_cap}
 
 -- The index of the slot of the first local.
 abbrev pub first_local : Member → ℕ
@@ -16,7 +16,7 @@ first_local added = 1
 
 -- `this` in method m, a member of the entity with this number.
 abbrev pub this_of : (method entity : ℕ) → Member → Slot
-this_of m number x = record { method = m; kind = slot.This; depth = 0; written = Some (number, receiver_of x) }
+this_of m number x = record { method = m; kind = slot.This; depth = 0; written = Some (number, receiver_cap x) }
 
 abbrev pub slots_with : Context → (method entity : ℕ) → Member → List ParamInfo → List Local → List Slot
 slots_with c m number x params locals = this_of m number x ∷ map (param_slot m) params ++ map (local_slot c m) locals

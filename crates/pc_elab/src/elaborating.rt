@@ -4,7 +4,7 @@ ghost use Rattle.pc_tree.specs.View.{file_view};
 ghost use Rattle.pc_core.specs.Formed.{Formed};
 ghost use Rattle.pc_names.specs.Names.{Collected};
 ghost use Rattle.pc_file_spec.specs.Cores.{Stands, core_of};
-ghost use Rattle.pc_file_spec.specs.Known.{known_of, texts_of};
+ghost use Rattle.pc_file_spec.specs.Known.{known_of, texts_of_file};
 ghost use Rattle.pc_members.specs.MemberLists.{members};
 ghost use Rattle.pc_members.specs.Views.{table_view};
 ghost use Rattle.pc_elab.specs.Cores as spec;
@@ -43,7 +43,7 @@ fn make_context(
     requires collected { Collected (file_view file.now) names.now }
     requires members { table_view table.now ≡ map (members (file_view file.now).entities) (file_view file.now).entities }
     ensures entities { IfOk result (λ c. c.entities ≡ known_of (file_view file.now)) }
-    ensures texts { IfOk result (λ c. c.texts ≡ texts_of (file_view file.now)) }
+    ensures texts { IfOk result (λ c. c.texts ≡ texts_of_file (file_view file.now)) }
 {
     let entities = list_known(alloc, file.entities.as_slice(), table)?;
     let texts = table_texts(alloc, names.entities(), file)?;
@@ -82,7 +82,7 @@ fn make_parts(
     requires collected { Collected (file_view file.now) names.now }
     requires members { table_view table.now ≡ map (members (file_view file.now).entities) (file_view file.now).entities }
     requires entities { context.old.entities ≡ known_of (file_view file.now) }
-    requires texts { context.old.texts ≡ texts_of (file_view file.now) }
+    requires texts { context.old.texts ≡ texts_of_file (file_view file.now) }
     ensures core { spec.Makes result (core_of names.now.above (file_view file.now)) }
     ensures few { IfOk result (λ m. length m.names < 2 ^ 32) }
 {
@@ -150,7 +150,7 @@ fn finish(alloc: Global, made: Made) -> Result<Core, AllocError>
 /// the parameter or local that would have it, else, at the member's own name, that all members so far have more than
 /// 200,000 nodes. Memory may run out at any time.
 pub fn elaborate(alloc: Global, file: &File, names: &Names) -> Result<Core, NameFault>
-    requires spelled { spec.Spelled (file_view file.now) }
+    requires spelled { spec.IsSpelledFile (file_view file.now) }
     requires collected { Collected (file_view file.now) names.now }
     ensures core { IfOk result (λ c. Stands (file_view file.now) c) }
     ensures fault { IfErr result (spec.IsFirstFault (file_view file.now)) }

@@ -1,7 +1,7 @@
 //! The entities of a core.
 ghost use Rattle.std.specs.Prelude.{◌≡◌, ◌++◌, [], ◌+◌, ◌<◌, ◌^◌, map, length, slice_get, IfOk, OnOk};
 ghost use Rattle.pc_tree.specs.View.{entity_view, field_view};
-ghost use Rattle.pc_members.specs.Edges.{numbers_of};
+ghost use Rattle.pc_members.specs.Edges.{entity_numbers};
 ghost use Rattle.pc_tree.specs.BuiltIn.{first_own};
 ghost use Rattle.pc_members.specs.Words.{or_nil};
 ghost use Rattle.pc_members.specs.Views.{table_view};
@@ -20,7 +20,7 @@ use pc_tree::{Entity, FIRST_OWN, FieldDef, Name};
 use std::alloc::{AllocError, Global};
 
 fn field_of(context: &Context, field: &FieldDef) -> FieldInfo
-    ensures { result ≡ spec.field_of context.now.texts context.now.entities (field_view field.now) }
+    ensures { result ≡ spec.core_field context.now.texts context.now.entities (field_view field.now) }
 {
     let (entity, cap) = type_in(context, &field.ty);
     FieldInfo {
@@ -37,7 +37,7 @@ fn add_fields(
     context: &Context,
     fields: &[FieldDef],
 ) -> Result<(), AllocError>
-    ensures { OnOk result (list.new ≡ list.old ++ map (spec.field_of context.now.texts context.now.entities) (map field_view fields.now)) }
+    ensures { OnOk result (list.new ≡ list.old ++ map (spec.core_field context.now.texts context.now.entities) (map field_view fields.now)) }
 {
     for field in fields {
         list.push(field_of(context, field))?;
@@ -47,7 +47,7 @@ fn add_fields(
 
 // Appends the numbers of those of these names that are entities.
 fn add_numbers(numbers: &mut List<u32>, names: &Names, provides: &[Name]) -> Result<(), AllocError>
-    ensures { OnOk result (numbers.new ≡ numbers.old ++ numbers_of names.now.entities provides.now) }
+    ensures { OnOk result (numbers.new ≡ numbers.old ++ entity_numbers names.now.entities provides.now) }
 {
     for name in provides {
         match names.entity(name.text.as_slice()) {
@@ -78,8 +78,8 @@ fn add_lists(
 ) -> Result<(), AllocError>
     requires numbers { numbers.old ≡ [] }
     requires fields { fields.old ≡ [] }
-    ensures numbers { OnOk result (numbers.new ≡ numbers_of names.now.entities (entity_view entity.now).provides) }
-    ensures fields { OnOk result (fields.new ≡ map (spec.field_of context.now.texts context.now.entities) (entity_view entity.now).fields) }
+    ensures numbers { OnOk result (numbers.new ≡ entity_numbers names.now.entities (entity_view entity.now).provides) }
+    ensures fields { OnOk result (fields.new ≡ map (spec.core_field context.now.texts context.now.entities) (entity_view entity.now).fields) }
 {
     add_numbers(numbers, names, entity.provides.as_slice())?;
     add_fields(fields, context, entity.fields.as_slice())

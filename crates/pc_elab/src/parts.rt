@@ -1,7 +1,7 @@
 //! The methods of a program with their slots and nodes, member by member.
 ghost use Rattle.std.specs.Prelude.{◌≡◌, slice_get, IfOk, OnOk};
 ghost use Rattle.pc_tree.specs.View.{entity_view};
-ghost use Rattle.pc_body_walks.specs.Checking.{Tells};
+ghost use Rattle.pc_body_walks.specs.Checking.{TellsFirstBodyFault};
 ghost use Rattle.pc_emit.specs.Giving.{GivesBody};
 ghost use Rattle.pc_members.specs.Views.{member_view};
 ghost use Rattle.pc_body_spec.specs.Methods.{local_names};
@@ -68,7 +68,7 @@ fn check_body(
     entity: &Entity,
     member: Member,
 ) -> Result<(), BodyFault>
-    ensures { Tells result (spec.member_faults context.now (entity_view entity.now) (member_view member.entry)) }
+    ensures { TellsFirstBodyFault result (spec.member_faults context.now (entity_view entity.now) (member_view member.entry)) }
 {
     let fields = entity.fields.as_slice();
     match member {
@@ -136,7 +136,7 @@ fn check_member(
     member: Member,
     locals: &[Local],
 ) -> Result<(), NameFault>
-    ensures { spec.Passes result (spec.before_nodes context.now (entity_view entity.now) (member_view member.entry) locals.now) }
+    ensures { spec.PassesOrStops result (spec.before_nodes context.now (entity_view entity.now) (member_view member.entry) locals.now) }
 {
     match check_body(alloc, context, entity, member) {
         Err(fault) => Err(name_fault(fault)),
@@ -220,7 +220,7 @@ fn join(
     locals: &[Local],
     nodes: Nodes,
 ) -> Result<(), AllocError>
-    requires { locals.now ≡ signatures.locals_of (entity_view entity.now) (member_view member) }
+    requires { locals.now ≡ signatures.member_locals (entity_view entity.now) (member_view member) }
     ensures { OnOk result (parts_view parts.new ≡ spec.joined_with context.now (parts_view parts.old) (owned number_of_entity (entity_view entity.now) (member_view member.entry)) nodes.first nodes.body) }
 {
     let method = number(parts.methods.len())?;
@@ -257,7 +257,7 @@ pub(crate) fn add_member(
     member: Member,
     locals: &[Local],
 ) -> Result<(), NameFault>
-    requires { locals.now ≡ signatures.locals_of (entity_view entity.now) (member_view member) }
+    requires { locals.now ≡ signatures.member_locals (entity_view entity.now) (member_view member) }
     ensures { spec.Grows result (parts_view parts.new) (and_member context.now (parts_view parts.old) (owned number_of_entity (entity_view entity.now) (member_view member.entry))) }
 {
     let method = number(parts.methods.len())?;

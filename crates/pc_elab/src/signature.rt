@@ -96,7 +96,7 @@ pub(crate) fn kind_of(entity: EntityKind, member: Member) -> MethodKind
 /// The capability of `this` in a member: `box` in a function without a written capability, and `ref` in behaviours and
 /// constructors.
 pub(crate) fn receiver_of(member: Member) -> Cap
-    ensures { result ≡ spec.receiver_of (member_view member.entry) }
+    ensures { result ≡ spec.receiver_cap (member_view member.entry) }
 {
     match member {
         Member::Written(method) | Member::Bodiless(method) => match method.word {

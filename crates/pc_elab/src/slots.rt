@@ -27,7 +27,7 @@ pub(crate) fn locals_of(
     entity: &Entity,
     member: Member,
 ) -> Result<List<Local>, AllocError>
-    ensures { IfOk result (λ l. l ≡ spec.locals_of (entity_view entity.now) (member_view member.entry)) }
+    ensures { IfOk result (λ l. l ≡ spec.member_locals (entity_view entity.now) (member_view member.entry)) }
 {
     match member {
         Member::Written(method) => locals(alloc, entity.fields.as_slice(), method),

@@ -1,7 +1,7 @@
 //! The texts of a file.
 ghost use Rattle.std.specs.Prelude.{◌≡◌, ◌<◌, [], ◌^◌, length, IfOk, OnOk};
 ghost use Rattle.pc_tree.specs.View.{file_view};
-ghost use Rattle.pc_file_spec.specs.Known.{texts_of};
+ghost use Rattle.pc_file_spec.specs.Known.{texts_of_file};
 
 use pc_body_walks::add_texts;
 use pc_caps::List;
@@ -13,7 +13,7 @@ use std::alloc::{AllocError, Global};
 // Adds the texts of a file to an empty table.
 fn add_all(table: &mut NameTable, file: &File) -> Result<(), AllocError>
     requires { table.old ≡ [] }
-    ensures { OnOk result (table.new ≡ texts_of (file_view file.now)) }
+    ensures { OnOk result (table.new ≡ texts_of_file (file_view file.now)) }
 {
     table.add(b"out")?;
     table.add(b"print")?;
@@ -30,7 +30,7 @@ pub(crate) fn table_texts(
     entities: &NameTable,
     file: &File,
 ) -> Result<NameTable, AllocError>
-    ensures { IfOk result (λ t. t ≡ texts_of (file_view file.now)) }
+    ensures { IfOk result (λ t. t ≡ texts_of_file (file_view file.now)) }
 {
     let mut table = entities.new_like(alloc);
     add_all(&mut table, file).and(Ok(table))

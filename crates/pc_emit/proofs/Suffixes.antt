@@ -14,16 +14,19 @@ use Rattle.pc_tree.specs.declared.expression.Expr.{Expr}
 use Rattle.std.proofs.lemmas.Option.{same_Some, none-some, slice_get_read, slice_get-map}
 use Rattle.std.proofs.lemmas.Bool.{false≢true, true≢false}
 use Rattle.pc_caps.specs.declared.span.Span.{Span}
-use Rattle.pc_tree.specs.declared.names.Name.{Name}
+use Rattle.pc_tree.specs.declared.written_names.Name.{Name}
 use Rattle.pc_tree.specs.Tree as t
 use Rattle.pc_core.specs.declared.nodes.NodeKind.TheVariants as node
 use Rattle.pc_body_spec.specs.Roses.{Rose}
-use Rattle.pc_body_spec.specs.Scopes.{Context, Scope, Constructor, primitive, created, no_value, constructor_named, text_of}
-use Rattle.pc_body_spec.specs.Expressions.{expr_of, assign_of, start_of, chain_of, named_of, exprs_of, join, apply, call, call_named, new_object, read_field, use_field, use_other, create_name, apply_name, Use, read, write, Start, with_value, with_method, with_type}
+use Rattle.pc_body_spec.specs.Scopes.{Context, Scope, Constructor, primitive, created, no_value, constructor_named, number_of_text}
+use Rattle.pc_body_spec.specs.Expressions.{expr_of, assign_of, chain_start, chain_of, named_of, roses_of_exprs, joined_span, apply, call, call_named}
+use Rattle.pc_body_spec.specs.Expressions.{new_object_rose, read_field, use_field, use_other, create_name, apply_name, Use, read, write, Start, with_value}
+use Rattle.pc_body_spec.specs.Expressions.{with_method, with_type}
 use Rattle.pc_emit.specs.declared.chains.First.TheVariants as first
 use Rattle.pc_emit.specs.declared.chains.Beginning.{Beginning}
 use Rattle.pc_emit.specs.declared.chains.Beginning.TheVariants as begins
-use Rattle.pc_emit.specs.Closing.{IsCut, IsBefore, Begins, begun, first_of, IsSplit, written_end, object, taken, is_args, is_chain, is_empty_args, link_of, only, rest_of}
+use Rattle.pc_emit.specs.Closing.{IsCut, IsBefore, BeginsChain, begun, first_of, IsSplit, written_end, object, taken, is_args, is_chain, is_empty_args, link_of}
+use Rattle.pc_emit.specs.Closing.{only, rest_of}
 use Rattle.pc_lists.proofs.Cuts.{take_whole}
 use Rattle.pc_lists.proofs.Gets.{get_drop}
 
@@ -38,104 +41,107 @@ take_last xs n x l h = let e : n ≡ suc (n - 1) = omega (arith, l) in ap (λ k.
 -- What is done at the end of a chain is done with what comes before it.
 module _ (c : Context) (sc : Scope) (d : ℕ) (s : Span) (u : Use) where
   mutual
-    pub chain_field : (ss : List t.Suffix) (n : Name) (st : Start) (origin : Rose) → chain_of c sc d s u st origin (t.suffixes_of (ss ++ t.dot n ∷ [])) ≡ use_field c u (join s n.span) n d (chain_of c sc d s read st origin (t.suffixes_of ss))
+    pub chain_field : (ss : List t.Suffix) (n : Name) (st : Start) (origin : Rose) → chain_of c sc d s u st origin (t.suffixes_of (ss ++ t.dot n ∷ [])) ≡ use_field c u (joined_span s n.span) n d (chain_of c sc d s read st origin (t.suffixes_of ss))
     chain_field [] n st origin = refl
     chain_field (t.dot m ∷ ss) n st origin = named_field ss m n st origin
-    chain_field (t.args es sp ∷ ss) n st origin = chain_field ss n with_value (apply c st (join s sp) d (exprs_of c sc d es) origin)
+    chain_field (t.args es sp ∷ ss) n st origin = chain_field ss n with_value (apply c st (joined_span s sp) d (roses_of_exprs c sc d es) origin)
 
-    named_field : (ss : List t.Suffix) (m n : Name) (st : Start) (origin : Rose) → named_of c sc d s u st origin m (t.suffixes_of (ss ++ t.dot n ∷ [])) ≡ use_field c u (join s n.span) n d (named_of c sc d s read st origin m (t.suffixes_of ss))
+    named_field : (ss : List t.Suffix) (m n : Name) (st : Start) (origin : Rose) → named_of c sc d s u st origin m (t.suffixes_of (ss ++ t.dot n ∷ [])) ≡ use_field c u (joined_span s n.span) n d (named_of c sc d s read st origin m (t.suffixes_of ss))
     named_field [] m n st origin = refl
-    named_field (t.dot k ∷ ss) m n st origin = named_field ss k n with_value (read_field c (join s m.span) m d origin)
-    named_field (t.args es sp ∷ ss) m n st origin = chain_field ss n with_value (call_named c st (join s sp) m d (exprs_of c sc d es) origin)
+    named_field (t.dot k ∷ ss) m n st origin = named_field ss k n with_value (read_field c (joined_span s m.span) m d origin)
+    named_field (t.args es sp ∷ ss) m n st origin = chain_field ss n with_value (call_named c st (joined_span s sp) m d (roses_of_exprs c sc d es) origin)
 
   mutual
     pub chain_other : (ss : List t.Suffix) (fs : t.Exprs) (fp : Span) (st : Start) (origin : Rose) → chain_of c sc d s u st origin (t.suffixes_of (ss ++ t.args fs fp ∷ [])) ≡ use_other u d (chain_of c sc d s read st origin (t.suffixes_of (ss ++ t.args fs fp ∷ [])))
     chain_other [] fs fp st origin = refl
     chain_other (t.dot m ∷ ss) fs fp st origin = named_other ss m fs fp st origin
-    chain_other (t.args es sp ∷ ss) fs fp st origin = chain_other ss fs fp with_value (apply c st (join s sp) d (exprs_of c sc d es) origin)
+    chain_other (t.args es sp ∷ ss) fs fp st origin = chain_other ss fs fp with_value (apply c st (joined_span s sp) d (roses_of_exprs c sc d es) origin)
 
     named_other : (ss : List t.Suffix) (m : Name) (fs : t.Exprs) (fp : Span) (st : Start) (origin : Rose) → named_of c sc d s u st origin m (t.suffixes_of (ss ++ t.args fs fp ∷ [])) ≡ use_other u d (named_of c sc d s read st origin m (t.suffixes_of (ss ++ t.args fs fp ∷ [])))
     named_other [] m fs fp st origin = refl
-    named_other (t.dot k ∷ ss) m fs fp st origin = named_other ss k fs fp with_value (read_field c (join s m.span) m d origin)
-    named_other (t.args es sp ∷ ss) m fs fp st origin = chain_other ss fs fp with_value (call_named c st (join s sp) m d (exprs_of c sc d es) origin)
+    named_other (t.dot k ∷ ss) m fs fp st origin = named_other ss k fs fp with_value (read_field c (joined_span s m.span) m d origin)
+    named_other (t.args es sp ∷ ss) m fs fp st origin =
+        chain_other ss fs fp with_value (call_named c st (joined_span s sp) m d (roses_of_exprs c sc d es) origin)
 
 module _ (c : Context) (sc : Scope) (d : ℕ) (s : Span) where
   mutual
-    chain_call : (ss : List t.Suffix) (n : Name) (fs : t.Exprs) (fp : Span) (origin : Rose) → rest_of c sc d s origin (ss ++ t.dot n ∷ t.args fs fp ∷ []) ≡ call c (join s fp) n.text d (exprs_of c sc d fs) (rest_of c sc d s origin ss)
+    chain_call : (ss : List t.Suffix) (n : Name) (fs : t.Exprs) (fp : Span) (origin : Rose) → rest_of c sc d s origin (ss ++ t.dot n ∷ t.args fs fp ∷ []) ≡ call c (joined_span s fp) n.text d (roses_of_exprs c sc d fs) (rest_of c sc d s origin ss)
     chain_call [] n fs fp origin = refl
     chain_call (t.dot m ∷ ss) n fs fp origin = named_call ss m n fs fp origin
-    chain_call (t.args es sp ∷ ss) n fs fp origin = chain_call ss n fs fp (apply c with_value (join s sp) d (exprs_of c sc d es) origin)
+    chain_call (t.args es sp ∷ ss) n fs fp origin = chain_call ss n fs fp (apply c with_value (joined_span s sp) d (roses_of_exprs c sc d es) origin)
 
-    named_call : (ss : List t.Suffix) (m n : Name) (fs : t.Exprs) (fp : Span) (origin : Rose) → named_of c sc d s read with_value origin m (t.suffixes_of (ss ++ t.dot n ∷ t.args fs fp ∷ [])) ≡ call c (join s fp) n.text d (exprs_of c sc d fs) (named_of c sc d s read with_value origin m (t.suffixes_of ss))
+    named_call : (ss : List t.Suffix) (m n : Name) (fs : t.Exprs) (fp : Span) (origin : Rose) → named_of c sc d s read with_value origin m (t.suffixes_of (ss ++ t.dot n ∷ t.args fs fp ∷ [])) ≡ call c (joined_span s fp) n.text d (roses_of_exprs c sc d fs) (named_of c sc d s read with_value origin m (t.suffixes_of ss))
     named_call [] m n fs fp origin = refl
-    named_call (t.dot k ∷ ss) m n fs fp origin = named_call ss k n fs fp (read_field c (join s m.span) m d origin)
-    named_call (t.args es sp ∷ ss) m n fs fp origin = chain_call ss n fs fp (call_named c with_value (join s sp) m d (exprs_of c sc d es) origin)
+    named_call (t.dot k ∷ ss) m n fs fp origin = named_call ss k n fs fp (read_field c (joined_span s m.span) m d origin)
+    named_call (t.args es sp ∷ ss) m n fs fp origin = chain_call ss n fs fp (call_named c with_value (joined_span s sp) m d (roses_of_exprs c sc d es) origin)
 
   mutual
-    chain_apply : (ss : List t.Suffix) (gs : t.Exprs) (gp : Span) (fs : t.Exprs) (fp : Span) (origin : Rose) → rest_of c sc d s origin (ss ++ t.args gs gp ∷ t.args fs fp ∷ []) ≡ call c (join s fp) apply_name d (exprs_of c sc d fs) (rest_of c sc d s origin (ss ++ t.args gs gp ∷ []))
+    chain_apply : (ss : List t.Suffix) (gs : t.Exprs) (gp : Span) (fs : t.Exprs) (fp : Span) (origin : Rose) → rest_of c sc d s origin (ss ++ t.args gs gp ∷ t.args fs fp ∷ []) ≡ call c (joined_span s fp) apply_name d (roses_of_exprs c sc d fs) (rest_of c sc d s origin (ss ++ t.args gs gp ∷ []))
     chain_apply [] gs gp fs fp origin = refl
     chain_apply (t.dot m ∷ ss) gs gp fs fp origin = named_apply ss m gs gp fs fp origin
-    chain_apply (t.args es sp ∷ ss) gs gp fs fp origin = chain_apply ss gs gp fs fp (apply c with_value (join s sp) d (exprs_of c sc d es) origin)
+    chain_apply (t.args es sp ∷ ss) gs gp fs fp origin =
+        chain_apply ss gs gp fs fp (apply c with_value (joined_span s sp) d (roses_of_exprs c sc d es) origin)
 
-    named_apply : (ss : List t.Suffix) (m : Name) (gs : t.Exprs) (gp : Span) (fs : t.Exprs) (fp : Span) (origin : Rose) → named_of c sc d s read with_value origin m (t.suffixes_of (ss ++ t.args gs gp ∷ t.args fs fp ∷ [])) ≡ call c (join s fp) apply_name d (exprs_of c sc d fs) (named_of c sc d s read with_value origin m (t.suffixes_of (ss ++ t.args gs gp ∷ [])))
+    named_apply : (ss : List t.Suffix) (m : Name) (gs : t.Exprs) (gp : Span) (fs : t.Exprs) (fp : Span) (origin : Rose) → named_of c sc d s read with_value origin m (t.suffixes_of (ss ++ t.args gs gp ∷ t.args fs fp ∷ [])) ≡ call c (joined_span s fp) apply_name d (roses_of_exprs c sc d fs) (named_of c sc d s read with_value origin m (t.suffixes_of (ss ++ t.args gs gp ∷ [])))
     named_apply [] m gs gp fs fp origin = refl
-    named_apply (t.dot k ∷ ss) m gs gp fs fp origin = named_apply ss k gs gp fs fp (read_field c (join s m.span) m d origin)
-    named_apply (t.args es sp ∷ ss) m gs gp fs fp origin = chain_apply ss gs gp fs fp (call_named c with_value (join s sp) m d (exprs_of c sc d es) origin)
+    named_apply (t.dot k ∷ ss) m gs gp fs fp origin = named_apply ss k gs gp fs fp (read_field c (joined_span s m.span) m d origin)
+    named_apply (t.args es sp ∷ ss) m gs gp fs fp origin =
+        chain_apply ss gs gp fs fp (call_named c with_value (joined_span s sp) m d (roses_of_exprs c sc d es) origin)
 
 two_more : (xs : List t.Suffix) (x y : t.Suffix) → (xs ++ x ∷ []) ++ y ∷ [] ≡ xs ++ x ∷ y ∷ []
 two_more [] x y = refl
 two_more (z ∷ xs) x y = ap (λ l. z ∷ l) (two_more xs x y)
 
-pub cut_dot : (c : Context) (ss : List t.Suffix) (left : ℕ) (n : Name) → 0 < left → slice_get ss (left - 1) ≡ Some (t.dot n) → IsCut c ss left (text_of c n.text) (left - 1)
+pub cut_dot : (c : Context) (ss : List t.Suffix) (left : ℕ) (n : Name) → 0 < left → slice_get ss (left - 1) ≡ Some (t.dot n) → IsCut c ss left (number_of_text c n.text) (left - 1)
 cut_dot c ss left n l h = λ sc d s origin x is.
     let same : t.dot n ≡ x = same_Some _ _ (sym h ∙ is) in
-    ap (λ l. rest_of c sc d s origin l) (take_last ss left (t.dot n) l h) ∙ chain_field c sc d s read (take (left - 1) ss) n with_value origin ∙ ap (λ y. link_of c sc d s (text_of c n.text) y (rest_of c sc d s origin (take (left - 1) ss))) same
+    ap (λ l. rest_of c sc d s origin l) (take_last ss left (t.dot n) l h) ∙ chain_field c sc d s read (take (left - 1) ss) n with_value origin ∙ ap (λ y. link_of c sc d s (number_of_text c n.text) y (rest_of c sc d s origin (take (left - 1) ss))) same
 
 pub cut_args : (c : Context) (ss : List t.Suffix) (left : ℕ) (es : t.Exprs) (sp : Span) (n before : ℕ) → 0 < left → slice_get ss (left - 1) ≡ Some (t.args es sp) → IsBefore c ss (left - 1) n before → IsCut c ss left n before
 cut_args c ss left es sp n before l h b = λ sc d s origin x is.
     let same : t.args es sp ≡ x = same_Some _ _ (sym h ∙ is) in
     ap (λ l. rest_of c sc d s origin l) (take_last ss left (t.args es sp) l h) ∙ b sc d s origin es sp ∙ ap (λ y. link_of c sc d s n y (rest_of c sc d s origin (take before ss))) same
 
-pub before_none : (c : Context) (ss : List t.Suffix) → IsBefore c ss 0 (text_of c apply_name) 0
+pub before_none : (c : Context) (ss : List t.Suffix) → IsBefore c ss 0 (number_of_text c apply_name) 0
 before_none c ss = λ sc d s origin es sp. refl
 
-pub before_dot : (c : Context) (ss : List t.Suffix) (left : ℕ) (n : Name) → 0 < left → slice_get ss (left - 1) ≡ Some (t.dot n) → IsBefore c ss left (text_of c n.text) (left - 1)
+pub before_dot : (c : Context) (ss : List t.Suffix) (left : ℕ) (n : Name) → 0 < left → slice_get ss (left - 1) ≡ Some (t.dot n) → IsBefore c ss left (number_of_text c n.text) (left - 1)
 before_dot c ss left n l h = λ sc d s origin es sp.
     ap (λ l. rest_of c sc d s origin (l ++ t.args es sp ∷ [])) (take_last ss left (t.dot n) l h) ∙ ap (λ l. rest_of c sc d s origin l) (two_more (take (left - 1) ss) (t.dot n) (t.args es sp)) ∙ chain_call c sc d s (take (left - 1) ss) n es sp origin
 
-pub before_args : (c : Context) (ss : List t.Suffix) (left : ℕ) (gs : t.Exprs) (gp : Span) → 0 < left → slice_get ss (left - 1) ≡ Some (t.args gs gp) → IsBefore c ss left (text_of c apply_name) left
+pub before_args : (c : Context) (ss : List t.Suffix) (left : ℕ) (gs : t.Exprs) (gp : Span) → 0 < left → slice_get ss (left - 1) ≡ Some (t.args gs gp) → IsBefore c ss left (number_of_text c apply_name) left
 before_args c ss left gs gp l h = λ sc d s origin es sp.
     let e = take_last ss left (t.args gs gp) l h in
-    ap (λ l. rest_of c sc d s origin (l ++ t.args es sp ∷ [])) e ∙ ap (λ l. rest_of c sc d s origin l) (two_more (take (left - 1) ss) (t.args gs gp) (t.args es sp)) ∙ chain_apply c sc d s (take (left - 1) ss) gs gp es sp origin ∙ ap (λ l. call c (join s sp) apply_name d (exprs_of c sc d es) (rest_of c sc d s origin l)) (sym e)
+    ap (λ l. rest_of c sc d s origin (l ++ t.args es sp ∷ [])) e ∙ ap (λ l. rest_of c sc d s origin l) (two_more (take (left - 1) ss) (t.args gs gp) (t.args es sp)) ∙ chain_apply c sc d s (take (left - 1) ss) gs gp es sp origin ∙ ap (λ l. call c (joined_span s sp) apply_name d (roses_of_exprs c sc d es) (rest_of c sc d s origin l)) (sym e)
 
 -- ---- how a chain starts
 
-pub begins_with_nothing : (c : Context) (ss : List t.Suffix) → Begins c (with_type no_value) ss begins.Value
+pub begins_with_nothing : (c : Context) (ss : List t.Suffix) → BeginsChain c (with_type no_value) ss begins.Value
 begins_with_nothing c [] = λ sc d s u origin. refl
 begins_with_nothing c (t.args es sp ∷ ss) = λ sc d s u origin. refl
 begins_with_nothing c (t.dot n ∷ []) = λ sc d s u origin. refl
 begins_with_nothing c (t.dot n ∷ t.dot m ∷ ss) = λ sc d s u origin. refl
 begins_with_nothing c (t.dot n ∷ t.args es sp ∷ ss) = λ sc d s u origin. refl
 
-pub begins_on_this : (c : Context) (n : Name) (ss : List t.Suffix) → is_args (slice_get ss 0) ≡ true → Begins c (with_method n) ss (begins.With (first.OnThis (text_of c n.text) n.span) 0)
+pub begins_on_this : (c : Context) (n : Name) (ss : List t.Suffix) → is_args (slice_get ss 0) ≡ true → BeginsChain c (with_method n) ss (begins.With (first.OnThis (number_of_text c n.text) n.span) 0)
 begins_on_this c n [] h = absurd (false≢true h)
 begins_on_this c n (t.dot m ∷ ss) h = absurd (false≢true h)
 begins_on_this c n (t.args es sp ∷ ss) h = λ sc d s u origin. refl
 
-pub begins_with_method : (c : Context) (n : Name) (ss : List t.Suffix) → is_args (slice_get ss 0) ≡ false → Begins c (with_method n) ss begins.Value
+pub begins_with_method : (c : Context) (n : Name) (ss : List t.Suffix) → is_args (slice_get ss 0) ≡ false → BeginsChain c (with_method n) ss begins.Value
 begins_with_method c n [] h = λ sc d s u origin. refl
 begins_with_method c n (t.args es sp ∷ ss) h = absurd (true≢false h)
 begins_with_method c n (t.dot m ∷ []) h = λ sc d s u origin. refl
 begins_with_method c n (t.dot m ∷ t.dot k ∷ ss) h = λ sc d s u origin. refl
 begins_with_method c n (t.dot m ∷ t.args es sp ∷ ss) h = λ sc d s u origin. refl
 
-pub begins_with_empty : (c : Context) (e : ℕ) (ss : List t.Suffix) → is_empty_args (slice_get ss 0) ≡ true → Begins c (with_type (primitive e)) ss (begins.With (first.Made (node.Prim e)) 0)
+pub begins_with_empty : (c : Context) (e : ℕ) (ss : List t.Suffix) → is_empty_args (slice_get ss 0) ≡ true → BeginsChain c (with_type (primitive e)) ss (begins.With (first.Made (node.Prim e)) 0)
 begins_with_empty c e [] h = absurd (false≢true h)
 begins_with_empty c e (t.dot m ∷ ss) h = absurd (false≢true h)
 begins_with_empty c e (t.args t.no_exprs sp ∷ ss) h = λ sc d s u origin. refl
 begins_with_empty c e (t.args (t.expr x xs) sp ∷ ss) h = absurd (false≢true h)
 
-pub begins_with_primitive : (c : Context) (e : ℕ) (ss : List t.Suffix) → is_empty_args (slice_get ss 0) ≡ false → Begins c (with_type (primitive e)) ss begins.Value
+pub begins_with_primitive : (c : Context) (e : ℕ) (ss : List t.Suffix) → is_empty_args (slice_get ss 0) ≡ false → BeginsChain c (with_type (primitive e)) ss begins.Value
 begins_with_primitive c e [] h = λ sc d s u origin. refl
 begins_with_primitive c e (t.args t.no_exprs sp ∷ ss) h = absurd (true≢false h)
 begins_with_primitive c e (t.args (t.expr x xs) sp ∷ ss) h = λ sc d s u origin. refl
@@ -145,41 +151,41 @@ begins_with_primitive c e (t.dot m ∷ t.args es sp ∷ ss) h = λ sc d s u orig
 
 -- A chain continues after a new object.
 object_begins : (c : Context) (a : Bool) (o : Option ℕ) (es : t.Exprs) (sp : Span) (ss : List t.Suffix) (sc : Scope) (d : ℕ) (s : Span) (u : Use) (origin : Rose)
-    → chain_of c sc d s u with_value (new_object a (join s sp) d (exprs_of c sc d es) o) (t.suffixes_of ss) ≡ chain_of c sc d s u with_value (begun c sc d s (object a o 0) (t.args es sp ∷ ss) origin) (t.suffixes_of (drop (taken (object a o 0)) (t.args es sp ∷ ss)))
+    → chain_of c sc d s u with_value (new_object_rose a (joined_span s sp) d (roses_of_exprs c sc d es) o) (t.suffixes_of ss) ≡ chain_of c sc d s u with_value (begun c sc d s (object a o 0) (t.args es sp ∷ ss) origin) (t.suffixes_of (drop (taken (object a o 0)) (t.args es sp ∷ ss)))
 object_begins c true (Some m) es sp ss sc d s u origin = refl
 object_begins c true None es sp ss sc d s u origin = refl
 object_begins c false (Some m) es sp ss sc d s u origin = refl
 object_begins c false None es sp ss sc d s u origin = refl
 
 named_begins : (c : Context) (a : Bool) (o : Option ℕ) (n : Name) (es : t.Exprs) (sp : Span) (ss : List t.Suffix) (sc : Scope) (d : ℕ) (s : Span) (u : Use) (origin : Rose)
-    → chain_of c sc d s u with_value (new_object a (join s sp) d (exprs_of c sc d es) o) (t.suffixes_of ss) ≡ chain_of c sc d s u with_value (begun c sc d s (object a o 1) (t.dot n ∷ t.args es sp ∷ ss) origin) (t.suffixes_of (drop (taken (object a o 1)) (t.dot n ∷ t.args es sp ∷ ss)))
+    → chain_of c sc d s u with_value (new_object_rose a (joined_span s sp) d (roses_of_exprs c sc d es) o) (t.suffixes_of ss) ≡ chain_of c sc d s u with_value (begun c sc d s (object a o 1) (t.dot n ∷ t.args es sp ∷ ss) origin) (t.suffixes_of (drop (taken (object a o 1)) (t.dot n ∷ t.args es sp ∷ ss)))
 named_begins c true (Some m) n es sp ss sc d s u origin = refl
 named_begins c true None n es sp ss sc d s u origin = refl
 named_begins c false (Some m) n es sp ss sc d s u origin = refl
 named_begins c false None n es sp ss sc d s u origin = refl
 
 begins_created : (c : Context) (a : Bool) (o : Option ℕ) (cs : List Constructor) (es : t.Exprs) (sp : Span) (ss : List t.Suffix) → constructor_named cs create_name ≡ o
-    → Begins c (with_type (created a cs)) (t.args es sp ∷ ss) (object a o 0)
+    → BeginsChain c (with_type (created a cs)) (t.args es sp ∷ ss) (object a o 0)
 begins_created c a o cs es sp ss h = λ sc d s u origin.
-    ap (λ p. chain_of c sc d s u with_value (new_object a (join s sp) d (exprs_of c sc d es) p) (t.suffixes_of ss)) h ∙ object_begins c a o es sp ss sc d s u origin
+    ap (λ p. chain_of c sc d s u with_value (new_object_rose a (joined_span s sp) d (roses_of_exprs c sc d es) p) (t.suffixes_of ss)) h ∙ object_begins c a o es sp ss sc d s u origin
 
 begins_named : (c : Context) (a : Bool) (o : Option ℕ) (cs : List Constructor) (n : Name) (es : t.Exprs) (sp : Span) (ss : List t.Suffix) → constructor_named cs n.text ≡ o
-    → Begins c (with_type (created a cs)) (t.dot n ∷ t.args es sp ∷ ss) (object a o 1)
+    → BeginsChain c (with_type (created a cs)) (t.dot n ∷ t.args es sp ∷ ss) (object a o 1)
 begins_named c a o cs n es sp ss h = λ sc d s u origin.
-    ap (λ p. chain_of c sc d s u with_value (new_object a (join s sp) d (exprs_of c sc d es) p) (t.suffixes_of ss)) h ∙ named_begins c a o n es sp ss sc d s u origin
+    ap (λ p. chain_of c sc d s u with_value (new_object_rose a (joined_span s sp) d (roses_of_exprs c sc d es) p) (t.suffixes_of ss)) h ∙ named_begins c a o n es sp ss sc d s u origin
 
-pub begins_with_create : (c : Context) (a : Bool) (cs : List Constructor) (ss : List t.Suffix) → is_args (slice_get ss 0) ≡ true → Begins c (with_type (created a cs)) ss (object a (constructor_named cs create_name) 0)
+pub begins_with_create : (c : Context) (a : Bool) (cs : List Constructor) (ss : List t.Suffix) → is_args (slice_get ss 0) ≡ true → BeginsChain c (with_type (created a cs)) ss (object a (constructor_named cs create_name) 0)
 begins_with_create c a cs [] h = absurd (false≢true h)
 begins_with_create c a cs (t.dot m ∷ ss) h = absurd (false≢true h)
 begins_with_create c a cs (t.args es sp ∷ ss) h = begins_created c a (constructor_named cs create_name) cs es sp ss refl
 
-pub begins_with_named : (c : Context) (a : Bool) (cs : List Constructor) (n : Name) (ss : List t.Suffix) → slice_get ss 0 ≡ Some (t.dot n) → is_args (slice_get ss 1) ≡ true → Begins c (with_type (created a cs)) ss (object a (constructor_named cs n.text) 1)
+pub begins_with_named : (c : Context) (a : Bool) (cs : List Constructor) (n : Name) (ss : List t.Suffix) → slice_get ss 0 ≡ Some (t.dot n) → is_args (slice_get ss 1) ≡ true → BeginsChain c (with_type (created a cs)) ss (object a (constructor_named cs n.text) 1)
 begins_with_named c a cs n [] h g = absurd (false≢true g)
 begins_with_named c a cs n (x ∷ []) h g = absurd (false≢true g)
 begins_with_named c a cs n (x ∷ t.dot m ∷ ss) h g = absurd (false≢true g)
-begins_with_named c a cs n (x ∷ t.args es sp ∷ ss) h g = subst (λ y. Begins c (with_type (created a cs)) (y ∷ t.args es sp ∷ ss) (object a (constructor_named cs n.text) 1)) (sym (same_Some _ _ h)) (begins_named c a (constructor_named cs n.text) cs n es sp ss refl)
+begins_with_named c a cs n (x ∷ t.args es sp ∷ ss) h g = subst (λ y. BeginsChain c (with_type (created a cs)) (y ∷ t.args es sp ∷ ss) (object a (constructor_named cs n.text) 1)) (sym (same_Some _ _ h)) (begins_named c a (constructor_named cs n.text) cs n es sp ss refl)
 
-pub begins_with_object : (c : Context) (a : Bool) (cs : List Constructor) (n : Name) (ss : List t.Suffix) → slice_get ss 0 ≡ Some (t.dot n) → is_args (slice_get ss 1) ≡ false → Begins c (with_type (created a cs)) ss begins.Value
+pub begins_with_object : (c : Context) (a : Bool) (cs : List Constructor) (n : Name) (ss : List t.Suffix) → slice_get ss 0 ≡ Some (t.dot n) → is_args (slice_get ss 1) ≡ false → BeginsChain c (with_type (created a cs)) ss begins.Value
 begins_with_object c a cs n [] h g = λ sc d s u origin. refl
 begins_with_object c a cs n (t.args es sp ∷ ss) h g = absurd (true≢false (ap is_args h))
 begins_with_object c a cs n (t.dot m ∷ []) h g = λ sc d s u origin. refl
@@ -187,10 +193,10 @@ begins_with_object c a cs n (t.dot m ∷ t.dot k ∷ ss) h g = λ sc d s u origi
 begins_with_object c a cs n (t.dot m ∷ t.args es sp ∷ ss) h g = absurd (true≢false g)
 
 pub begins_behind_name : (c : Context) (a : Bool) (cs : List Constructor) (n : Name) (ss : List t.Suffix) → slice_get ss 0 ≡ Some (t.dot n)
-    → Begins c (with_type (created a cs)) ss (if is_args (slice_get ss 1) then object a (constructor_named cs n.text) 1 else begins.Value)
+    → BeginsChain c (with_type (created a cs)) ss (if is_args (slice_get ss 1) then object a (constructor_named cs n.text) 1 else begins.Value)
 begins_behind_name c a cs n ss h = by (is_args (slice_get ss 1)) refl
   where
-    by : (b : Bool) → is_args (slice_get ss 1) ≡ b → Begins c (with_type (created a cs)) ss (if b then object a (constructor_named cs n.text) 1 else begins.Value)
+    by : (b : Bool) → is_args (slice_get ss 1) ≡ b → BeginsChain c (with_type (created a cs)) ss (if b then object a (constructor_named cs n.text) 1 else begins.Value)
     by true g = begins_with_named c a cs n ss h g
     by false g = begins_with_object c a cs n ss h g
 
@@ -231,7 +237,7 @@ pub split_none : (c : Context) (ss : List t.Suffix) → length ss ≡ 0 → IsSp
 split_none c [] h = λ sc d s whole v origin. refl
 split_none c (x ∷ ss) h = absurd (omega (arith, h))
 
-pub split_dot : (c : Context) (ss : List t.Suffix) (n : ℕ) (x : Name) → n ≡ length ss → 0 < n → slice_get ss (n - 1) ≡ Some (t.dot x) → IsSplit c ss (Some (text_of c x.text)) (n - 1)
+pub split_dot : (c : Context) (ss : List t.Suffix) (n : ℕ) (x : Name) → n ≡ length ss → 0 < n → slice_get ss (n - 1) ≡ Some (t.dot x) → IsSplit c ss (Some (number_of_text c x.text)) (n - 1)
 split_dot c ss n x e l h = λ sc d s whole v origin.
     ap (λ z. chain_of c sc d whole (write s v) with_value origin (t.suffixes_of z)) (all_but ss n (t.dot x) e l h) ∙ chain_field c sc d whole (write s v) (take (n - 1) ss) x with_value origin
 
@@ -254,24 +260,24 @@ empty_args (x ∷ xs) s true h = let e : length (x ∷ xs) ≡ 0 = h.0 refl in a
 
 -- A chain whose nodes are pending on its beginning.
 pub chain_opens : (c : Context) (sc sc2 : Scope) (d : ℕ) (e h : Expr) (b : Box Expr Global) (ss xs : List Suffix) (s : Span) (beg : Beginning) (first count : ℕ) (rest : List Suffix)
-    → e ≡ exprs.Chain b ss s → h ≡ b.value → xs ≡ ss → sc2 ≡ sc → Begins c (start_of c sc2 (expr_view h)) (map suffix_view xs) beg → first ≡ taken beg → rest ≡ drop first xs → count ≡ length rest
+    → e ≡ exprs.Chain b ss s → h ≡ b.value → xs ≡ ss → sc2 ≡ sc → BeginsChain c (chain_start c sc2 (expr_view h)) (map suffix_view xs) beg → first ≡ taken beg → rest ≡ drop first xs → count ≡ length rest
     → only is_chain c sc d (expr_view e) ≡ rest_of c sc d s (begun c sc d s beg (map suffix_view xs) (expr_of c sc d (expr_view h))) (map suffix_view (take count (drop (taken beg) xs)))
 chain_opens c sc sc2 d e h b ss xs s beg first count rest is eh ex es begins f er ec =
     let behind : rest ≡ drop (taken beg) xs = er ∙ ap (λ n. drop n xs) f in
     let all : map suffix_view (take count (drop (taken beg) xs)) ≡ drop (taken beg) (map suffix_view xs) = ap (λ r. map suffix_view (take count r)) (sym behind) ∙ ap (λ n. map suffix_view (take n rest)) ec ∙ ap (map suffix_view) (take_whole rest ∙ behind) ∙ map_drop suffix_view (taken beg) xs in
-    rw (is, view_chain b ss s, ← eh, ← ex, all) (ap (λ z. chain_of c sc d s read (start_of c z (expr_view h)) (expr_of c sc d (expr_view h)) (t.suffixes_of (map suffix_view xs))) (sym es) ∙ begins sc d s read (expr_of c sc d (expr_view h)))
+    rw (is, view_chain b ss s, ← eh, ← ex, all) (ap (λ z. chain_of c sc d s read (chain_start c z (expr_view h)) (expr_of c sc d (expr_view h)) (t.suffixes_of (map suffix_view xs))) (sym es) ∙ begins sc d s read (expr_of c sc d (expr_view h)))
 
 -- The same if a value is assigned to its end.
 pub write_opens : (c : Context) (sc sc2 : Scope) (d : ℕ) (e h : Expr) (b : Box Expr Global) (ss xs : List Suffix) (s place : Span) (v : Rose) (beg : Beginning) (first count : ℕ) (into : Option ℕ) (rest : List Suffix)
-    → e ≡ exprs.Chain b ss s → h ≡ b.value → xs ≡ ss → sc2 ≡ sc → Begins c (start_of c sc2 (expr_view h)) (map suffix_view xs) beg → first ≡ taken beg → rest ≡ drop first xs → IsSplit c (map suffix_view rest) into count
+    → e ≡ exprs.Chain b ss s → h ≡ b.value → xs ≡ ss → sc2 ≡ sc → BeginsChain c (chain_start c sc2 (expr_view h)) (map suffix_view xs) beg → first ≡ taken beg → rest ≡ drop first xs → IsSplit c (map suffix_view rest) into count
     → assign_of c sc d place v (expr_of c sc d (expr_view e)) (expr_view e) ≡ written_end d place into v (rest_of c sc d s (begun c sc d s beg (map suffix_view xs) (expr_of c sc d (expr_view h))) (map suffix_view (take count (drop (taken beg) xs))))
 write_opens c sc sc2 d e h b ss xs s place v beg first count into rest is eh ex es begins f er split =
     let o : Rose = begun c sc d s beg (map suffix_view xs) (expr_of c sc d (expr_view h)) in
     let behind : rest ≡ drop (taken beg) xs = er ∙ ap (λ n. drop n xs) f in
     let all : drop (taken beg) (map suffix_view xs) ≡ map suffix_view rest = sym (map_drop suffix_view (taken beg) xs) ∙ ap (map suffix_view) (sym behind) in
     let some : take count (map suffix_view rest) ≡ map suffix_view (take count (drop (taken beg) xs)) = sym (map_take suffix_view count rest) ∙ ap (λ r. map suffix_view (take count r)) behind in
-    let whole : assign_of c sc d place v (expr_of c sc d (expr_view e)) (expr_view e) ≡ chain_of c sc d s (write place v) (start_of c sc (expr_view h)) (expr_of c sc d (expr_view h)) (t.suffixes_of (map suffix_view xs)) = rw (is, view_chain b ss s, ← eh, ← ex) refl in
-    whole ∙ ap (λ z. chain_of c sc d s (write place v) (start_of c z (expr_view h)) (expr_of c sc d (expr_view h)) (t.suffixes_of (map suffix_view xs))) (sym es) ∙ begins sc d s (write place v) (expr_of c sc d (expr_view h)) ∙ ap (λ z. chain_of c sc d s (write place v) with_value o (t.suffixes_of z)) all ∙ split sc d place s v o ∙ ap (λ z. written_end d place into v (rest_of c sc d s o z)) some
+    let whole : assign_of c sc d place v (expr_of c sc d (expr_view e)) (expr_view e) ≡ chain_of c sc d s (write place v) (chain_start c sc (expr_view h)) (expr_of c sc d (expr_view h)) (t.suffixes_of (map suffix_view xs)) = rw (is, view_chain b ss s, ← eh, ← ex) refl in
+    whole ∙ ap (λ z. chain_of c sc d s (write place v) (chain_start c z (expr_view h)) (expr_of c sc d (expr_view h)) (t.suffixes_of (map suffix_view xs))) (sym es) ∙ begins sc d s (write place v) (expr_of c sc d (expr_view h)) ∙ ap (λ z. chain_of c sc d s (write place v) with_value o (t.suffixes_of z)) all ∙ split sc d place s v o ∙ ap (λ z. written_end d place into v (rest_of c sc d s o z)) some
 
 pub begun_first : (c : Context) (sc : Scope) (d : ℕ) (s : Span) (beg : Beginning) (f : First) (at : ℕ) (xs : List Suffix) (x : Suffix) (o : Rose)
     → beg ≡ begins.With f at → taken beg ≤ length xs → x ≡ slice_index_or xs at x → begun c sc d s beg (map suffix_view xs) o ≡ first_of c sc d s f (suffix_view x)

@@ -9,7 +9,7 @@ use Rattle.pc_core.specs.declared.nodes.Node.{Node}
 use Rattle.pc_core.specs.declared.nodes.NodeKind.{NodeKind}
 use Rattle.pc_core.specs.declared.nodes.NodeKind.TheVariants as node
 use Rattle.pc_tree.specs.declared.kinds.Op.{Op}
-use Rattle.pc_tree.specs.declared.names.Name.{Name}
+use Rattle.pc_tree.specs.declared.written_names.Name.{Name}
 use Rattle.pc_tree.specs.Tree as t
 use Rattle.pc_tree.specs.View.{expr_view, exprs_view, arm_view, arms_view, seq_view, item_view, items_view}
 use Rattle.pc_tree.specs.declared.expression.Expr.{Expr, the_lemmas}
@@ -19,13 +19,15 @@ use Rattle.std.proofs.lemmas.List.{length-append, length-take, take-append-le}
 use Rattle.pc_tree.specs.declared.expression.Seq.{Seq}
 use Rattle.std.proofs.lemmas.Bool.{true≢false}
 use Rattle.pc_body_spec.specs.Roses.{Rose, Roses, rose, more, no_roses, two, three, and_last, Numbered, and_then, put, puts, push}
-use Rattle.pc_body_spec.specs.Scopes.{Context, Scope, Meaning, local, field, method, nothing, resolve, scope_after, text_of}
-use Rattle.pc_body_spec.specs.Expressions.{expr_of, exprs_of, assign_of, chain_of, named_of, write_name, read_field, call_named, apply, Start, start_of, with_value, write, operands_of, operation, join, or_none, sequence, if_of}
+use Rattle.pc_body_spec.specs.Scopes.{Context, Scope, Meaning, local, field, method, nothing, resolve, scope_after, number_of_text}
+use Rattle.pc_body_spec.specs.Expressions.{expr_of, roses_of_exprs, assign_of, chain_of, named_of, write_name, read_field, call_named, apply, Start}
+use Rattle.pc_body_spec.specs.Expressions.{chain_start, with_value, write, operands_of, operation, joined_span, or_added_none, sequence, if_of}
 use Rattle.pc_emit.specs.declared.stop.EmitStop.{EmitStop}
 use Rattle.pc_emit.specs.declared.stop.EmitStop.TheVariants as stop
 use Rattle.pc_emit.specs.declared.waiting.Link.{Link}
-use Rattle.pc_emit.specs.Giving.{Gives}
-use Rattle.pc_emit.specs.Closing.{TakesLast, closing, arm_after, arm_closes, none_closes, seq_closes, name_closes, names_none, is_missing, written_end, written_kind, begun_by, Opens, OpensChain, OpensOne}
+use Rattle.pc_emit.specs.Giving.{GivesNodes}
+use Rattle.pc_emit.specs.Closing.{TakesLast, closing, arm_after, arm_closes, none_closes, seq_closes, name_closes, names_none, is_missing, written_end}
+use Rattle.pc_emit.specs.Closing.{written_kind, begun_by, OpensInnerPart, OpensChain, OpensOne}
 
 pub on_ok : {A P : Type 0} (r : Result A EmitStop) → P → OnOk r P
 on_ok (Ok a) h = h
@@ -146,7 +148,7 @@ none_first m d s (Some r) rest = inner (rest r.1)
     inner None = refl
     inner (Some b) = refl
 
-or_none_is : (m d : ℕ) (s : Span) (rs : Roses) (ns : List Node) → puts m (or_none s d rs) ns ≡ and_then (puts m rs ns) (none_closes m d s)
+or_none_is : (m d : ℕ) (s : Span) (rs : Roses) (ns : List Node) → puts m (or_added_none s d rs) ns ≡ and_then (puts m rs ns) (none_closes m d s)
 unfolding none_closes
 or_none_is m d s no_roses ns = refl
 or_none_is m d s (more r rs) ns = none_first m d s (put m r ns) (puts m rs)
@@ -158,43 +160,43 @@ sequence_is m d s rs ns = ap (λ o. and_then o (push m node.Seq s d)) (or_none_i
 -- The left side is numbered first.
 pub operands_none : (c : Context) (sc : Scope) (d : ℕ) (o : Op) (s : Span) (m : ℕ) (es : t.Exprs) (r : Rose) (ns : List Node) → put m r ns ≡ None → put m (operands_of c sc d o s r es) ns ≡ None
 operands_none c sc d o s m t.no_exprs r ns h = h
-operands_none c sc d o s m (t.expr e es) r ns h = operands_none c sc d o s m es (rose (operation o) (join s (t.span_of e)) d (two r (expr_of c sc d e))) ns (rw h refl)
+operands_none c sc d o s m (t.expr e es) r ns h = operands_none c sc d o s m es (rose (operation o) (joined_span s (t.span_of e)) d (two r (expr_of c sc d e))) ns (rw h refl)
 
 pub right_none : (c : Context) (sc : Scope) (d : ℕ) (o : Op) (s : Span) (m : ℕ) (e : t.Expr) (es : t.Exprs) (r : Rose) (n : ℕ) (ns n1 : List Node) → put m r ns ≡ Some (n, n1) → put m (expr_of c sc d e) n1 ≡ None → put m (operands_of c sc d o s r (t.expr e es)) ns ≡ None
-right_none c sc d o s m e es r n ns n1 h g = operands_none c sc d o s m es (rose (operation o) (join s (t.span_of e)) d (two r (expr_of c sc d e))) ns (rw (h, g) refl)
+right_none c sc d o s m e es r n ns n1 h g = operands_none c sc d o s m es (rose (operation o) (joined_span s (t.span_of e)) d (two r (expr_of c sc d e))) ns (rw (h, g) refl)
 
-pub push_none : (c : Context) (sc : Scope) (d : ℕ) (o : Op) (s : Span) (m : ℕ) (e : t.Expr) (es : t.Exprs) (r : Rose) (n a : ℕ) (ns n1 n2 : List Node) → put m r ns ≡ Some (n, n1) → put m (expr_of c sc d e) n1 ≡ Some (a, n2) → push m (operation o) (join s (t.span_of e)) d (n ∷ a ∷ []) n2 ≡ None → put m (operands_of c sc d o s r (t.expr e es)) ns ≡ None
-push_none c sc d o s m e es r n a ns n1 n2 h g i = operands_none c sc d o s m es (rose (operation o) (join s (t.span_of e)) d (two r (expr_of c sc d e))) ns (rw (h, g, i) refl)
+pub push_none : (c : Context) (sc : Scope) (d : ℕ) (o : Op) (s : Span) (m : ℕ) (e : t.Expr) (es : t.Exprs) (r : Rose) (n a : ℕ) (ns n1 n2 : List Node) → put m r ns ≡ Some (n, n1) → put m (expr_of c sc d e) n1 ≡ Some (a, n2) → push m (operation o) (joined_span s (t.span_of e)) d (n ∷ a ∷ []) n2 ≡ None → put m (operands_of c sc d o s r (t.expr e es)) ns ≡ None
+push_none c sc d o s m e es r n a ns n1 n2 h g i = operands_none c sc d o s m es (rose (operation o) (joined_span s (t.span_of e)) d (two r (expr_of c sc d e))) ns (rw (h, g, i) refl)
 
 -- ---- stops
 
 -- The code stops where a part does.
-pub stops : {A B : Type 0} (e : EmitStop) (ns n2 : List Node) (part : Numbered A) (whole : Numbered B) → Gives (Err e) ns part → (part ≡ None → whole ≡ None) → Gives (Err e) n2 whole
+pub stops : {A B : Type 0} (e : EmitStop) (ns n2 : List Node) (part : Numbered A) (whole : Numbered B) → GivesNodes (Err e) ns part → (part ≡ None → whole ≡ None) → GivesNodes (Err e) n2 whole
 stops stop.Full ns n2 part whole h f = f h
 stops stop.Memory ns n2 part whole h f = tt
 
-pub stops_one : {P A : Type 0} (e : EmitStop) (ns n2 : List Node) (part : Numbered A) (step : P → ℕ → List Node → Numbered ℕ) (inner : List Node → Numbered ℕ) (whole : Numbered ℕ) → Gives (Err e) ns part → (part ≡ None → whole ≡ None) → OpensOne (Err e) n2 step inner whole
+pub stops_one : {P A : Type 0} (e : EmitStop) (ns n2 : List Node) (part : Numbered A) (step : P → ℕ → List Node → Numbered ℕ) (inner : List Node → Numbered ℕ) (whole : Numbered ℕ) → GivesNodes (Err e) ns part → (part ≡ None → whole ≡ None) → OpensOne (Err e) n2 step inner whole
 stops_one stop.Full ns n2 part step inner whole h f = f h
 stops_one stop.Memory ns n2 part step inner whole h f = tt
 
-pub stops_still : {P : Type 0} (e : EmitStop) (ns n2 : List Node) (step : P → ℕ → List Node → Numbered ℕ) (i1 i2 : List Node → Numbered ℕ) (part whole : Numbered ℕ) → OpensOne (Err e) ns step i1 part → (part ≡ None → whole ≡ None) → Opens (Err e) n2 step i2 whole
+pub stops_still : {P : Type 0} (e : EmitStop) (ns n2 : List Node) (step : P → ℕ → List Node → Numbered ℕ) (i1 i2 : List Node → Numbered ℕ) (part whole : Numbered ℕ) → OpensOne (Err e) ns step i1 part → (part ≡ None → whole ≡ None) → OpensInnerPart (Err e) n2 step i2 whole
 stops_still stop.Full ns n2 step i1 i2 part whole h f = f h
 stops_still stop.Memory ns n2 step i1 i2 part whole h f = tt
 
 -- The whole fails with an inner part, and otherwise is completed around it.
-pub inner_stops : {A B : Type 0} (e : EmitStop) (ns n2 : List Node) (inner : Numbered A) (f : A → List Node → Numbered B) (whole : Numbered B) → whole ≡ and_then inner f → Gives (Err e) ns inner → Gives (Err e) n2 whole
+pub inner_stops : {A B : Type 0} (e : EmitStop) (ns n2 : List Node) (inner : Numbered A) (f : A → List Node → Numbered B) (whole : Numbered B) → whole ≡ and_then inner f → GivesNodes (Err e) ns inner → GivesNodes (Err e) n2 whole
 inner_stops stop.Full ns n2 inner f whole h g = h ∙ ap (λ o. and_then o f) g
 inner_stops stop.Memory ns n2 inner f whole h g = tt
 
-pub inner_gives : {A B : Type 0} (r : Result B EmitStop) (n1 n2 : List Node) (a : A) (inner : Numbered A) (f : A → List Node → Numbered B) (whole : Numbered B) → whole ≡ and_then inner f → inner ≡ Some (a, n1) → Gives r n2 (f a n1) → Gives r n2 whole
+pub inner_gives : {A B : Type 0} (r : Result B EmitStop) (n1 n2 : List Node) (a : A) (inner : Numbered A) (f : A → List Node → Numbered B) (whole : Numbered B) → whole ≡ and_then inner f → inner ≡ Some (a, n1) → GivesNodes r n2 (f a n1) → GivesNodes r n2 whole
 inner_gives r n1 n2 a inner f whole h g i = rw (h, g) i
 
 -- The whole fails with a part of an arm around which others are pending.
-pub arm_stops : {P : Type 0} (e : EmitStop) (ns n2 : List Node) (step : P → ℕ → List Node → Numbered ℕ) (ps : List P) (inner : List Node → Numbered ℕ) (part arm whole : Numbered ℕ) → whole ≡ and_then arm (closing step ps) → Gives {A = ℕ} (Err e) ns part → (part ≡ None → arm ≡ None) → Opens (Err e) n2 step inner whole
+pub arm_stops : {P : Type 0} (e : EmitStop) (ns n2 : List Node) (step : P → ℕ → List Node → Numbered ℕ) (ps : List P) (inner : List Node → Numbered ℕ) (part arm whole : Numbered ℕ) → whole ≡ and_then arm (closing step ps) → GivesNodes {A = ℕ} (Err e) ns part → (part ≡ None → arm ≡ None) → OpensInnerPart (Err e) n2 step inner whole
 arm_stops stop.Full ns n2 step ps inner part arm whole w h f = w ∙ ap (λ o. and_then o (closing step ps)) (f h)
 arm_stops stop.Memory ns n2 step ps inner part arm whole w h f = tt
 
-pub opens_stop : {P : Type 0} (e : EmitStop) (ns n2 : List Node) (step : P → ℕ → List Node → Numbered ℕ) (inner : List Node → Numbered ℕ) (whole : Numbered ℕ) → Opens (Err e) ns step inner whole → Gives {A = ℕ} (Err e) n2 whole
+pub opens_stop : {P : Type 0} (e : EmitStop) (ns n2 : List Node) (step : P → ℕ → List Node → Numbered ℕ) (inner : List Node → Numbered ℕ) (whole : Numbered ℕ) → OpensInnerPart (Err e) ns step inner whole → GivesNodes {A = ℕ} (Err e) n2 whole
 opens_stop stop.Full ns n2 step inner whole h = h
 opens_stop stop.Memory ns n2 step inner whole h = tt
 
@@ -251,12 +253,12 @@ seq_parts x = search (rules, the_lemmas)
 -- ---- how a chain begins
 
 -- A chain fails with what opens its suffixes, or with its beginning.
-pub links_stop : (e : EmitStop) (ns n2 : List Node) (step : Link → ℕ → List Node → Numbered ℕ) (begins atom : List Node → Numbered ℕ) (whole : Numbered ℕ) → Opens (Err e) ns step begins whole → OpensChain (Err e) n2 step atom whole
+pub links_stop : (e : EmitStop) (ns n2 : List Node) (step : Link → ℕ → List Node → Numbered ℕ) (begins atom : List Node → Numbered ℕ) (whole : Numbered ℕ) → OpensInnerPart (Err e) ns step begins whole → OpensChain (Err e) n2 step atom whole
 links_stop stop.Full ns n2 step begins atom whole h = h
 links_stop stop.Memory ns n2 step begins atom whole h = tt
 
 pub beginning_stops : (e : EmitStop) (m : ℕ) (n1 n2 n3 : List Node) (step : Link → ℕ → List Node → Numbered ℕ) (ps : List Link) (begins first : Rose) (atom : List Node → Numbered ℕ) (whole : Numbered ℕ)
-    → whole ≡ and_then (put m begins n1) (closing step ps) → begins ≡ first → Gives {A = ℕ} (Err e) n2 (put m first n1) → OpensChain (Err e) n3 step atom whole
+    → whole ≡ and_then (put m begins n1) (closing step ps) → begins ≡ first → GivesNodes {A = ℕ} (Err e) n2 (put m first n1) → OpensChain (Err e) n3 step atom whole
 beginning_stops stop.Full m n1 n2 n3 step ps begins first atom whole h b g = h ∙ ap (λ r. and_then (put m r n1) (closing step ps)) b ∙ ap (λ o. and_then o (closing step ps)) g
 beginning_stops stop.Memory m n1 n2 n3 step ps begins first atom whole h b g = tt
 
@@ -269,7 +271,7 @@ pub begins_with_first : (m n : ℕ) (n1 n2 : List Node) (step : Link → ℕ →
     → whole ≡ and_then (put m begins n1) (closing step ps) → begins ≡ first → put m first n1 ≡ Some (n, n2) → whole ≡ and_then (begun_by (Some n) atom n2) (closing step ps)
 begins_with_first m n n1 n2 step ps begins first atom whole h b g = h ∙ ap (λ r. and_then (put m r n1) (closing step ps)) b ∙ ap (λ o. and_then o (closing step ps)) g
 
-pub chain_stops : (e : EmitStop) (ns n2 : List Node) (step : Link → ℕ → List Node → Numbered ℕ) (atom : List Node → Numbered ℕ) (whole : Numbered ℕ) → OpensChain (Err e) ns step atom whole → Gives {A = ℕ} (Err e) n2 whole
+pub chain_stops : (e : EmitStop) (ns n2 : List Node) (step : Link → ℕ → List Node → Numbered ℕ) (atom : List Node → Numbered ℕ) (whole : Numbered ℕ) → OpensChain (Err e) ns step atom whole → GivesNodes {A = ℕ} (Err e) n2 whole
 chain_stops stop.Full ns n2 step atom whole h = h
 chain_stops stop.Memory ns n2 step atom whole h = tt
 
@@ -288,7 +290,8 @@ pub name_written : (c : Context) (m d : ℕ) (s : Span) (n : Name) (w : Meaning)
     → put m (write_name c s n d v w) before ≡ name_closes c m d s n w value ns
 unfolding name_closes
 name_written c m d s n (local x) v value before ns o h = rw h refl
-name_written c m d s n field v value before ns o h = rw h (two_last value (push m node.This n.span d [] ns) (push m (node.SetField (text_of c n.text)) s d))
+name_written c m d s n field v value before ns o h =
+    rw h (two_last value (push m node.This n.span d [] ns) (push m (node.SetField (number_of_text c n.text)) s d))
 name_written c m d s n method v value before ns o h = absurd (true≢false o)
 name_written c m d s n nothing v value before ns o h = absurd (true≢false o)
 
@@ -297,12 +300,12 @@ module _ (c : Context) (sc : Scope) (m d : ℕ) (s place : Span) (v : Rose) (ns 
     chain_none : (st : Start) (origin : Rose) (ss : t.Suffixes) → put m (chain_of c sc d s (write place v) st origin ss) ns ≡ None
     chain_none st origin t.no_suffixes = rw h refl
     chain_none st origin (t.suffix (t.dot n) ss) = named_none st origin n ss
-    chain_none st origin (t.suffix (t.args es sp) ss) = chain_none with_value (apply c st (join s sp) d (exprs_of c sc d es) origin) ss
+    chain_none st origin (t.suffix (t.args es sp) ss) = chain_none with_value (apply c st (joined_span s sp) d (roses_of_exprs c sc d es) origin) ss
 
     named_none : (st : Start) (origin : Rose) (n : Name) (ss : t.Suffixes) → put m (named_of c sc d s (write place v) st origin n ss) ns ≡ None
     named_none st origin n t.no_suffixes = rw h refl
-    named_none st origin n (t.suffix (t.dot k) ss) = named_none with_value (read_field c (join s n.span) n d origin) k ss
-    named_none st origin n (t.suffix (t.args es sp) ss) = chain_none with_value (call_named c st (join s sp) n d (exprs_of c sc d es) origin) ss
+    named_none st origin n (t.suffix (t.dot k) ss) = named_none with_value (read_field c (joined_span s n.span) n d origin) k ss
+    named_none st origin n (t.suffix (t.args es sp) ss) = chain_none with_value (call_named c st (joined_span s sp) n d (roses_of_exprs c sc d es) origin) ss
 
 name_none : (c : Context) (m d : ℕ) (s : Span) (n : Name) (w : Meaning) (v : Rose) (ns : List Node) → names_none w ≡ false → put m v ns ≡ None → put m (write_name c s n d v w) ns ≡ None
 name_none c m d s n (local x) v ns o h = rw h refl
@@ -313,7 +316,7 @@ name_none c m d s n nothing v ns o h = absurd (true≢false o)
 -- So if there are no nodes for the value, there are none for the whole.
 pub assign_none : (c : Context) (sc : Scope) (m d : ℕ) (s : Span) (v l : Rose) (e : t.Expr) (ns : List Node) → is_missing c sc e ≡ false → put m v ns ≡ None → put m (assign_of c sc d s v l e) ns ≡ None
 assign_none c sc m d s v l (t.name n) ns o h = name_none c m d s n (resolve c sc n.text) v ns o h
-assign_none c sc m d s v l (t.chain f ss whole) ns o h = chain_none c sc m d whole s v ns h (start_of c sc f) (expr_of c sc d f) ss
+assign_none c sc m d s v l (t.chain f ss whole) ns o h = chain_none c sc m d whole s v ns h (chain_start c sc f) (expr_of c sc d f) ss
 assign_none c sc m d s v l (t.number n sp) ns o h = rw h refl
 assign_none c sc m d s v l (t.truth n sp) ns o h = rw h refl
 assign_none c sc m d s v l (t.text n sp) ns o h = rw h refl

@@ -4,12 +4,12 @@ use Rattle.pc_caps.specs.declared.span.Span.{Span}
 use Rattle.pc_core.specs.declared.nodes.Node.{Node}
 use Rattle.pc_core.specs.declared.nodes.NodeKind.{NodeKind}
 use Rattle.pc_core.specs.declared.nodes.NodeKind.TheVariants as node
-use Rattle.pc_tree.specs.declared.names.Name.{Name}
+use Rattle.pc_tree.specs.declared.written_names.Name.{Name}
 use Rattle.pc_tree.specs.Tree as t
 use Rattle.pc_tree.specs.BuiltIn.{none_entity}
 use Rattle.pc_body_spec.specs.Roses.{Rose, rose, leaf, one, two, and_last, Numbered, and_then, push}
-use Rattle.pc_body_spec.specs.Scopes.{Context, Scope, Meaning, local, field, method, nothing, resolve, text_of}
-use Rattle.pc_body_spec.specs.Expressions.{join, gap, value_then, write_name, expr_of, exprs_of, chain_of, Start, with_value, Use, read, write}
+use Rattle.pc_body_spec.specs.Scopes.{Context, Scope, Meaning, local, field, method, nothing, resolve, number_of_text}
+use Rattle.pc_body_spec.specs.Expressions.{joined_span, gap, value_then, write_name, expr_of, roses_of_exprs, chain_of, Start, with_value, Use, read, write}
 use Rattle.pc_emit.specs.declared.stop.EmitStop.{EmitStop}
 use Rattle.pc_emit.specs.declared.stop.EmitStop.TheVariants as stop
 use Rattle.pc_emit.specs.declared.waiting.OpenArm.{OpenArm}
@@ -55,10 +55,10 @@ unfoldable pub seq_closes : (method depth : ℕ) → Span → List ℕ → List 
 seq_closes m d s tops ns = and_then (none_closes m d s tops ns) (push m node.Seq s d)
 
 -- The result of the code if nodes are pending on an inner part, whose own nodes come next.
-abbrev pub Opens : {P : Type 0} → Result (List P) EmitStop → List Node → (P → ℕ → List Node → Numbered ℕ) → (List Node → Numbered ℕ) → Numbered ℕ → Type 0
-Opens (Ok ps) ns step inner want = want ≡ and_then (inner ns) (closing step ps)
-Opens (Err stop.Full) ns step inner want = want ≡ None
-Opens (Err stop.Memory) ns step inner want = Unit {0}
+abbrev pub OpensInnerPart : {P : Type 0} → Result (List P) EmitStop → List Node → (P → ℕ → List Node → Numbered ℕ) → (List Node → Numbered ℕ) → Numbered ℕ → Type 0
+OpensInnerPart (Ok ps) ns step inner want = want ≡ and_then (inner ns) (closing step ps)
+OpensInnerPart (Err stop.Full) ns step inner want = want ≡ None
+OpensInnerPart (Err stop.Memory) ns step inner want = Unit {0}
 
 abbrev pub OpensOne : {P : Type 0} → Result P EmitStop → List Node → (P → ℕ → List Node → Numbered ℕ) → (List Node → Numbered ℕ) → Numbered ℕ → Type 0
 OpensOne (Ok p) ns step inner want = want ≡ and_then (inner ns) (step p)
@@ -67,8 +67,8 @@ OpensOne (Err stop.Memory) ns step inner want = Unit {0}
 
 -- The node of a suffix after what comes before it: a field, or a call of the name with this text.
 abbrev pub link_of : Context → Scope → ℕ → Span → ℕ → t.Suffix → Rose → Rose
-link_of c sc d s n (t.dot x) r = rose (node.Field n) (join s x.span) d (one r)
-link_of c sc d s n (t.args es sp) r = rose (node.Call n) (join s sp) d (and_last (exprs_of c sc d es) r)
+link_of c sc d s n (t.dot x) r = rose (node.Field n) (joined_span s x.span) d (one r)
+link_of c sc d s n (t.args es sp) r = rose (node.Call n) (joined_span s sp) d (and_last (roses_of_exprs c sc d es) r)
 
 -- A chain whose start has been emitted.
 abbrev pub rest_of : Context → Scope → ℕ → Span → Rose → List t.Suffix → Rose
@@ -99,10 +99,10 @@ taken (begins.With f at) = at + 1
 
 -- The last of these has the arguments.
 abbrev pub first_of : Context → Scope → ℕ → Span → First → t.Suffix → Rose
-first_of c sc d s (first.Made k) (t.args es sp) = rose k (join s sp) d (exprs_of c sc d es)
-first_of c sc d s (first.OnThis n p) (t.args es sp) = rose (node.Call n) (join s sp) d (and_last (exprs_of c sc d es) (leaf node.This p d))
-first_of c sc d s first.Missing (t.args es sp) = gap (join s sp) d
-first_of c sc d s f (t.dot n) = gap (join s n.span) d
+first_of c sc d s (first.Made k) (t.args es sp) = rose k (joined_span s sp) d (roses_of_exprs c sc d es)
+first_of c sc d s (first.OnThis n p) (t.args es sp) = rose (node.Call n) (joined_span s sp) d (and_last (roses_of_exprs c sc d es) (leaf node.This p d))
+first_of c sc d s first.Missing (t.args es sp) = gap (joined_span s sp) d
+first_of c sc d s f (t.dot n) = gap (joined_span s n.span) d
 
 abbrev pub first_at : Context → Scope → ℕ → Span → First → Rose → Option t.Suffix → Rose
 first_at c sc d s f origin (Some x) = first_of c sc d s f x
@@ -113,8 +113,8 @@ begun c sc d s begins.Value ss origin = origin
 begun c sc d s (begins.With f at) ss origin = first_at c sc d s f origin (slice_get ss at)
 
 -- A chain with this start has this beginning, whatever it is used for.
-abbrev pub Begins : Context → Start → List t.Suffix → Beginning → Type 0
-Begins c st ss b = (sc : Scope) (d : ℕ) (s : Span) (u : Use) (origin : Rose) → chain_of c sc d s u st origin (t.suffixes_of ss) ≡ chain_of c sc d s u with_value (begun c sc d s b ss origin) (t.suffixes_of (drop (taken b) ss))
+abbrev pub BeginsChain : Context → Start → List t.Suffix → Beginning → Type 0
+BeginsChain c st ss b = (sc : Scope) (d : ℕ) (s : Span) (u : Use) (origin : Rose) → chain_of c sc d s u st origin (t.suffixes_of ss) ≡ chain_of c sc d s u with_value (begun c sc d s b ss origin) (t.suffixes_of (drop (taken b) ss))
 
 -- With a new object of an actor or a class, by a constructor that may be missing.
 abbrev pub object : Bool → Option ℕ → ℕ → Beginning
@@ -172,7 +172,7 @@ alone_of c sc d s value left e = value_then s d value left
 -- The node of a write to a bare name that is defined, after the value.
 unfoldable pub name_closes : Context → (method depth : ℕ) → Span → Name → Meaning → ℕ → List Node → Numbered ℕ
 name_closes c m d s n (local x) v ns = push m (node.Assign x) s d (v ∷ []) ns
-name_closes c m d s n w v ns = and_then (push m node.This n.span d [] ns) (λ this. push m (node.SetField (text_of c n.text)) s d (v ∷ this ∷ []))
+name_closes c m d s n w v ns = and_then (push m node.This n.span d [] ns) (λ this. push m (node.SetField (number_of_text c n.text)) s d (v ∷ this ∷ []))
 
 -- A write to the field with this text at the end of a chain, or to a chain with another end.
 abbrev pub written_kind : Option ℕ → NodeKind

@@ -5,10 +5,10 @@ ghost use Rattle.pc_body_spec.specs.Bodies as spec;
 ghost use Rattle.pc_body_spec.specs.Roses.{Roses, put, puts};
 ghost use Rattle.pc_body_spec.specs.Scopes.{params_scope as scope_of};
 ghost use Rattle.pc_body_spec.specs.Expressions as parts;
-ghost use Rattle.pc_emit.specs.Giving.{Gives, GivesBody};
+ghost use Rattle.pc_emit.specs.Giving.{GivesNodes, GivesBody};
 ghost use Rattle.pc_emit.specs.Closing.{LeadsOn, behind_tops, ends_with, body_closes};
 
-use crate::names::write_field;
+use crate::name_nodes::write_field;
 use crate::nodes::{leaf, single};
 use crate::setting::Setting;
 use crate::stop::EmitStop;
@@ -52,7 +52,7 @@ pub fn emit_added(
     fields: &[FieldDef],
     name: Span,
 ) -> Result<u32, EmitStop>
-    ensures gives { Gives result nodes.new (put number (spec.added_body context.now (map field_view fields.now) name) nodes.old) }
+    ensures gives { GivesNodes result nodes.new (put number (spec.added_body context.now (map field_view fields.now) name) nodes.old) }
 {
     let setting = Setting {
         alloc,
@@ -76,7 +76,7 @@ fn written(
     method: &MethodDef,
     seq: &Seq,
 ) -> Result<u32, EmitStop>
-    ensures { Gives result nodes.new (put number (spec.body_with context.now (map field_view fields.now) (method_view method.now) (seq_view seq.now)) nodes.old) }
+    ensures { GivesNodes result nodes.new (put number (spec.body_with context.now (map field_view fields.now) (method_view method.now) (seq_view seq.now)) nodes.old) }
 {
     let fields = initial_fields(method.word, fields);
     let first = initials(alloc, context, number, nodes, fields)?;
@@ -100,7 +100,7 @@ fn own_items(
     method: &MethodDef,
     seq: &Seq,
 ) -> Result<List<u32>, EmitStop>
-    ensures { Gives result nodes.new (puts number (spec.none_last (spec.gives_none method.now.word method.now.result) method.now.name.span (parts.items_of context.now (scope_of method.now.params) 0 (items_view seq.now.items))) nodes.old) }
+    ensures { GivesNodes result nodes.new (puts number (spec.none_last (spec.gives_none method.now.word method.now.result) method.now.name.span (parts.roses_of_items context.now (scope_of method.now.params) 0 (items_view seq.now.items))) nodes.old) }
 {
     let mut scope = params_scope(alloc, method.params.as_slice())?;
     let setting = Setting {
@@ -143,7 +143,7 @@ fn none_last(
     adds: bool,
     items: List<u32>,
 ) -> Result<List<u32>, EmitStop>
-    ensures { Gives result nodes.new (ends_with adds setting.now.number setting.now.depth span items nodes.old) }
+    ensures { GivesNodes result nodes.new (ends_with adds setting.now.number setting.now.depth span items nodes.old) }
 {
     if !adds {
         return Ok(items);
@@ -203,7 +203,7 @@ fn initial(
     name: &Name,
     value: &Expr,
 ) -> Result<u32, EmitStop>
-    ensures { Gives result nodes.new (put number (parts.write_field context.now name.now.span name.now 0 (parts.expr_of context.now [] 0 (expr_view value.now)) (parts.added_this name.now 0)) nodes.old) }
+    ensures { GivesNodes result nodes.new (put number (parts.write_field context.now name.now.span name.now 0 (parts.expr_of context.now [] 0 (expr_view value.now)) (parts.added_this name.now 0)) nodes.old) }
 {
     let mut scope = List::new(alloc);
     let setting = Setting {
@@ -236,7 +236,7 @@ fn close_body(
     span: Span,
     items: List<u32>,
 ) -> Result<u32, EmitStop>
-    ensures { Gives result nodes.new (body_closes setting.now.number setting.now.depth name span items nodes.old) }
+    ensures { GivesNodes result nodes.new (body_closes setting.now.number setting.now.depth name span items nodes.old) }
 {
     let seq = close_sequence(setting, nodes, span, items)?;
     single(setting, nodes, NodeKind::Body, name, seq)

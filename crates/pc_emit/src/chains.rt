@@ -2,12 +2,12 @@
 ghost use Rattle.std.specs.Prelude.{◌≡◌, ◌<◌, ◌≤◌, ◌^◌, length, map, drop, slice_get, Some, if◌then◌else◌};
 ghost use Rattle.pc_emit.specs.declared.chains.Beginning.TheVariants as beginnings;
 ghost use Rattle.pc_tree.specs.View.{expr_view, suffix_view};
-ghost use Rattle.pc_body_spec.specs.Expressions.{start_of, start_with_name, with_type, with_method};
+ghost use Rattle.pc_body_spec.specs.Expressions.{chain_start, start_with_name, with_type, with_method};
 ghost use Rattle.pc_body_spec.specs.Scopes.{resolve, type_meaning, created, primitive, constructor_named as constructor_in};
 ghost use Rattle.pc_emit.specs.Closing as spec;
-ghost use Rattle.pc_emit.specs.Closing.{Begins, IsCut, IsBefore, IsSplit, taken};
+ghost use Rattle.pc_emit.specs.Closing.{BeginsChain, IsCut, IsBefore, IsSplit, taken};
 
-use crate::names::object_kind;
+use crate::name_nodes::object_kind;
 use pc_caps::Span;
 use pc_core::NodeKind;
 use pc_resolve::{Constructors, Context, Meaning, TypeMeaning, Visible};
@@ -51,7 +51,7 @@ pub(crate) fn begin(
     head: &Expr,
     suffixes: &[Suffix],
 ) -> Beginning
-    ensures begins { Begins context.now (start_of context.now scope.now (expr_view head.now)) (map suffix_view suffixes.now) result }
+    ensures begins { BeginsChain context.now (chain_start context.now scope.now (expr_view head.now)) (map suffix_view suffixes.now) result }
     ensures within { taken result ≤ length suffixes.now }
 {
     match head {
@@ -80,7 +80,7 @@ fn begin_with_name(
     name: &Name,
     suffixes: &[Suffix],
 ) -> Beginning
-    ensures begins { Begins context.now (start_with_name name.now (resolve context.now scope.now name.now.text)) (map suffix_view suffixes.now) result }
+    ensures begins { BeginsChain context.now (start_with_name name.now (resolve context.now scope.now name.now.text)) (map suffix_view suffixes.now) result }
     ensures within { taken result ≤ length suffixes.now }
 {
     match context.resolve(scope, name.text.as_slice()) {
@@ -91,7 +91,7 @@ fn begin_with_name(
 
 // With the bare name of a method, which is called if arguments follow it.
 fn begin_with_method(context: &Context, name: &Name, suffixes: &[Suffix]) -> Beginning
-    ensures begins { Begins context.now (with_method name.now) (map suffix_view suffixes.now) result }
+    ensures begins { BeginsChain context.now (with_method name.now) (map suffix_view suffixes.now) result }
     ensures within { taken result ≤ length suffixes.now }
 {
     if has_args(suffixes, 0) {
@@ -104,7 +104,7 @@ fn begin_with_method(context: &Context, name: &Name, suffixes: &[Suffix]) -> Beg
 
 // With a type name.
 fn begin_with_type(context: &Context, name: &Name, suffixes: &[Suffix]) -> Beginning
-    ensures begins { Begins context.now (with_type (type_meaning context.now name.now.text)) (map suffix_view suffixes.now) result }
+    ensures begins { BeginsChain context.now (with_type (type_meaning context.now name.now.text)) (map suffix_view suffixes.now) result }
     ensures within { taken result ≤ length suffixes.now }
 {
     match context.type_meaning(name.text.as_slice()) {
@@ -119,7 +119,7 @@ fn begin_with_type(context: &Context, name: &Name, suffixes: &[Suffix]) -> Begin
 
 // With a primitive's value, whose name may be followed by `()`.
 fn begin_with_primitive(context: &Context, entity: u32, suffixes: &[Suffix]) -> Beginning
-    ensures begins { Begins context.now (with_type (primitive entity)) (map suffix_view suffixes.now) result }
+    ensures begins { BeginsChain context.now (with_type (primitive entity)) (map suffix_view suffixes.now) result }
     ensures within { taken result ≤ length suffixes.now }
 {
     if has_no_arguments(suffixes) {
@@ -137,7 +137,7 @@ fn begin_with_object(
     constructors: &Constructors,
     suffixes: &[Suffix],
 ) -> Beginning
-    ensures begins { Begins context.now (with_type (created actor constructors.now)) (map suffix_view suffixes.now) result }
+    ensures begins { BeginsChain context.now (with_type (created actor constructors.now)) (map suffix_view suffixes.now) result }
     ensures within { taken result ≤ length suffixes.now }
 {
     let Some(first) = suffixes.first() else {

@@ -5,7 +5,7 @@
 
 mod bodies;
 mod chains;
-mod names;
+mod name_nodes;
 mod nodes;
 mod setting;
 mod stop;

@@ -2,7 +2,7 @@
 ghost use Rattle.std.specs.Prelude.{◌≡◌, ◌∷◌, [], IfOk};
 ghost use Rattle.pc_body_spec.specs.Roses as roses;
 ghost use Rattle.pc_body_spec.specs.Expressions as spec;
-ghost use Rattle.pc_emit.specs.Giving.{Gives};
+ghost use Rattle.pc_emit.specs.Giving.{GivesNodes};
 
 use crate::setting::Setting;
 use crate::stop::EmitStop;
@@ -20,7 +20,7 @@ pub(crate) fn push(
     span: Span,
     children: List<u32>,
 ) -> Result<u32, EmitStop>
-    ensures { Gives result nodes.new (roses.push setting.now.number kind span setting.now.depth children nodes.old) }
+    ensures { GivesNodes result nodes.new (roses.push setting.now.number kind span setting.now.depth children nodes.old) }
 {
     let place = nodes.len();
     if place >= NODE_LIMIT as usize {
@@ -44,7 +44,7 @@ pub(crate) fn leaf(
     kind: NodeKind,
     span: Span,
 ) -> Result<u32, EmitStop>
-    ensures { Gives result nodes.new (roses.push setting.now.number kind span setting.now.depth [] nodes.old) }
+    ensures { GivesNodes result nodes.new (roses.push setting.now.number kind span setting.now.depth [] nodes.old) }
 {
     push(setting, nodes, kind, span, List::new(setting.alloc))
 }
@@ -57,7 +57,7 @@ pub(crate) fn single(
     span: Span,
     child: u32,
 ) -> Result<u32, EmitStop>
-    ensures { Gives result nodes.new (roses.push setting.now.number kind span setting.now.depth (child ∷ []) nodes.old) }
+    ensures { GivesNodes result nodes.new (roses.push setting.now.number kind span setting.now.depth (child ∷ []) nodes.old) }
 {
     let children = one(setting.alloc, child)?;
     push(setting, nodes, kind, span, children)
@@ -72,7 +72,7 @@ pub(crate) fn double(
     first: u32,
     second: u32,
 ) -> Result<u32, EmitStop>
-    ensures { Gives result nodes.new (roses.push setting.now.number kind span setting.now.depth (first ∷ second ∷ []) nodes.old) }
+    ensures { GivesNodes result nodes.new (roses.push setting.now.number kind span setting.now.depth (first ∷ second ∷ []) nodes.old) }
 {
     let mut children = one(setting.alloc, first)?;
     children.push(second)?;
@@ -81,7 +81,7 @@ pub(crate) fn double(
 
 /// Appends the node of a missing name.
 pub(crate) fn gap(setting: &Setting, nodes: &mut List<Node>, span: Span) -> Result<u32, EmitStop>
-    ensures { Gives result nodes.new (roses.put setting.now.number (spec.gap span setting.now.depth) nodes.old) }
+    ensures { GivesNodes result nodes.new (roses.put setting.now.number (spec.gap span setting.now.depth) nodes.old) }
 {
     let this = leaf(setting, nodes, NodeKind::This, span)?;
     single(setting, nodes, NodeKind::Body, span, this)

@@ -1,7 +1,7 @@
 //! Pending nodes, which still need the number of a part.
 ghost use Rattle.std.specs.Prelude.{◌≡◌, ◌∷◌, []};
 ghost use Rattle.pc_body_spec.specs.Roses as roses;
-ghost use Rattle.pc_emit.specs.Giving.{Gives};
+ghost use Rattle.pc_emit.specs.Giving.{GivesNodes};
 ghost use Rattle.pc_emit.specs.Closing.{TakesLast, closing, arm_closes, link_closes, none_closes, seq_closes, this_closes, written_kind};
 
 use crate::nodes::{double, leaf, one, push, single};
@@ -53,7 +53,7 @@ pub(crate) fn close_arms(
     arms: List<OpenArm>,
     last: u32,
 ) -> Result<u32, EmitStop>
-    ensures { Gives result nodes.new (closing (arm_closes setting.now.number setting.now.depth) arms last nodes.old) }
+    ensures { GivesNodes result nodes.new (closing (arm_closes setting.now.number setting.now.depth) arms last nodes.old) }
 {
     let mut arms = arms;
     let mut top = last;
@@ -71,7 +71,7 @@ fn close_arm(
     arm: OpenArm,
     other: u32,
 ) -> Result<u32, EmitStop>
-    ensures { Gives result nodes.new (arm_closes setting.now.number setting.now.depth arm other nodes.old) }
+    ensures { GivesNodes result nodes.new (arm_closes setting.now.number setting.now.depth arm other nodes.old) }
 {
     let mut children = one(setting.alloc, arm.cond)?;
     children.push(arm.body)?;
@@ -91,7 +91,7 @@ pub(crate) fn close_links(
     links: List<Link>,
     origin: u32,
 ) -> Result<u32, EmitStop>
-    ensures { Gives result nodes.new (closing (link_closes setting.now.number setting.now.depth) links origin nodes.old) }
+    ensures { GivesNodes result nodes.new (closing (link_closes setting.now.number setting.now.depth) links origin nodes.old) }
 {
     let mut links = links;
     let mut top = origin;
@@ -113,7 +113,7 @@ pub(crate) fn close_write(
     origin: u32,
     value: u32,
 ) -> Result<u32, EmitStop>
-    ensures { Gives result nodes.new (roses.and_then (closing (link_closes setting.now.number setting.now.depth) links origin nodes.old) (λ top. roses.push setting.now.number (written_kind field) span setting.now.depth (value ∷ top ∷ []))) }
+    ensures { GivesNodes result nodes.new (roses.and_then (closing (link_closes setting.now.number setting.now.depth) links origin nodes.old) (λ top. roses.push setting.now.number (written_kind field) span setting.now.depth (value ∷ top ∷ []))) }
 {
     let top = close_links(setting, nodes, links, origin)?;
     let kind = written(field);
@@ -140,7 +140,7 @@ pub(crate) fn call_this(
     place: Span,
     args: List<u32>,
 ) -> Result<u32, EmitStop>
-    ensures { Gives result nodes.new (this_closes setting.now.number setting.now.depth span text place args nodes.old) }
+    ensures { GivesNodes result nodes.new (this_closes setting.now.number setting.now.depth span text place args nodes.old) }
 {
     let this = leaf(setting, nodes, NodeKind::This, place)?;
     let mut children = args;
@@ -156,7 +156,7 @@ fn or_none(
     span: Span,
     items: List<u32>,
 ) -> Result<List<u32>, EmitStop>
-    ensures { Gives result nodes.new (none_closes setting.now.number setting.now.depth span items nodes.old) }
+    ensures { GivesNodes result nodes.new (none_closes setting.now.number setting.now.depth span items nodes.old) }
 {
     if !items.is_empty() {
         return Ok(items);
@@ -173,7 +173,7 @@ pub(crate) fn close_sequence(
     span: Span,
     items: List<u32>,
 ) -> Result<u32, EmitStop>
-    ensures { Gives result nodes.new (seq_closes setting.now.number setting.now.depth span items nodes.old) }
+    ensures { GivesNodes result nodes.new (seq_closes setting.now.number setting.now.depth span items nodes.old) }
 {
     let children = or_none(setting, nodes, span, items)?;
     push(setting, nodes, NodeKind::Seq, span, children)

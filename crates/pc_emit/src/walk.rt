@@ -4,11 +4,12 @@ ghost use Rattle.pc_tree.specs.View.{expr_view, item_view, suffix_view, seq_view
 ghost use Rattle.pc_body_spec.specs.Expressions as spec;
 ghost use Rattle.pc_body_spec.specs.Roses.{Rose, put, puts};
 ghost use Rattle.pc_body_spec.specs.Scopes.{scope_after};
-ghost use Rattle.pc_emit.specs.Giving.{Gives};
-ghost use Rattle.pc_emit.specs.Closing.{alone_of, arm_closes, begun, begun_by, is_block, is_chain, link_closes, link_of, first_of, is_missing as misses, only, rest_of, taken as count_of, Opens, OpensChain, OpensOne};
+ghost use Rattle.pc_emit.specs.Giving.{GivesNodes};
+ghost use Rattle.pc_emit.specs.Closing.{alone_of, arm_closes, begun, begun_by, is_block, is_chain, link_closes, link_of, first_of, is_missing as misses, only};
+ghost use Rattle.pc_emit.specs.Closing.{rest_of, taken as count_of, OpensInnerPart, OpensChain, OpensOne};
 
 use crate::chains::{Beginning, First, begin, behind, count_taken, cut, is_missing, split_field};
-use crate::names::{consume, read_name, read_text, read_type, write_name};
+use crate::name_nodes::{consume, read_name, read_text, read_type, write_name};
 use crate::nodes::{double, end_word, gap, leaf, operation, push, single};
 use crate::setting::Setting;
 use crate::stop::EmitStop;
@@ -28,7 +29,7 @@ pub(crate) fn expr(
     nodes: &mut List<Node>,
     expression: &Expr,
 ) -> Result<u32, EmitStop>
-    ensures gives { Gives result nodes.new (put setting.now.number (spec.expr_of setting.now.context.now scope.old setting.now.depth (expr_view expression.now)) nodes.old) }
+    ensures gives { GivesNodes result nodes.new (put setting.now.number (spec.expr_of setting.now.context.now scope.old setting.now.depth (expr_view expression.now)) nodes.old) }
     ensures scope { OnOk result (scope.new ≡ scope.old) }
 {
     match expression {
@@ -68,7 +69,7 @@ fn block(
     nodes: &mut List<Node>,
     expression: &Expr,
 ) -> Result<u32, EmitStop>
-    ensures gives { Gives result nodes.new (put setting.now.number (only is_block setting.now.context.now scope.old setting.now.depth (expr_view expression.now)) nodes.old) }
+    ensures gives { GivesNodes result nodes.new (put setting.now.number (only is_block setting.now.context.now scope.old setting.now.depth (expr_view expression.now)) nodes.old) }
     ensures scope { OnOk result (scope.new ≡ scope.old) }
 {
     match expression {
@@ -109,7 +110,7 @@ fn chain(
     nodes: &mut List<Node>,
     expression: &Expr,
 ) -> Result<u32, EmitStop>
-    ensures gives { Gives result nodes.new (put setting.now.number (only is_chain setting.now.context.now scope.old setting.now.depth (expr_view expression.now)) nodes.old) }
+    ensures gives { GivesNodes result nodes.new (put setting.now.number (only is_chain setting.now.context.now scope.old setting.now.depth (expr_view expression.now)) nodes.old) }
     ensures scope { OnOk result (scope.new ≡ scope.old) }
 {
     let Expr::Chain {
@@ -140,7 +141,7 @@ fn store(
     left: &Expr,
     value: u32,
 ) -> Result<u32, EmitStop>
-    ensures gives { (v : Rose) (before : Sequence Node) → misses setting.now.context.now scope.old (expr_view left.now) ≡ false → put setting.now.number v before ≡ Some (value, nodes.old) → Gives result nodes.new (put setting.now.number (spec.assign_of setting.now.context.now scope.old setting.now.depth span v (spec.expr_of setting.now.context.now scope.old setting.now.depth (expr_view left.now)) (expr_view left.now)) before) }
+    ensures gives { (v : Rose) (before : Sequence Node) → misses setting.now.context.now scope.old (expr_view left.now) ≡ false → put setting.now.number v before ≡ Some (value, nodes.old) → GivesNodes result nodes.new (put setting.now.number (spec.assign_of setting.now.context.now scope.old setting.now.depth span v (spec.expr_of setting.now.context.now scope.old setting.now.depth (expr_view left.now)) (expr_view left.now)) before) }
     ensures scope { OnOk result (scope.new ≡ scope.old) }
 {
     let Expr::Chain {
@@ -172,7 +173,7 @@ fn store_alone(
     left: &Expr,
     value: u32,
 ) -> Result<u32, EmitStop>
-    ensures gives { (v : Rose) (before : Sequence Node) → misses setting.now.context.now scope.old (expr_view left.now) ≡ false → put setting.now.number v before ≡ Some (value, nodes.old) → Gives result nodes.new (put setting.now.number (alone_of setting.now.context.now scope.old setting.now.depth span v (spec.expr_of setting.now.context.now scope.old setting.now.depth (expr_view left.now)) (expr_view left.now)) before) }
+    ensures gives { (v : Rose) (before : Sequence Node) → misses setting.now.context.now scope.old (expr_view left.now) ≡ false → put setting.now.number v before ≡ Some (value, nodes.old) → GivesNodes result nodes.new (put setting.now.number (alone_of setting.now.context.now scope.old setting.now.depth span v (spec.expr_of setting.now.context.now scope.old setting.now.depth (expr_view left.now)) (expr_view left.now)) before) }
     ensures scope { OnOk result (scope.new ≡ scope.old) }
 {
     match left {
@@ -238,7 +239,7 @@ fn chain_origin(
     origin: Option<u32>,
     atom: &Expr,
 ) -> Result<u32, EmitStop>
-    ensures gives { Gives result nodes.new (begun_by origin (put setting.now.number (spec.expr_of setting.now.context.now scope.old setting.now.depth (expr_view atom.now))) nodes.old) }
+    ensures gives { GivesNodes result nodes.new (begun_by origin (put setting.now.number (spec.expr_of setting.now.context.now scope.old setting.now.depth (expr_view atom.now))) nodes.old) }
     ensures scope { OnOk result (scope.new ≡ scope.old) }
 {
     match origin {
@@ -257,7 +258,7 @@ fn first_args(
     first: First,
     suffix: &Suffix,
 ) -> Result<u32, EmitStop>
-    ensures gives { Gives result nodes.new (put setting.now.number (first_of setting.now.context.now scope.old setting.now.depth span first (suffix_view suffix.now)) nodes.old) }
+    ensures gives { GivesNodes result nodes.new (put setting.now.number (first_of setting.now.context.now scope.old setting.now.depth span first (suffix_view suffix.now)) nodes.old) }
     ensures scope { OnOk result (scope.new ≡ scope.old) }
 {
     match suffix {
@@ -286,7 +287,7 @@ fn infix(
     span: Span,
     terms: &[Expr],
 ) -> Result<u32, EmitStop>
-    ensures gives { Gives result nodes.new (put setting.now.number (spec.infix_of setting.now.context.now scope.old setting.now.depth op span (exprs_view terms.now)) nodes.old) }
+    ensures gives { GivesNodes result nodes.new (put setting.now.number (spec.infix_of setting.now.context.now scope.old setting.now.depth op span (exprs_view terms.now)) nodes.old) }
     ensures scope { OnOk result (scope.new ≡ scope.old) }
 {
     let Some(first) = terms.first() else {
@@ -312,7 +313,7 @@ fn open_arms(
     span: Span,
     arms: &[Arm],
 ) -> Result<List<OpenArm>, EmitStop>
-    ensures gives { (last : Rose) → Opens result nodes.new (arm_closes setting.now.number setting.now.depth) (put setting.now.number last) (put setting.now.number (spec.arms_of setting.now.context.now scope.old setting.now.depth span true (arms_view arms.now) last) nodes.old) }
+    ensures gives { (last : Rose) → OpensInnerPart result nodes.new (arm_closes setting.now.number setting.now.depth) (put setting.now.number last) (put setting.now.number (spec.rose_of_arms setting.now.context.now scope.old setting.now.depth span true (arms_view arms.now) last) nodes.old) }
     ensures scope { OnOk result (scope.new ≡ scope.old) }
 {
     let mut waiting = List::new(setting.alloc);
@@ -348,7 +349,7 @@ fn otherwise(
     span: Span,
     other: &Option<Box<Seq>>,
 ) -> Result<u32, EmitStop>
-    ensures gives { Gives result nodes.new (put setting.now.number (spec.other_of setting.now.context.now scope.old setting.now.depth span (other_view other.now)) nodes.old) }
+    ensures gives { GivesNodes result nodes.new (put setting.now.number (spec.other_of setting.now.context.now scope.old setting.now.depth span (other_view other.now)) nodes.old) }
     ensures scope { OnOk result (scope.new ≡ scope.old) }
 {
     match other {
@@ -373,7 +374,7 @@ fn links(
     count: usize,
 ) -> Result<List<Link>, EmitStop>
     requires within { first + count ≤ length suffixes.now }
-    ensures gives { (origin : Rose) → Opens result nodes.new (link_closes setting.now.number setting.now.depth) (put setting.now.number origin) (put setting.now.number (rest_of setting.now.context.now scope.old setting.now.depth span origin (map suffix_view (take count (drop first suffixes.now)))) nodes.old) }
+    ensures gives { (origin : Rose) → OpensInnerPart result nodes.new (link_closes setting.now.number setting.now.depth) (put setting.now.number origin) (put setting.now.number (rest_of setting.now.context.now scope.old setting.now.depth span origin (map suffix_view (take count (drop first suffixes.now)))) nodes.old) }
     ensures scope { OnOk result (scope.new ≡ scope.old) }
 {
     let rest = behind(suffixes, first);
@@ -428,7 +429,7 @@ fn exprs(
     nodes: &mut List<Node>,
     xs: &[Expr],
 ) -> Result<List<u32>, EmitStop>
-    ensures gives { Gives result nodes.new (puts setting.now.number (spec.exprs_of setting.now.context.now scope.old setting.now.depth (exprs_view xs.now)) nodes.old) }
+    ensures gives { GivesNodes result nodes.new (puts setting.now.number (spec.roses_of_exprs setting.now.context.now scope.old setting.now.depth (exprs_view xs.now)) nodes.old) }
     ensures scope { OnOk result (scope.new ≡ scope.old) }
 {
     let mut tops = List::new(setting.alloc);
@@ -447,7 +448,7 @@ fn whole(
     nodes: &mut List<Node>,
     seq: &Seq,
 ) -> Result<u32, EmitStop>
-    ensures gives { Gives result nodes.new (put setting.now.number (spec.whole_of setting.now.context.now scope.old setting.now.depth (seq_view seq.now)) nodes.old) }
+    ensures gives { GivesNodes result nodes.new (put setting.now.number (spec.whole_of setting.now.context.now scope.old setting.now.depth (seq_view seq.now)) nodes.old) }
     ensures scope { OnOk result (scope.new ≡ scope.old) }
 {
     sequence(setting, scope, nodes, seq.span, seq)
@@ -462,7 +463,7 @@ fn sequence(
     span: Span,
     seq: &Seq,
 ) -> Result<u32, EmitStop>
-    ensures gives { Gives result nodes.new (put setting.now.number (spec.seq_of setting.now.context.now scope.old setting.now.depth span (seq_view seq.now)) nodes.old) }
+    ensures gives { GivesNodes result nodes.new (put setting.now.number (spec.seq_of setting.now.context.now scope.old setting.now.depth span (seq_view seq.now)) nodes.old) }
     ensures scope { OnOk result (scope.new ≡ scope.old) }
 {
     let before = scope.len();
@@ -479,7 +480,7 @@ pub(crate) fn items(
     nodes: &mut List<Node>,
     xs: &[Item],
 ) -> Result<List<u32>, EmitStop>
-    ensures gives { Gives result nodes.new (puts setting.now.number (spec.items_of setting.now.context.now scope.old setting.now.depth (items_view xs.now)) nodes.old) }
+    ensures gives { GivesNodes result nodes.new (puts setting.now.number (spec.roses_of_items setting.now.context.now scope.old setting.now.depth (items_view xs.now)) nodes.old) }
     ensures scope { OnOk result (take (length scope.old) scope.new ≡ scope.old) }
 {
     let mut tops = List::new(setting.alloc);
@@ -498,7 +499,7 @@ fn item(
     nodes: &mut List<Node>,
     part: &Item,
 ) -> Result<u32, EmitStop>
-    ensures gives { Gives result nodes.new (put setting.now.number (spec.item_of setting.now.context.now scope.old setting.now.depth (item_view part.now)) nodes.old) }
+    ensures gives { GivesNodes result nodes.new (put setting.now.number (spec.item_of setting.now.context.now scope.old setting.now.depth (item_view part.now)) nodes.old) }
     ensures scope { OnOk result (scope.new ≡ scope_after setting.now.context.now scope.old (item_view part.now)) }
 {
     match part {

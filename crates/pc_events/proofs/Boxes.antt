@@ -20,7 +20,7 @@ use Rattle.pc_events.proofs.Lists.{length_changed, get_changed, get_unchanged}
 use Rattle.pc_events.proofs.Plans.{view}
 use Rattle.pc_events.proofs.Told.{Told, told, ahead_is}
 use Rattle.pc_lists.proofs.Gets.{get_within, get_behind}
-use Rattle.pc_events.specs.Before.{waiting_of, waiting}
+use Rattle.pc_events.specs.Before.{waiting_of, waiting_for}
 use Rattle.pc_events.proofs.Outcomes.{taking_ahead}
 
 -- ---- the mailboxes of a list of actors
@@ -66,10 +66,11 @@ born_other (x ∷ xs) m (suc a) n = born_other xs m a (λ e. n (ap suc e))
 
 -- Actor i goes from c to d by such a step.
 abbrev pub Boxes : Configuration → Configuration → ℕ → Ahead → Type 0
-Boxes c d i ahead.Take = (length d.actors ≡ length c.actors) × (waiting c i ≡ suc (waiting d i)) × ((a : ℕ) → a ≢ i → waiting d a ≡ waiting c a)
-Boxes c d i (ahead.Send r) = (length d.actors ≡ length c.actors) × (r < length c.actors) × (waiting d r ≡ suc (waiting c r)) × ((a : ℕ) → a ≢ r → waiting d a ≡ waiting c a)
-Boxes c d i ahead.Spawn = (length d.actors ≡ suc (length c.actors)) × (waiting d (length c.actors) ≡ 1) × ((a : ℕ) → a ≢ length c.actors → waiting d a ≡ waiting c a)
-Boxes c d i ahead.Task = (length d.actors ≡ length c.actors) × ((a : ℕ) → waiting d a ≡ waiting c a)
+Boxes c d i ahead.Take = (length d.actors ≡ length c.actors) × (waiting_for c i ≡ suc (waiting_for d i))
+    × ((a : ℕ) → a ≢ i → waiting_for d a ≡ waiting_for c a)
+Boxes c d i (ahead.Send r) = (length d.actors ≡ length c.actors) × (r < length c.actors) × (waiting_for d r ≡ suc (waiting_for c r)) × ((a : ℕ) → a ≢ r → waiting_for d a ≡ waiting_for c a)
+Boxes c d i ahead.Spawn = (length d.actors ≡ suc (length c.actors)) × (waiting_for d (length c.actors) ≡ 1) × ((a : ℕ) → a ≢ length c.actors → waiting_for d a ≡ waiting_for c a)
+Boxes c d i ahead.Task = (length d.actors ≡ length c.actors) × ((a : ℕ) → waiting_for d a ≡ waiting_for c a)
 Boxes c d i x = ⊥
 
 module _ (core : CoreData) (c : Configuration) (i : ℕ) where

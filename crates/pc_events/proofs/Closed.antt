@@ -13,7 +13,8 @@ use Rattle.pc_core.specs.CoreData.{CoreData}
 use Rattle.pc_semantics.specs.declared.actors.Actor.{Actor}
 use Rattle.pc_semantics.specs.declared.outcome.Outcome.{Outcome}
 use Rattle.pc_semantics.specs.declared.outcome.Outcome.TheVariants.{Moved, Skipped, Lacks, TooLong}
-use Rattle.pc_semantics.specs.Configurations.{Configuration, own_address, environment_address, environment, blank_object, fields_in, main_create, start_of, start}
+use Rattle.pc_semantics.specs.Configurations.{Configuration, own_address, environment_address, environment, blank_object, number_of_fields, main_create}
+use Rattle.pc_semantics.specs.Configurations.{start_of, start}
 use Rattle.pc_semantics.specs.Step.{step}
 use Rattle.pc_semantics.specs.Runs.{followed, outcomes}
 use Rattle.pc_semantics.specs.Safety.{LacksNothing, Safe}
@@ -78,7 +79,7 @@ more_selves names h a x l s q o e =
     ]
 
 blank_self : (names : List ℕ) (core : CoreData) (e : ℕ) → SlotsLike names (blank_object core e).fields (blank_object core e).fields
-blank_self names core e = empty_slots names (fields_in (slice_get core.entities e))
+blank_self names core e = empty_slots names (number_of_fields (slice_get core.entities e))
 
 found_self : (names : List ℕ) (f : ℕ) (p : Option Object) → ((o : Object) → p ≡ Some o → SlotsLike names o.fields o.fields) → FoundLike names (field_in p f) (field_in p f)
 found_self names f None h = tt

@@ -20,12 +20,14 @@ use Rattle.pc_semantics.specs.declared.frames.Frame.{Frame}
 use Rattle.pc_semantics.specs.declared.frames.Task.{Task}
 use Rattle.pc_semantics.specs.declared.frames.Task.TheVariants as task
 use Rattle.pc_semantics.specs.declared.outcome.Lack.{Lack}
-use Rattle.pc_semantics.specs.Around.{Around, Move, Stuck, Overflows, Goes, Writes, Makes, Spawns, Enters, Sends, Leaves, with_stack, pushed, with_slot, doing, none, or_none, with_top, pop, popped, with_popped, pop_arguments}
+use Rattle.pc_semantics.specs.Around.{Around, Move, Stuck, Overflows, Goes, Writes, Makes, Spawns, Enters, Sends, Leaves, with_stack, pushed, with_slot, doing}
+use Rattle.pc_semantics.specs.Around.{none, value_or_none, with_top, pop, popped, with_popped, pop_arguments}
 use Rattle.pc_semantics.specs.Children.{evaluations}
-use Rattle.pc_semantics.specs.Evaluation.{push_slot, take_slot, first_then, evaluate, evaluate_node, items}
-use Rattle.pc_semantics.specs.Operators.{gives, of_numbers, of_truths, of_texts, with_number, with_truth, with_text, binary, negated, same_address, is_number, is_truth, is_text, is_primitive, is_object, same_truth, same_value, compared}
+use Rattle.pc_semantics.specs.Evaluation.{push_slot, take_slot, first_then, evaluate, evaluate_node, item_tasks}
+use Rattle.pc_semantics.specs.Operators.{push_or_lack, of_numbers, of_truths, of_texts, with_second_number, with_truth, with_text, binary, negated}
+use Rattle.pc_semantics.specs.Operators.{same_address, is_number, is_truth, is_text, is_primitive, is_object, same_truth, same_value, compared}
 use Rattle.pc_caps.specs.Limits.{text_limit}
-use Rattle.pc_semantics.specs.Choices.{truth, apply_task, right_side, test_and, test_or, test_task, branch, turn}
+use Rattle.pc_semantics.specs.Choices.{truth, apply_task, right_side, test_and, test_or, test_task, branch, loop_turn}
 use Rattle.pc_semantics.specs.Fields.{held, store, store_task}
 use Rattle.pc_semantics.specs.Calls.{leave_object, leave, return_task}
 use Rattle.pc_semantics.specs.Tasks.{at_node, task_move}
@@ -140,7 +142,7 @@ module _ (names : List ℕ) (next : ℕ) where
   evaluate_like f g n cs node.Or k = first_like f g cs (task.Test n ∷ []) k
   evaluate_like f g n cs node.If k = first_like f g cs (task.Branch n ∷ []) k
   evaluate_like f g n cs node.While k = first_like f g cs (task.Loop n ∷ []) k
-  evaluate_like f g n cs node.Seq k = doing_like f g (items cs) k
+  evaluate_like f g n cs node.Seq k = doing_like f g (item_tasks cs) k
   evaluate_like f g n cs (node.Recover cap) k = first_like f g cs [] k
   evaluate_like f g n cs node.Body k = first_like f g cs (task.Return ∷ []) k
 
@@ -174,7 +176,7 @@ module _ (names : List ℕ) (next : ℕ) where
   truths_itself op.Xor a b = refl
   truths_itself o a b = tt
 
-  gives_like : (f g : Frame) → FrameLike names f g → (o : Option Value) → Itself o → M (gives f o) (gives g o)
+  gives_like : (f g : Frame) → FrameLike names f g → (o : Option Value) → Itself o → M (push_or_lack f o) (push_or_lack g o)
   gives_like f g k None l = tt
   gives_like f g k (Some v) l = pushed_like f g v v k l
 
@@ -188,8 +190,9 @@ module _ (names : List ℕ) (next : ℕ) where
   texts_like f g k op.Ne a b = pushed_like f g _ _ k refl
   texts_like f g k o a b = tt
 
-  number_like : (f g : Frame) → FrameLike names f g → (o : Op) (a : ℕ) (v w : Value) → Like names v w → M (with_number f o a v) (with_number g o a w)
-  number_like f g k o a (Num b) w l = subst (λ (x : Value). M (with_number f o a (Num b)) (with_number g o a x)) (sym l) (gives_like f g k (of_numbers o a b) (numbers_itself o a b))
+  number_like : (f g : Frame) → FrameLike names f g → (o : Op) (a : ℕ) (v w : Value) → Like names v w
+      → M (with_second_number f o a v) (with_second_number g o a w)
+  number_like f g k o a (Num b) w l = subst (λ (x : Value). M (with_second_number f o a (Num b)) (with_second_number g o a x)) (sym l) (gives_like f g k (of_numbers o a b) (numbers_itself o a b))
   number_like f g k o a v w l = tt
 
   truths_like : (f g : Frame) → FrameLike names f g → (o : Op) (a : Bool) (v w : Value) → Like names v w → M (with_truth f o a v) (with_truth g o a w)
@@ -238,14 +241,14 @@ module _ (names : List ℕ) (next : ℕ) where
   branch_like (c ∷ a ∷ b ∷ []) false f g k = doing_like f g (task.Eval b ∷ []) k
   branch_like cs b f g k = tt
 
-  turn_like : (n : ℕ) (cs : List ℕ) (b : Bool) (f g : Frame) → FrameLike names f g → M (turn n cs b f) (turn n cs b g)
+  turn_like : (n : ℕ) (cs : List ℕ) (b : Bool) (f g : Frame) → FrameLike names f g → M (loop_turn n cs b f) (loop_turn n cs b g)
   turn_like n (c ∷ a ∷ []) true f g k = doing_like f g (task.Eval a ∷ task.Discard ∷ task.Eval n ∷ []) k
   turn_like n (c ∷ a ∷ []) false f g k = pushed_like f g none none k refl
   turn_like n cs b f g k = tt
 
   -- ---- stores, and ends
 
-  pub held_like : (o p : Option (Option Value)) → FoundLike names o p → Like names (or_none (held o)) (or_none (held p))
+  pub held_like : (o p : Option (Option Value)) → FoundLike names o p → Like names (value_or_none (held o)) (value_or_none (held p))
   held_like None None l = refl
   held_like None (Some p) l = absurd l
   held_like (Some o) None l = absurd l
@@ -352,6 +355,6 @@ module _ (names : List ℕ) (next : ℕ) where
     blind_like core a b f g (task.Apply n) z k = nodes_like (slice_get core.nodes n) _ _ (λ x. apply_like f g x.kind k)
     blind_like core a b f g (task.Test n) z k = nodes_like (slice_get core.nodes n) _ _ (λ x. test_like f g x.children x.kind k)
     blind_like core a b f g (task.Branch n) z k = nodes_like (slice_get core.nodes n) _ _ (λ x. pop_like f g k _ _ (λ v w c d l m. truth_like (branch x.children) (branch x.children) (branch_like x.children) v w l c d m))
-    blind_like core a b f g (task.Loop n) z k = nodes_like (slice_get core.nodes n) _ _ (λ x. pop_like f g k _ _ (λ v w c d l m. truth_like (turn n x.children) (turn n x.children) (turn_like n x.children) v w l c d m))
+    blind_like core a b f g (task.Loop n) z k = nodes_like (slice_get core.nodes n) _ _ (λ x. pop_like f g k _ _ (λ v w c d l m. truth_like (loop_turn n x.children) (loop_turn n x.children) (turn_like n x.children) v w l c d m))
     blind_like core a b f g task.Discard z k = pop_like f g k _ _ (λ v w c d l m. m)
     blind_like core a b f g task.Return z k = subst (λ (n : ℕ). M (return_task f (slice_get core.methods f.method)) (return_task g (slice_get core.methods n))) k.method (return_like f g (slice_get core.methods f.method) k)

@@ -24,8 +24,8 @@ use Rattle.pc_semantics.specs.declared.frames.Frame.{Frame}
 use Rattle.pc_semantics.specs.declared.frames.Task.{Task}
 use Rattle.pc_semantics.specs.declared.frames.Task.TheVariants as task
 use Rattle.pc_semantics.specs.declared.outcome.Lack.TheVariants as lack
-use Rattle.pc_semantics.specs.Configurations.{blank_object, own_address, fields_in}
-use Rattle.pc_semantics.specs.Around.{Around, Move, Stuck, with_stack, none, with_top, pop, entity_of, first_frame}
+use Rattle.pc_semantics.specs.Configurations.{blank_object, own_address, number_of_fields}
+use Rattle.pc_semantics.specs.Around.{Around, Move, Stuck, with_stack, none, with_top, pop, value_entity, first_frame}
 use Rattle.pc_semantics.specs.Fields.{get_value, get_field, get_of, get_from, get_task, put_value, put_field, put_of, put_into, put_task}
 use Rattle.pc_semantics.specs.Calls.{counted, begin_new, make_of, make_task, spawn_of, spawn_task, enter, send, invoke_kind, push_text, string_of, is_string, text_of, invoke_found, invoke_method, invoke_on, invoke_task}
 use Rattle.pc_semantics.specs.Tasks.{at_node, task_move}
@@ -151,7 +151,7 @@ module _ (core : CoreData) (names : List ℕ) (h h2 : ObjectMap) (i i2 n n2 : �
   put_node k f g (Some x) e r l = put_like k f g x e x.kind refl r l
 
   blank_like : (e : ℕ) → ObjectLike names (blank_object core e) (blank_object core e)
-  blank_like e = record { entity = refl; fields = empty_slots names (fields_in (slice_get core.entities e)) }
+  blank_like e = record { entity = refl; fields = empty_slots names (number_of_fields (slice_get core.entities e)) }
 
   -- ---- counting
 
@@ -267,11 +267,11 @@ module _ (core : CoreData) (names : List ℕ) (h h2 : ObjectMap) (i i2 n n2 : �
     method_like name vs ws f g v w None l k q = string_like name vs ws f g v w l k q
     method_like name vs ws f g v w (Some m) l k q = found_like m vs ws f g v w (slice_get core.methods m) l k q
 
-    entities_like : (v w : Value) → Like names v w → (e : ℕ) → entity_of h2 w ≡ Some e → entity_of h v ≡ Some e
-    entities_like (Num x) w l e is = ap (entity_of h2) (sym l) ∙ is
-    entities_like (Truth x) w l e is = ap (entity_of h2) (sym l) ∙ is
-    entities_like (Text x) w l e is = ap (entity_of h2) (sym l) ∙ is
-    entities_like (Prim x) w l e is = ap (entity_of h2) (sym l) ∙ is
+    entities_like : (v w : Value) → Like names v w → (e : ℕ) → value_entity h2 w ≡ Some e → value_entity h v ≡ Some e
+    entities_like (Num x) w l e is = ap (value_entity h2) (sym l) ∙ is
+    entities_like (Truth x) w l e is = ap (value_entity h2) (sym l) ∙ is
+    entities_like (Text x) w l e is = ap (value_entity h2) (sym l) ∙ is
+    entities_like (Prim x) w l e is = ap (value_entity h2) (sym l) ∙ is
     entities_like (At a) (At b) l e is = classes a b l e is
     entities_like (At a) (Num y) l e is = absurd l
     entities_like (At a) (Truth y) l e is = absurd l
@@ -285,7 +285,7 @@ module _ (core : CoreData) (names : List ℕ) (h h2 : ObjectMap) (i i2 n n2 : �
 
     invoke_like : (f g : Frame) (cs : List ℕ) (kind : NodeKind) → FrameLike names f g → M (invoke_task core one f cs kind) (invoke_task core two g cs kind)
     invoke_like f g cs (node.Call name) k =
-        pop_like names n f g k _ _ (λ v w a b l m. arguments_like names n (length cs - 1) a b m _ _ (λ vs ws c d p q. on_like name vs ws c d v w (entity_of h v) (entity_of h2 w) (λ e. entities_like v w l e) l p q))
+        pop_like names n f g k _ _ (λ v w a b l m. arguments_like names n (length cs - 1) a b m _ _ (λ vs ws c d p q. on_like name vs ws c d v w (value_entity h v) (value_entity h2 w) (λ e. entities_like v w l e) l p q))
     invoke_like f g cs kind k = tt
 
   -- ---- every task

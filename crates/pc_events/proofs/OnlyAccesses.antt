@@ -17,7 +17,7 @@ use Rattle.pc_semantics.specs.declared.mailbox.Message.{Message}
 use Rattle.pc_semantics.specs.declared.outcome.Lack.{Lack}
 use Rattle.pc_semantics.specs.declared.outcome.Outcome.{Outcome}
 use Rattle.pc_semantics.specs.declared.outcome.Outcome.TheVariants.{Moved, Skipped, Lacks, TooLong}
-use Rattle.pc_semantics.specs.Configurations.{Configuration, fields_in}
+use Rattle.pc_semantics.specs.Configurations.{Configuration, number_of_fields}
 use Rattle.pc_semantics.specs.Around.{Move, Stuck, Overflows, Goes, Writes, Makes, Spawns, Enters, Sends, Leaves}
 use Rattle.pc_semantics.specs.Step.{step}
 use Rattle.pc_semantics.specs.Runs.{after}
@@ -84,7 +84,7 @@ empty_fields (suc n) zero = refl
 empty_fields (suc n) (suc k) = empty_fields n k
 
 blank_empty : (core : CoreData) (o : Object) → Blank core o → (k : ℕ) → value_in (slice_get o.fields k) ≡ None
-blank_empty core o b k = ap (λ (p : Object). value_in (slice_get p.fields k)) b.1 ∙ empty_fields (fields_in (slice_get core.entities b.0)) k
+blank_empty core o b k = ap (λ (p : Object). value_in (slice_get p.fields k)) b.1 ∙ empty_fields (number_of_fields (slice_get core.entities b.0)) k
 
 -- ---- the objects
 

@@ -34,7 +34,7 @@ use Rattle.pc_semantics.specs.Runs.{followed, run_from, after, outcomes}
 use Rattle.pc_semantics.specs.Safety.{address_of, name_read, name_written, touched_name, access_of, access, Race, LacksNothing, Safe}
 use Rattle.pc_semantics.specs.declared.ahead.Ahead.TheVariants as ahead
 use Rattle.pc_semantics.specs.Ahead.{ahead_of}
-use Rattle.pc_events.specs.Before.{at_place, Event, receiver_by, receiver_of, takes_one, taken_before, waiting_of, waiting, Before, own, carried, chain}
+use Rattle.pc_events.specs.Before.{at_place, Event, receiver_by, receiver_of, takes_one, taken_before, waiting_of, waiting_for, Before, own, carried, chain}
 use Rattle.pc_events.specs.Conflict.{Conflict}
 use Rattle.pc_events.specs.Laws.{ConflictsOrdered, BeforeIsEarlier, EarlierComesBefore}
 use Rattle.pc_events.proofs.Changes.{Heaping, Same, Sets, New, Change, applied, acted, plan}
@@ -212,7 +212,7 @@ module _ (core : CoreData) (safe : Safe core) (list : List ℕ) (q : ℕ) (ih : 
   abbrev marks : ℕ → Marks
   marks k = record {
     actor = λ a. (e : ℕ) × After e × (e < k) × Event core list e a;
-    post = λ r n. (e : ℕ) × (s : ℕ) × After e × (e < k) × Event core list e s × (receiver_of core (at_place core list e) s ≡ Some r) × (n ≡ taken_before core list e r + waiting (at_place core list e) r);
+    post = λ r n. (e : ℕ) × (s : ℕ) × After e × (e < k) × Event core list e s × (receiver_of core (at_place core list e) s ≡ Some r) × (n ≡ taken_before core list e r + waiting_for (at_place core list e) r);
     wrote = λ a f. (e : ℕ) × (s : ℕ) × After e × (e < k) × Event core list e s × (access core (at_place core list e) s ≡ Some (record { address = a; field = f; write = true }));
   }
 

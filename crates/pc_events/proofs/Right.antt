@@ -24,7 +24,8 @@ use Rattle.pc_semantics.specs.declared.frames.Frame.{Frame}
 use Rattle.pc_semantics.specs.declared.frames.Task.{Task}
 use Rattle.pc_semantics.specs.declared.frames.Task.TheVariants as task
 use Rattle.pc_semantics.specs.Configurations.{blank_object}
-use Rattle.pc_semantics.specs.Around.{Around, Move, Stuck, Overflows, Goes, Writes, Makes, Spawns, Enters, Sends, Leaves, with_stack, with_top, pop, popped, entity_of}
+use Rattle.pc_semantics.specs.Around.{Around, Move, Stuck, Overflows, Goes, Writes, Makes, Spawns, Enters, Sends, Leaves, with_stack, with_top, pop, popped}
+use Rattle.pc_semantics.specs.Around.{value_entity}
 use Rattle.pc_semantics.specs.Fields.{get_value, get_field, get_of, get_from, get_task, put_value, put_field, put_of, put_into, put_task}
 use Rattle.pc_semantics.specs.Calls.{begin_new, make_of, make_task, spawn_of, spawn_task, enter, send, invoke_kind, push_text, is_string, text_of, invoke_found, invoke_method, invoke_on, invoke_task}
 use Rattle.pc_semantics.specs.Tasks.{at_node, task_move}
@@ -168,7 +169,7 @@ module _ (core : CoreData) (h : ObjectMap) (i n : ℕ) (stack : List Value) (t :
 
   invoke_right : (f : Frame) (cs : List ℕ) (k : NodeKind) → Right core h i n stack t (invoke_task core (record { objects = h; actor = i; actors = n }) f cs k)
   invoke_right f cs (node.Call name) =
-      top_all (Right core h i n stack t) f f.stack _ (λ v vs. arguments_all (Right core h i n stack t) (with_stack f vs) (popped (length cs - 1) vs []) _ (λ us g. on_right name v us g (entity_of h v)) tt) tt
+      top_all (Right core h i n stack t) f f.stack _ (λ v vs. arguments_all (Right core h i n stack t) (with_stack f vs) (popped (length cs - 1) vs []) _ (λ us g. on_right name v us g (value_entity h v)) tt) tt
   invoke_right f cs k = tt
 
 -- ---- writes, by the node

@@ -23,7 +23,7 @@ use Rattle.pc_semantics.specs.declared.frames.Task.{Task}
 use Rattle.pc_semantics.specs.declared.frames.Task.TheVariants as task
 use Rattle.pc_semantics.specs.declared.outcome.Lack.TheVariants as lack
 use Rattle.pc_semantics.specs.Configurations.{blank_object}
-use Rattle.pc_semantics.specs.Around.{Around, Move, Stuck, Makes, with_stack, with_top, pop, with_popped, popped, entity_of, first_frame}
+use Rattle.pc_semantics.specs.Around.{Around, Move, Stuck, Makes, with_stack, with_top, pop, with_popped, popped, value_entity, first_frame}
 use Rattle.pc_semantics.specs.Fields.{get_value, get_field, get_of, get_from, get_task, put_value, put_field, put_of, put_into, put_task}
 use Rattle.pc_semantics.specs.Calls.{counted, begin_new, make_of, make_task, spawn_of, spawn_task, send, invoke_kind, invoke_found, invoke_method, invoke_on, invoke_task}
 use Rattle.pc_semantics.specs.Tasks.{at_node, task_move}
@@ -181,7 +181,7 @@ module _ (core : CoreData) (h h2 : ObjectMap) (i n n2 : ℕ) where
   -- ---- calls and messages
 
   module _ (classes : (a : Address) (e : ℕ) → class_at h a ≡ Some e → class_at h2 a ≡ Some e) (more : (j : ℕ) → nat_lt j n ≡ true → nat_lt j n2 ≡ true) where
-    entity_same : (v : Value) (e : ℕ) → entity_of h v ≡ Some e → entity_of h2 v ≡ Some e
+    entity_same : (v : Value) (e : ℕ) → value_entity h v ≡ Some e → value_entity h2 v ≡ Some e
     entity_same (Num k) e is = is
     entity_same (Truth b) e is = is
     entity_same (Text t) e is = is
@@ -211,7 +211,7 @@ module _ (core : CoreData) (h h2 : ObjectMap) (i n n2 : ℕ) where
 
     invoke_kinds : (f : Frame) (cs : List ℕ) (kind : NodeKind) → NotStuck (invoke_task core old f cs kind) → invoke_task core new f cs kind ≡ invoke_task core old f cs kind
     invoke_kinds f cs (node.Call name) s =
-        top_same f f.stack _ _ (λ v us s2. popped_same (with_stack f us) (popped (length cs - 1) us []) _ _ (λ vs g s3. on_same name v vs g (entity_of h v) (entity_of h2 v) (λ e. entity_same v e) s3) s2) s
+        top_same f f.stack _ _ (λ v us s2. popped_same (with_stack f us) (popped (length cs - 1) us []) _ _ (λ vs g s3. on_same name v vs g (value_entity h v) (value_entity h2 v) (λ e. entity_same v e) s3) s2) s
     invoke_kinds f cs kind s = refl
 
   -- ---- every task

@@ -13,7 +13,7 @@ use Rattle.pc_semantics.specs.Ahead.{ahead_of}
 use Rattle.pc_events.proofs.Changes.{applied}
 use Rattle.pc_events.proofs.Plans.{plans}
 use Rattle.pc_events.proofs.Told.{told}
-use Rattle.pc_events.specs.Before.{at_place, Event, is_take, receiver_by, receiver_of, takes_one, taken_before, waiting_of, waiting}
+use Rattle.pc_events.specs.Before.{at_place, Event, is_take, receiver_by, receiver_of, takes_one, taken_before, waiting_of, waiting_for}
 use Rattle.pc_events.proofs.Outcomes.{turn, skipped_next}
 use Rattle.pc_events.specs.Counting.{Live, total, Put}
 use Rattle.pc_events.proofs.Closed.{moved_next, skipped_behind}
@@ -84,7 +84,7 @@ none_some : (r : ℕ) → None ≡ Some r → ⊥
 none_some r e = none-some r e
 
 abbrev Up : Configuration → Configuration → ℕ → ℕ → ℕ → Ahead → Type 0
-Up c d r t u h = (t + waiting c r ≤ u + waiting d r) × (receiver_by c h ≡ Some r → u + waiting d r ≡ suc (t + waiting c r))
+Up c d r t u h = (t + waiting_for c r ≤ u + waiting_for d r) × (receiver_by c h ≡ Some r → u + waiting_for d r ≡ suc (t + waiting_for c r))
 
 same_up : (t u x y : ℕ) → u ≡ t → y ≡ x → t + x ≤ u + y
 same_up t u x y e f = omega (arith, e, f)
@@ -101,37 +101,38 @@ moved_up t u x y e f = omega (arith, e, f)
 up_by : (c d : Configuration) (i r t u : ℕ) (h : Ahead) → Boxes c d i h → u ≡ t + one_for i r (is_take h) → Up c d r t u h
 up_by c d i r t u ahead.Take b e = (
   elim (eqb_tells i r) [
-    | inl s ↦ moved_up t u (waiting c r) (waiting d r) (e ∙ take_own t i r s.1) (subst (λ (z : ℕ). waiting c z ≡ suc (waiting d z)) s.1 b.1)
-    | inr s ↦ same_up t u (waiting c r) (waiting d r) (e ∙ take_other t i r s.1) (b.2 r (λ z. s.1 (sym z)))
+    | inl s ↦ moved_up t u (waiting_for c r) (waiting_for d r) (e ∙ take_own t i r s.1)
+        (subst (λ (z : ℕ). waiting_for c z ≡ suc (waiting_for d z)) s.1 b.1)
+    | inr s ↦ same_up t u (waiting_for c r) (waiting_for d r) (e ∙ take_other t i r s.1) (b.2 r (λ z. s.1 (sym z)))
   ],
   λ z. absurd (none_some r z),
 )
 up_by c d i r t u (ahead.Send a) b e =
     let same : u ≡ t = e ∙ no_take t (nat_eq i r) in (
       elim (eqb_tells r a) [
-        | inl s ↦ one_more_up t u (waiting c r) (waiting d r) same (subst (λ (z : ℕ). waiting d z ≡ suc (waiting c z)) (sym s.1) b.2)
-        | inr s ↦ same_up t u (waiting c r) (waiting d r) same (b.3 r s.1)
+        | inl s ↦ one_more_up t u (waiting_for c r) (waiting_for d r) same (subst (λ (z : ℕ). waiting_for d z ≡ suc (waiting_for c z)) (sym s.1) b.2)
+        | inr s ↦ same_up t u (waiting_for c r) (waiting_for d r) same (b.3 r s.1)
       ],
-      λ z. one_up t u (waiting c r) (waiting d r) same (subst (λ (y : ℕ). waiting d y ≡ suc (waiting c y)) (same_Some a r z) b.2),
+      λ z. one_up t u (waiting_for c r) (waiting_for d r) same (subst (λ (y : ℕ). waiting_for d y ≡ suc (waiting_for c y)) (same_Some a r z) b.2),
     )
 up_by c d i r t u ahead.Spawn b e =
     let same : u ≡ t = e ∙ no_take t (nat_eq i r) in
-    let here : (y : ℕ) → y ≡ length c.actors → waiting d y ≡ suc (waiting c y) =
-    λ y s. ap (waiting d) s ∙ b.1 ∙ sym (ap suc (ap (waiting c) s ∙ nobody c (length c.actors) (no_more (length c.actors))))
+    let here : (y : ℕ) → y ≡ length c.actors → waiting_for d y ≡ suc (waiting_for c y) =
+    λ y s. ap (waiting_for d) s ∙ b.1 ∙ sym (ap suc (ap (waiting_for c) s ∙ nobody c (length c.actors) (no_more (length c.actors))))
     in (
       elim (eqb_tells r (length c.actors)) [
-        | inl s ↦ one_more_up t u (waiting c r) (waiting d r) same (here r s.1)
-        | inr s ↦ same_up t u (waiting c r) (waiting d r) same (b.2 r s.1)
+        | inl s ↦ one_more_up t u (waiting_for c r) (waiting_for d r) same (here r s.1)
+        | inr s ↦ same_up t u (waiting_for c r) (waiting_for d r) same (b.2 r s.1)
       ],
-      λ z. one_up t u (waiting c r) (waiting d r) same (here r (sym (same_Some (length c.actors) r z))),
+      λ z. one_up t u (waiting_for c r) (waiting_for d r) same (here r (sym (same_Some (length c.actors) r z))),
     )
   where
     no_more : (n : ℕ) → n ≤ n
     no_more n = omega arith
 
-    nobody : (c : Configuration) (a : ℕ) → length c.actors ≤ a → waiting c a ≡ 0
+    nobody : (c : Configuration) (a : ℕ) → length c.actors ≤ a → waiting_for c a ≡ 0
     nobody c a l = ap waiting_of (none_behind c.actors a l)
-up_by c d i r t u ahead.Task b e = (same_up t u (waiting c r) (waiting d r) (e ∙ no_take t (nat_eq i r)) (b.1 r), λ z. absurd (none_some r z))
+up_by c d i r t u ahead.Task b e = (same_up t u (waiting_for c r) (waiting_for d r) (e ∙ no_take t (nat_eq i r)) (b.1 r), λ z. absurd (none_some r z))
 up_by c d i r t u ahead.Skipped b e = absurd b
 up_by c d i r t u ahead.Lacks b e = absurd b
 up_by c d i r t u ahead.TooLong b e = absurd b
@@ -168,7 +169,7 @@ total_next core list k r (inl e) =
     (total_moves core list k t.actor r (moving core list k t.actor (record { actor = t.is; moved = e }))).0
 total_next core list k r (inr e) =
     let s = resting core list k e in
-    same_up (taken_before core list k r) (taken_before core list (suc k) r) (waiting (at_place core list k) r) (waiting (at_place core list (suc k)) r) (s.counts r) (ap (λ (c : Configuration). waiting c r) s.same)
+    same_up (taken_before core list k r) (taken_before core list (suc k) r) (waiting_for (at_place core list k) r) (waiting_for (at_place core list (suc k)) r) (s.counts r) (ap (λ (c : Configuration). waiting_for c r) s.same)
 
 pub total_rises : (core : CoreData) (list : List ℕ) (r e k : ℕ) → Live core list k → e ≤ k → total core list e r ≤ total core list k r
 total_rises core list r e zero live l = let same : e ≡ 0 = omega (arith, l) in subst (λ (n : ℕ). total core list n r ≤ total core list 0 r) (sym same) (no_less (total core list 0 r))

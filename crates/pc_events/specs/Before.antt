@@ -53,8 +53,8 @@ waiting_of None = 0
 waiting_of (Some a) = length a.mailbox
 
 -- How many messages wait for actor a.
-abbrev pub waiting : Configuration → ℕ → ℕ
-waiting c a = waiting_of (slice_get c.actors a)
+abbrev pub waiting_for : Configuration → ℕ → ℕ
+waiting_for c a = waiting_of (slice_get c.actors a)
 
 -- The event at p puts a message into a mailbox, and the one at q takes this message: as many messages of the mailbox
 -- were taken before q as were taken before p or waited there at p.
@@ -66,7 +66,7 @@ pub record Carries (core : CoreData) (list : List ℕ) (p q : ℕ) : Type 0 wher
   pub takes : Event core list q receiver
   pub take : ahead_of core (at_place core list q) receiver ≡ ahead.Take
   pub later : p < q
-  pub message : taken_before core list q receiver ≡ taken_before core list p receiver + waiting (at_place core list p) receiver
+  pub message : taken_before core list q receiver ≡ taken_before core list p receiver + waiting_for (at_place core list p) receiver
 
 -- ---- the order
 

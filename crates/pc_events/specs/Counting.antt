@@ -6,7 +6,7 @@ use Rattle.pc_semantics.specs.declared.outcome.Outcome.{Outcome}
 use Rattle.pc_semantics.specs.declared.outcome.Outcome.TheVariants.{Moved, Skipped}
 use Rattle.pc_semantics.specs.Runs.{outcomes}
 use Rattle.pc_semantics.specs.Text.{is_moved}
-use Rattle.pc_events.specs.Before.{at_place, Event, receiver_of, taken_before, waiting, Before}
+use Rattle.pc_events.specs.Before.{at_place, Event, receiver_of, taken_before, waiting_for, Before}
 
 -- ---- runs
 
@@ -39,7 +39,7 @@ AtOrBefore core list p q = (q ≡ p) ⊎ Before core list q p
 
 -- How many messages the mailbox of actor r was given before a place: those that were taken and those that still wait.
 abbrev pub total : CoreData → List ℕ → ℕ → ℕ → ℕ
-total core list k r = taken_before core list k r + waiting (at_place core list k) r
+total core list k r = taken_before core list k r + waiting_for (at_place core list k) r
 
 -- The event at e puts the message with this number into the mailbox of actor r.
 pub record Put (core : CoreData) (list : List ℕ) (e r n : ℕ) : Type 0 where

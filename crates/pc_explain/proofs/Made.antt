@@ -4,7 +4,7 @@ use Rattle.std.proofs.Common.{ap, sym, subst, ◌∙◌}
 use Rattle.std.proofs.lemmas.Option.{same_Some, none-some}
 use Rattle.pc_ann.specs.declared.annotation.Ann.{Ann}
 use Rattle.pc_ann.specs.declared.annotation.Note.{Note}
-use Rattle.pc_check.specs.Faults.{StopsAt, LeavesUnset}
+use Rattle.pc_check.specs.Faults.{StopsAt, InferenceLeavesUnset}
 use Rattle.pc_core.specs.CoreData.{CoreData}
 use Rattle.pc_core.specs.declared.declarations.Method.{Method}
 use Rattle.pc_core.specs.declared.nodes.Node.{Node}
@@ -15,7 +15,7 @@ use Rattle.pc_sub.specs.Declarations.{first_fault}
 use Rattle.pc_sub.specs.declared.faults.DeclFault.{DeclFault}
 use Rattle.pc_token.specs.declared.kinds.Token.{Token}
 use Rattle.pc_words.specs.Scene.{SceneData}
-use Rattle.pc_explain.specs.Explanation.{IsExplanation, body_note, declaration_text, node_text, reasons_of, scene_of, stop_at, unset_text}
+use Rattle.pc_explain.specs.Explanation.{IsExplanation, method_body_note, declaration_text, node_explanation, reasons_of, scene_of, stop_at, unset_text}
 use Rattle.pc_explain.specs.Explanation.IsExplanation.{declared, no_rule, unset}
 
 module _ (name bytes : Text) (tokens : List Token) (core : CoreData) where
@@ -26,30 +26,31 @@ module _ (name bytes : Text) (tokens : List Token) (core : CoreData) where
   declaration_made f text fault e = subst Explains (sym e) (declared f fault)
 
   pub node_made : (ann : Ann) (n : ℕ) (m : Masks) (x : Node) (s : SceneData) (text : Text) → StopsAt core n m ann → slice_get core.nodes n ≡ Some x
-      → s ≡ scene_of bytes tokens core ann.notes → text ≡ node_text name (stop_at s n x m) (reasons_of s.core ann x m) → Explains text
+      → s ≡ scene_of bytes tokens core ann.notes → text ≡ node_explanation name (stop_at s n x m) (reasons_of s.core ann x m) → Explains text
   unfolding scene_of
   node_made ann n m x s text stop at is e =
-      subst Explains (sym (e ∙ ap (λ (q : SceneData). node_text name (stop_at q n x m) (reasons_of q.core ann x m)) is)) (no_rule ann n m x stop at)
+      subst Explains (sym (e ∙ ap (λ (q : SceneData). node_explanation name (stop_at q n x m) (reasons_of q.core ann x m)) is)) (no_rule ann n m x stop at)
 
   pub no_node : (ann : Ann) (n : ℕ) (m : Masks) → StopsAt core n m ann → slice_get core.nodes n ≡ None → ⊥
   no_node ann n m stop e = none-some stop.0.at (sym e ∙ stop.0.is_at)
 
-  pub note_of_body : (ann : Ann) (k : ℕ) (left : LeavesUnset core k ann) → body_note ann left.0.method ≡ Some left.0.note
+  pub note_of_body : (ann : Ann) (k : ℕ) (left : InferenceLeavesUnset core k ann) → method_body_note ann left.0.method ≡ Some left.0.note
   note_of_body ann k left = ap (λ (o : Option ℕ). o >>= λ b. slice_get ann.notes b) left.0.is_body ∙ left.0.is_note
 
-  method_is : (ann : Ann) (k : ℕ) (x : Method) (left : LeavesUnset core k ann) → slice_get core.methods k ≡ Some x → left.0.method ≡ x
+  method_is : (ann : Ann) (k : ℕ) (x : Method) (left : InferenceLeavesUnset core k ann) → slice_get core.methods k ≡ Some x → left.0.method ≡ x
   method_is ann k x left at = same_Some left.0.method x (sym left.0.is_method ∙ at)
 
-  pub unset_made : (ann : Ann) (k : ℕ) (x : Method) (t : Note) (s : SceneData) (text : Text) → LeavesUnset core k ann → slice_get core.methods k ≡ Some x
-      → body_note ann x ≡ Some t → s ≡ scene_of bytes tokens core ann.notes → text ≡ unset_text name s x t → Explains text
+  pub unset_made : (ann : Ann) (k : ℕ) (x : Method) (t : Note) (s : SceneData) (text : Text) → InferenceLeavesUnset core k ann → slice_get core.methods k ≡ Some x
+      → method_body_note ann x ≡ Some t → s ≡ scene_of bytes tokens core ann.notes → text ≡ unset_text name s x t → Explains text
   unset_made ann k x t s text left at noted is e =
       let same = method_is ann k x left at in
-      let note : left.0.note ≡ t = same_Some left.0.note t (sym (note_of_body ann k left) ∙ ap (body_note ann) same ∙ noted) in
+      let note : left.0.note ≡ t = same_Some left.0.note t (sym (note_of_body ann k left) ∙ ap (method_body_note ann) same ∙ noted) in
       subst Explains (sym (e ∙ ap (λ (q : SceneData). unset_text name q x t) is ∙ ap (λ (y : Method). unset_text name (scene_of bytes tokens core ann.notes) y t) (sym same)
       ∙ ap (λ (u : Note). unset_text name (scene_of bytes tokens core ann.notes) left.0.method u) (sym note))) (unset ann k left)
 
-  pub no_method : (ann : Ann) (k : ℕ) → LeavesUnset core k ann → slice_get core.methods k ≡ None → ⊥
+  pub no_method : (ann : Ann) (k : ℕ) → InferenceLeavesUnset core k ann → slice_get core.methods k ≡ None → ⊥
   no_method ann k left e = none-some left.0.method (sym e ∙ left.0.is_method)
 
-  pub no_note : (ann : Ann) (k : ℕ) (x : Method) → LeavesUnset core k ann → slice_get core.methods k ≡ Some x → body_note ann x ≡ None → ⊥
-  no_note ann k x left at e = none-some left.0.note (sym e ∙ ap (body_note ann) (sym (method_is ann k x left at)) ∙ note_of_body ann k left)
+  pub no_note : (ann : Ann) (k : ℕ) (x : Method) → InferenceLeavesUnset core k ann → slice_get core.methods k ≡ Some x
+      → method_body_note ann x ≡ None → ⊥
+  no_note ann k x left at e = none-some left.0.note (sym e ∙ ap (method_body_note ann) (sym (method_is ann k x left at)) ∙ note_of_body ann k left)

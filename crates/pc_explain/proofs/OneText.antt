@@ -4,7 +4,7 @@ use Rattle.std.proofs.Common.{ap, sym, ◌∙◌, arith}
 use Rattle.std.proofs.lemmas.Option.{same_Some, none-some}
 use Rattle.pc_ann.specs.declared.annotation.Ann.{Ann}
 use Rattle.pc_ann.specs.declared.annotation.Note.{Note}
-use Rattle.pc_check.specs.Faults.{StopsAt, LeavesUnset}
+use Rattle.pc_check.specs.Faults.{StopsAt, InferenceLeavesUnset}
 use Rattle.pc_check.specs.Laws as faults
 use Rattle.pc_conditions.specs.Laws.{OneExplanation}
 use Rattle.pc_conditions.specs.declared.reason.Reason.{Reason}
@@ -19,7 +19,7 @@ use Rattle.pc_sub.specs.Declarations.{DeclOk, first_fault}
 use Rattle.pc_sub.specs.DeclarationLaws.{NoFaultWhereFit}
 use Rattle.pc_sub.specs.declared.faults.DeclFault.{DeclFault}
 use Rattle.pc_token.specs.declared.kinds.Token.{Token}
-use Rattle.pc_explain.specs.Explanation.{all_of, declaration_text, node_text, reasons_of, scene_of, stop_at, unset_text}
+use Rattle.pc_explain.specs.Explanation.{all_of, declaration_text, node_explanation, reasons_of, scene_of, stop_at, unset_text}
 use Rattle.pc_explain.specs.Explanation.IsExplanation.{declared, no_rule, unset}
 use Rattle.pc_explain.specs.Laws.{AcceptedHasNone, ExplanationsAreOne}
 use Rattle.pc_explain.proofs.SameLists.{same_lists}
@@ -40,13 +40,13 @@ no_fault core x fits f e d = none-some x (sym ((fits core f).1 d) ∙ e)
 
 node_same : (name bytes : Text) (tokens : List Token) (core : CoreData) (ns ms : List Note) (n k : ℕ) (x y : Node) (m l : Masks) (rs ts : List Reason)
     → ns ≡ ms → n ≡ k → x ≡ y → m ≡ l → rs ≡ ts
-    → node_text name (stop_at (scene_of bytes tokens core ns) n x m) rs ≡ node_text name (stop_at (scene_of bytes tokens core ms) k y l) ts
+    → node_explanation name (stop_at (scene_of bytes tokens core ns) n x m) rs ≡ node_explanation name (stop_at (scene_of bytes tokens core ms) k y l) ts
 node_same name bytes tokens core ns ms n k x y m l rs ts a b c d e =
-    ap (λ q. node_text name (stop_at (scene_of bytes tokens core q) n x m) rs) a
-    ∙ ap (λ q. node_text name (stop_at (scene_of bytes tokens core ms) q x m) rs) b
-    ∙ ap (λ q. node_text name (stop_at (scene_of bytes tokens core ms) k q m) rs) c
-    ∙ ap (λ q. node_text name (stop_at (scene_of bytes tokens core ms) k y q) rs) d
-    ∙ ap (λ q. node_text name (stop_at (scene_of bytes tokens core ms) k y l) q) e
+    ap (λ q. node_explanation name (stop_at (scene_of bytes tokens core q) n x m) rs) a
+    ∙ ap (λ q. node_explanation name (stop_at (scene_of bytes tokens core ms) q x m) rs) b
+    ∙ ap (λ q. node_explanation name (stop_at (scene_of bytes tokens core ms) k q m) rs) c
+    ∙ ap (λ q. node_explanation name (stop_at (scene_of bytes tokens core ms) k y q) rs) d
+    ∙ ap (λ q. node_explanation name (stop_at (scene_of bytes tokens core ms) k y l) q) e
 
 -- The reasons, said of the node and the masks by their other names.
 reasons_named : (core : CoreData) (a : Ann) (x y : Node) (m l : Masks) → x ≡ y → m ≡ l → reasons_of core a x m ≡ reasons_of core a y l
@@ -55,8 +55,8 @@ reasons_named core a x y m l e g = ap (λ q. reasons_of core a q m) e ∙ ap (λ
 node_one : (name bytes : Text) (tokens : List Token) (core : CoreData) (a b : Ann) (n k : ℕ) (m l : Masks) (x y : Node)
     → OneExplanation → faults.PrefixesAgree → Formed core → (s : StopsAt core n m a) → (t : StopsAt core k l b)
     → slice_get core.nodes n ≡ Some x → slice_get core.nodes k ≡ Some y
-    → node_text name (stop_at (scene_of bytes tokens core a.notes) n x m) (reasons_of core a x m)
-    ≡ node_text name (stop_at (scene_of bytes tokens core b.notes) k y l) (reasons_of core b y l)
+    → node_explanation name (stop_at (scene_of bytes tokens core a.notes) n x m) (reasons_of core a x m)
+    ≡ node_explanation name (stop_at (scene_of bytes tokens core b.notes) k y l) (reasons_of core b y l)
 unfolding reasons_of
 node_one name bytes tokens core a b n k m l x y one agree f s t g h =
     let o = one core a b n k f s.0 t.0 in
@@ -80,7 +80,7 @@ unset_same name bytes tokens core ns ms x y t u a b c =
     ∙ ap (λ q. unset_text name (scene_of bytes tokens core ms) y q) c
 
 unset_one : (name bytes : Text) (tokens : List Token) (core : CoreData) (a b : Ann) (m k : ℕ) → faults.OneConstructor → faults.PrefixesAgree → Formed core
-    → (left : LeavesUnset core m a) → (other : LeavesUnset core k b)
+    → (left : InferenceLeavesUnset core m a) → (other : InferenceLeavesUnset core k b)
     → unset_text name (scene_of bytes tokens core a.notes) left.0.method left.0.note ≡ unset_text name (scene_of bytes tokens core b.notes) other.0.method other.0.note
 unset_one name bytes tokens core a b m k one agree f left other =
     let p = left.0 in

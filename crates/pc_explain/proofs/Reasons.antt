@@ -4,7 +4,7 @@ use Rattle.std.proofs.Common.{ap, sym, ◌∙◌}
 use Rattle.pc_ann.specs.declared.annotation.Ann.{Ann}
 use Rattle.pc_ann.specs.declared.annotation.Note.{Note}
 use Rattle.pc_caps.specs.declared.capability.Cap.{Cap}
-use Rattle.pc_check.specs.Inference.{inferred_slot, with_inferred, with_slot}
+use Rattle.pc_check.specs.Inference.{inferred_slot, with_inferred, with_inferred_slot}
 use Rattle.pc_conditions.specs.Failing.{reasons}
 use Rattle.pc_core.specs.CoreData.{CoreData}
 use Rattle.pc_core.specs.declared.nodes.Node.{Node}
@@ -14,7 +14,7 @@ use Rattle.pc_valid.specs.Words.{Masks, Slots}
 use Rattle.pc_explain.specs.Explanation.{all_of, reasons_by, reasons_of}
 
 -- A definition changes no note.
-kept : (ann : Ann) (o : Option (ℕ × (ℕ × Cap))) → (with_slot ann o).notes ≡ ann.notes
+kept : (ann : Ann) (o : Option (ℕ × (ℕ × Cap))) → (with_inferred_slot ann o).notes ≡ ann.notes
 kept ann None = refl
 kept ann (Some i) = refl
 

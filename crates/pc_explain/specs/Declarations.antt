@@ -37,7 +37,7 @@ taker kind.Fun f = creator f
 
 unfoldable pub parameter_line : SceneData → Method → ParamInfo → Text
 parameter_line s m p =
-    codes "node: the parameter " ++ (quoted (piece_of s.bytes p.span) ++ (codes ", " ++ (forms.place_words s.core (p.entity, p.cap) ++ (codes ", of " ++ (methods.method s m ++ line_end)))))
+    codes "node: the parameter " ++ (quoted (piece_of s.bytes p.span) ++ (codes ", " ++ (forms.place_words s.core (p.entity, p.cap) ++ (codes ", of " ++ (methods.declared_method s m ++ line_end)))))
 
 unfoldable pub sendable_line : Method → ParamInfo → Text
 sendable_line m p =
@@ -52,27 +52,27 @@ not_sendable_lines s m p = parameter_line s m p ++ (sendable_line m p ++ declare
 
 -- ---- a method that is missing
 
-abbrev pub kind_of : Option EntityDef → Text
-kind_of None = []
-kind_of (Some x) = kind_word x.kind
+abbrev pub entity_kind_text : Option EntityDef → Text
+entity_kind_text None = []
+entity_kind_text (Some x) = kind_word x.kind
 
 unfoldable pub provider_line : CoreData → ℕ → Method → Text
 provider_line core e wanted =
-    codes "node: the " ++ (kind_of (slice_get core.entities e) ++ (codes " " ++ (forms.entity core e ++ (codes ", which is "
+    codes "node: the " ++ (entity_kind_text (slice_get core.entities e) ++ (codes " " ++ (forms.entity_words core e ++ (codes ", which is "
     ++ (forms.with_article (forms.entity_name core wanted.entity) ++ line_end)))))
 
 unfoldable pub declares_line : SceneData → ℕ → Method → Text
 declares_line s e wanted =
-    codes "rule is: " ++ (forms.entity s.core wanted.entity ++ (codes " declares " ++ (methods.method s wanted ++ (codes ", and "
-    ++ (forms.entity s.core e ++ (codes " has no such function" ++ line_end))))))
+    codes "rule is: " ++ (forms.entity_words s.core wanted.entity ++ (codes " declares " ++ (methods.declared_method s wanted ++ (codes ", and "
+    ++ (forms.entity_words s.core e ++ (codes " has no such function" ++ line_end))))))
 
 -- A method as it would be written in its entity.
 unfoldable pub written : SceneData → Method → Text
-written s m = methods.words m ++ (piece (forms.name_text s.core m.name) ++ methods.signature s m)
+written s m = methods.method_words m ++ (piece (forms.name_text s.core m.name) ++ methods.signature s m)
 
 unfoldable pub other_hint : CoreData → (entity name : ℕ) → Text
 other_hint core e name =
-    codes "hint: " ++ (forms.entity core e ++ (codes "." ++ (piece (forms.name_text core name) ++ (codes " is not a function" ++ line_end))))
+    codes "hint: " ++ (forms.entity_words core e ++ (codes "." ++ (piece (forms.name_text core name) ++ (codes " is not a function" ++ line_end))))
 
 -- The advice to add it, or, if the entity has something else with this name, that it is not a function.
 unfoldable pub missing_hint : SceneData → ℕ → Method → Option ℕ → Text
@@ -88,14 +88,14 @@ missing_lines s e wanted = provider_line s.core e wanted ++ (declares_line s e w
 unfoldable pub wants : CoreData → Method → Method → Bool
 wants core given wanted = nat_eq wanted.name given.name && is_some (first_misfit core wanted given)
 
-abbrev pub or_else : Option Method → Option Method → Option Method
-or_else None other = other
-or_else (Some found) other = Some found
+abbrev pub method_or_else : Option Method → Option Method → Option Method
+method_or_else None other = other
+method_or_else (Some found) other = Some found
 
 -- The first method of these entities that it cannot replace.
 unfoldable pub wanted_from : CoreData → Method → List ℕ → Option Method
 wanted_from core given [] = None
-wanted_from core given (b ∷ bs) = or_else (find (wants core given) (methods_in core (slice_get core.entities b))) (wanted_from core given bs)
+wanted_from core given (b ∷ bs) = method_or_else (find (wants core given) (methods_in core (slice_get core.entities b))) (wanted_from core given bs)
 
 abbrev pub provided_by : Option EntityDef → List ℕ
 provided_by None = []
@@ -104,18 +104,18 @@ provided_by (Some x) = x.provides
 abbrev pub wanted_of : CoreData → ℕ → Method → Option Method
 wanted_of core e given = wanted_from core given (provided_by (slice_get core.entities e))
 
-unfoldable pub method_line : SceneData → Method → Text
-method_line s given = codes "node: the method " ++ (methods.method s given ++ line_end)
+unfoldable pub method_node_line : SceneData → Method → Text
+method_node_line s given = codes "node: the method " ++ (methods.declared_method s given ++ line_end)
 
 unfoldable pub misfit_line : SceneData → Method → Method → Text
 misfit_line s wanted given = codes "rule is: " ++ (misfit s wanted given (first_misfit s.core wanted given) ++ line_end)
 
 unfoldable pub stands_lines : SceneData → Method → Option Method → Text
 stands_lines s given None = []
-stands_lines s given (Some wanted) = codes "part: it stands for " ++ (methods.method s wanted ++ (line_end ++ misfit_line s wanted given))
+stands_lines s given (Some wanted) = codes "part: it stands for " ++ (methods.declared_method s wanted ++ (line_end ++ misfit_line s wanted given))
 
 unfoldable pub mismatch_lines : SceneData → ℕ → Method → Text
-mismatch_lines s e given = method_line s given ++ stands_lines s given (wanted_of s.core e given)
+mismatch_lines s e given = method_node_line s given ++ stands_lines s given (wanted_of s.core e given)
 
 -- ---- each of them
 

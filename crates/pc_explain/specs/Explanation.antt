@@ -5,7 +5,7 @@ use Rattle.pc_ann.specs.declared.annotation.Note.{Note}
 use Rattle.pc_ann.specs.declared.annotation.Rule.{Rule}
 use Rattle.pc_ann.specs.declared.annotation.Rule.TheVariants as rule
 use Rattle.pc_caps.specs.declared.span.Span.{Span}
-use Rattle.pc_check.specs.Faults.{StopsAt, LeavesUnset}
+use Rattle.pc_check.specs.Faults.{StopsAt, InferenceLeavesUnset}
 use Rattle.pc_check.specs.Inference.{with_inferred}
 use Rattle.pc_conditions.specs.Failing.{reasons, reasons_at}
 use Rattle.pc_conditions.specs.declared.reason.Reason.{Reason}
@@ -41,23 +41,23 @@ scene_of bytes tokens core notes = record { bytes = bytes; tokens = tokens; core
 
 -- ---- a declaration that fails
 
-abbrev pub no_span : Span
-no_span = record { start = 0; end = 0 }
+abbrev pub missing_span : Span
+missing_span = record { start = 0; end = 0 }
 
 abbrev pub entity_span : Option EntityDef → Span
-entity_span None = no_span
+entity_span None = missing_span
 entity_span (Some x) = x.span
 
 abbrev pub method_span : Option Method → Span
-method_span None = no_span
+method_span None = missing_span
 method_span (Some x) = x.span
 
 abbrev pub param_span : Option ParamInfo → Span
-param_span None = no_span
+param_span None = missing_span
 param_span (Some p) = p.span
 
 abbrev pub own_param_span : Option Method → ℕ → Span
-own_param_span None i = no_span
+own_param_span None i = missing_span
 own_param_span (Some x) i = param_span (slice_get x.params i)
 
 -- The place of the name of its parameter, its entity or its method.
@@ -81,9 +81,9 @@ is_own_rule rule.PutOwn = true
 is_own_rule r = false
 
 -- The rules for a constructor that has not set all fields yet are the ones looked at.
-abbrev pub is_own : List Reason → Bool
-is_own [] = false
-is_own (r ∷ rs) = is_own_rule r.rule
+abbrev pub looks_at_own_rules : List Reason → Bool
+looks_at_own_rules [] = false
+looks_at_own_rules (r ∷ rs) = is_own_rule r.rule
 
 abbrev pub all_of : Option (List Reason) → List Reason
 all_of None = []
@@ -100,16 +100,16 @@ reasons_of core ann x m = all_of (reasons_at core (with_inferred core ann x) x m
 abbrev pub stop_at : SceneData → ℕ → Node → Masks → StopData
 stop_at s n x m = record { scene = s; number = n; at = x; live = m.0; set = m.1 }
 
-unfoldable pub node_text : Text → StopData → List Reason → Text
-node_text name stop rs =
+unfoldable pub node_explanation : Text → StopData → List Reason → Text
+node_explanation name stop rs =
     head name stop.scene.bytes stop.at.span (codes "no rule")
-    ++ (node_line stop.scene stop.at ++ (part_lines stop.scene stop.at (is_own rs) ++ rule_lines (map (told stop) rs)))
+    ++ (node_line stop.scene stop.at ++ (part_lines stop.scene stop.at (looks_at_own_rules rs) ++ rule_lines (map (told stop) rs)))
 
 -- ---- a constructor that leaves a field unset
 
 -- The note of a method's body.
-abbrev pub body_note : Ann → Method → Option Note
-body_note ann x = do
+abbrev pub method_body_note : Ann → Method → Option Note
+method_body_note ann x = do
   b ← x.body
   slice_get ann.notes b
 
@@ -122,6 +122,6 @@ unset_text name s x t = head name s.bytes x.span (codes "field not set") ++ unse
 pub data IsExplanation (name bytes : Text) (tokens : List Token) (core : CoreData) : Text → Type 0 where
   declared : (f : DeclFault) → first_fault core ≡ Some f → IsExplanation name bytes tokens core (declaration_text name (scene_of bytes tokens core []) f)
   no_rule : (ann : Ann) (n : ℕ) (m : Masks) (x : Node) → StopsAt core n m ann → slice_get core.nodes n ≡ Some x
-      → IsExplanation name bytes tokens core (node_text name (stop_at (scene_of bytes tokens core ann.notes) n x m) (reasons_of core ann x m))
-  unset : (ann : Ann) (k : ℕ) (left : LeavesUnset core k ann)
+      → IsExplanation name bytes tokens core (node_explanation name (stop_at (scene_of bytes tokens core ann.notes) n x m) (reasons_of core ann x m))
+  unset : (ann : Ann) (k : ℕ) (left : InferenceLeavesUnset core k ann)
       → IsExplanation name bytes tokens core (unset_text name (scene_of bytes tokens core ann.notes) left.0.method left.0.note)

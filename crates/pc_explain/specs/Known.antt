@@ -11,10 +11,10 @@ abbrev pub ann_of : Slots → List Note → Ann
 ann_of slots notes = record { slots = slots; notes = notes }
 
 -- The annotation after these nodes, one after another, have given types to the slots that they define.
-abbrev pub known_from : CoreData → Ann → List Node → Ann
-known_from core ann [] = ann
-known_from core ann (x ∷ xs) = known_from core (with_inferred core ann x) xs
+abbrev pub with_inferred_slots : CoreData → Ann → List Node → Ann
+with_inferred_slots core ann [] = ann
+with_inferred_slots core ann (x ∷ xs) = with_inferred_slots core (with_inferred core ann x) xs
 
 -- The written types, and those that follow from the definitions among the first n nodes. They depend only on the notes.
 abbrev pub known_slots : CoreData → List Note → (n : ℕ) → Slots
-known_slots core notes n = (known_from core (ann_of (first_types core) notes) (take n core.nodes)).slots
+known_slots core notes n = (with_inferred_slots core (ann_of (first_types core) notes) (take n core.nodes)).slots

@@ -41,19 +41,19 @@ rule_word rule.Recover = codes "recover"
 rule_word rule.Body = codes "body"
 
 -- The rule fails with this sentence.
-abbrev pub says : Text → Told → Bool
-says sentence t = bytes_eq t.sentence sentence
+abbrev pub has_sentence : Text → Told → Bool
+has_sentence sentence t = bytes_eq t.sentence sentence
 
 -- The name of a later rule, if it fails with this sentence too.
 unfoldable pub more_name : Text → Told → Text
-more_name sentence t = if says sentence t then codes ", " ++ rule_word t.rule else []
+more_name sentence t = if has_sentence sentence t then codes ", " ++ rule_word t.rule else []
 
 abbrev pub number_word : (several : Bool) → Text
 number_word several = if several then codes "rules " else codes "rule "
 
 -- The rules that fail with the sentence of the first of these.
 unfoldable pub names_of : Told → List Told → Text
-names_of t later = number_word (list_any (says t.sentence) later) ++ (rule_word t.rule ++ flat_map (more_name t.sentence) later)
+names_of t later = number_word (list_any (has_sentence t.sentence) later) ++ (rule_word t.rule ++ flat_map (more_name t.sentence) later)
 
 unfoldable pub hint_line : Text → Text
 hint_line [] = []
@@ -65,7 +65,7 @@ rule_line t later = names_of t later ++ (codes ": " ++ (t.sentence ++ (line_end 
 
 -- A rule has a line unless an earlier one has its sentence: rules that fail with the same sentence share a line.
 abbrev pub line_after : (earlier : List Told) → Told → (later : List Told) → Text
-line_after earlier t later = if list_any (says t.sentence) earlier then [] else rule_line t later
+line_after earlier t later = if list_any (has_sentence t.sentence) earlier then [] else rule_line t later
 
 abbrev pub lines_after : (earlier : List Told) → List Told → Text
 lines_after earlier [] = []

@@ -13,7 +13,7 @@ use Rattle.pc_lists.specs.Texts.{Text, line_end}
 use Rattle.pc_masks.specs.Masks.{has}
 use Rattle.pc_masks.specs.declared.mask.Mask.{Mask}
 use Rattle.pc_rules.specs.Fields.{is_this}
-use Rattle.pc_window.specs.Places.{place}
+use Rattle.pc_window.specs.Places.{line_and_column}
 use Rattle.pc_window.specs.Quoting.{quoted}
 use Rattle.pc_words.specs.Forms as forms
 use Rattle.pc_words.specs.Methods as methods
@@ -25,9 +25,9 @@ abbrev pub writes_name : ℕ → NodeKind → Bool
 writes_name name (node.SetField written) = nat_eq written name
 writes_name name k = false
 
-abbrev pub is_own : Option Node → Bool
-is_own None = false
-is_own (Some y) = is_this y.kind
+abbrev pub is_this_node : Option Node → Bool
+is_this_node None = false
+is_this_node (Some y) = is_this y.kind
 
 abbrev pub child_in : CoreData → Option ℕ → Option Node
 child_in core None = None
@@ -35,26 +35,26 @@ child_in core (Some c) = slice_get core.nodes c
 
 -- The node writes the field with this name of `this`.
 unfoldable pub writes_own : CoreData → ℕ → Node → Bool
-writes_own core name x = writes_name name x.kind && is_own (child_in core (slice_get x.children 1))
+writes_own core name x = writes_name name x.kind && is_this_node (child_in core (slice_get x.children 1))
 
 -- What is written before a place.
 abbrev pub before_place : (first : Bool) → Text
 before_place first = if first then codes " on every path: it is set only at " else codes ", "
 
 unfoldable pub write_place : Text → (first : Bool) → ℕ → Text
-write_place bytes first at = before_place first ++ place bytes at
+write_place bytes first at = before_place first ++ line_and_column bytes at
 
 -- The places of these bytes.
 abbrev pub places_of : Text → (first : Bool) → List ℕ → Text
 places_of bytes first [] = []
 places_of bytes first (at ∷ others) = write_place bytes first at ++ places_of bytes false others
 
-abbrev pub start : Node → ℕ
-start x = x.span.start
+abbrev pub start_of_node : Node → ℕ
+start_of_node x = x.span.start
 
 -- Where those of these nodes begin that write the field with this name of `this`.
 abbrev pub writes_of : CoreData → ℕ → List Node → List ℕ
-writes_of core name xs = map start (filter (writes_own core name) xs)
+writes_of core name xs = map start_of_node (filter (writes_own core name) xs)
 
 -- The first eight places, and how many more there are.
 unfoldable pub write_places : Text → List ℕ → Text
@@ -67,22 +67,22 @@ unset_part s m f =
     codes "part: the field " ++ (quoted (forms.name_text s.core f.name) ++ (codes ", " ++ (forms.place_words s.core (f.entity, f.cap)
     ++ (codes ", is not set" ++ (write_places s.bytes (writes_of s.core f.name (own_nodes s.core m)) ++ line_end)))))
 
-unfoldable pub part_of : SceneData → Method → (set : Bool) → FieldInfo → Text
-part_of s m true f = []
-part_of s m false f = unset_part s m f
+unfoldable pub unset_part_of : SceneData → Method → (set : Bool) → FieldInfo → Text
+unset_part_of s m true f = []
+unset_part_of s m false f = unset_part s m f
 
 -- The parts for the fields, from this index on, that are not set.
 abbrev pub unset_parts : SceneData → Method → Mask → ℕ → List FieldInfo → Text
 unset_parts s m set i [] = []
-unset_parts s m set i (f ∷ fs) = part_of s m (has set i) f ++ unset_parts s m set (i + 1) fs
+unset_parts s m set i (f ∷ fs) = unset_part_of s m (has set i) f ++ unset_parts s m set (i + 1) fs
 
 abbrev pub first_unset : Mask → ℕ → List FieldInfo → Option FieldInfo
 first_unset set i [] = None
 first_unset set i (f ∷ fs) = if has set i then first_unset set (i + 1) fs else Some f
 
-unfoldable pub field_name : CoreData → Option FieldInfo → Text
-field_name core None = []
-field_name core (Some f) = quoted (forms.name_text core f.name)
+unfoldable pub quoted_field_name : CoreData → Option FieldInfo → Text
+quoted_field_name core None = []
+quoted_field_name core (Some f) = quoted (forms.name_text core f.name)
 
 -- ---- the lines
 
@@ -91,10 +91,10 @@ fields_of None = []
 fields_of (Some x) = x.fields
 
 unfoldable pub constructor_line : SceneData → Method → Text
-constructor_line s m = codes "node: the constructor " ++ (methods.method s m ++ line_end)
+constructor_line s m = codes "node: the constructor " ++ (methods.declared_method s m ++ line_end)
 
 unfoldable pub set_hint : CoreData → Option FieldInfo → Text
-set_hint core f = codes "hint: give " ++ (field_name core f ++ (codes " an initial value, or set it on every path" ++ line_end))
+set_hint core f = codes "hint: give " ++ (quoted_field_name core f ++ (codes " an initial value, or set it on every path" ++ line_end))
 
 abbrev pub set_rule : Text
 set_rule = codes "rule constructor: at the end of a constructor every field must be set" ++ line_end

@@ -101,7 +101,7 @@ fn push_not_sendable(
 }
 
 fn kind_of(core: &Core, entity: u32) -> &'static [u8]
-    ensures { result.now ≡ spec.kind_of (slice_get core.now.entities entity) }
+    ensures { result.now ≡ spec.entity_kind_text (slice_get core.now.entities entity) }
 {
     match core.entity_at(entity) {
         Some(found) => kind_word(found.kind),
@@ -309,14 +309,14 @@ fn push_stands_lines(
 }
 
 // Appends the line about a method.
-#[tactic(auto, unfolding(crate::specs::Declarations::method_line))]
+#[tactic(auto, unfolding(crate::specs::Declarations::method_node_line))]
 fn push_method_line(
     alloc: Global,
     out: &mut Vec<u8>,
     scene: &Scene,
     given: &Method,
 ) -> Result<(), AllocError>
-    ensures { OnOk result (out.new.items ≡ out.old.items ++ spec.method_line scene.now given.now) }
+    ensures { OnOk result (out.new.items ≡ out.old.items ++ spec.method_node_line scene.now given.now) }
 {
     push_bytes(out, b"node: the method ")?;
     push_method(alloc, out, scene, given)?;

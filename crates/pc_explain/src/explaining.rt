@@ -1,6 +1,6 @@
 //! The whole explanation.
 ghost use Rattle.std.specs.Prelude.{◌≡◌, ◌++◌, [], length, map, IfOk, OnOk, slice_get};
-ghost use Rattle.pc_check.specs.Faults.{LeavesUnset, Refuses, StopsAt};
+ghost use Rattle.pc_check.specs.Faults.{InferenceLeavesUnset, RefusesCore, StopsAt};
 ghost use Rattle.pc_refusals.specs.CoreFaults.{decl_text};
 ghost use Rattle.pc_rules.specs.Parts.{notes_of as notes_are};
 ghost use Rattle.pc_explain.specs.Explanation as spec;
@@ -238,7 +238,7 @@ fn is_own_rule(rule: Rule) -> bool
 
 // Whether the rules for a constructor that has not set all fields yet are the ones looked at.
 fn is_own(reasons: &[Reason]) -> bool
-    ensures { result ≡ spec.is_own reasons.now }
+    ensures { result ≡ spec.looks_at_own_rules reasons.now }
 {
     match reasons {
         [first, ..] => is_own_rule(first.rule),
@@ -287,7 +287,7 @@ fn push_reasons(
 }
 
 // Appends the explanation of a node at which no rule holds.
-#[tactic(auto, unfolding(crate::specs::Explanation::node_text))]
+#[tactic(auto, unfolding(crate::specs::Explanation::node_explanation))]
 fn push_node_text(
     alloc: Global,
     out: &mut Vec<u8>,
@@ -299,7 +299,7 @@ fn push_node_text(
 ) -> Result<(), AllocError>
     requires scene { stop.now.scene ≡ scene.now }
     requires node { stop.now.at ≡ node.now }
-    ensures { OnOk result (out.new.items ≡ out.old.items ++ spec.node_text name.now stop.now reasons.now) }
+    ensures { OnOk result (out.new.items ≡ out.old.items ++ spec.node_explanation name.now stop.now reasons.now) }
 {
     push_head(alloc, out, name, scene.bytes(), node.span, "no rule")?;
     push_node_line(alloc, out, scene, node)?;
@@ -336,7 +336,7 @@ fn explain_node(
     masks: (Mask, Mask),
 ) -> Result<List<u8>, AllocError>
     requires { length ann.now.slots ≡ length scene.now.core.slots }
-    ensures { IfOk result (λ text. text ≡ spec.node_text name.now (spec.stop_at scene.now number node.now masks) (spec.reasons_of scene.now.core ann.now node.now masks)) }
+    ensures { IfOk result (λ text. text ≡ spec.node_explanation name.now (spec.stop_at scene.now number node.now masks) (spec.reasons_of scene.now.core ann.now node.now masks)) }
 {
     let found = reasons_of(alloc, scene.core(), ann, node, masks)?;
     let stop = Stop::new(scene, number, node, masks.0, masks.1);
@@ -371,7 +371,7 @@ fn explain_unset(
 
 // The note of a method's body.
 fn body_note(ann: &Ann, method: &Method) -> Option<Note>
-    ensures { result ≡ spec.body_note ann.now method.now }
+    ensures { result ≡ spec.method_body_note ann.now method.now }
 {
     note_at(ann.notes.as_slice(), method.body?)
 }
@@ -410,7 +410,7 @@ fn explain_left(
     ann: &Ann,
     number: u32,
 ) -> Result<List<u8>, AllocError>
-    requires { LeavesUnset core.now number ann.now }
+    requires { InferenceLeavesUnset core.now number ann.now }
     ensures { IfOk result (IsExplanation name.now bytes.now tokens.now core.now) }
 {
     let notes = ann.notes.as_slice();
@@ -440,7 +440,7 @@ pub fn explain_core(
     core: &Core,
     fault: &CheckFault,
 ) -> Result<List<u8>, AllocError>
-    requires { Refuses core.now fault.now }
+    requires { RefusesCore core.now fault.now }
     ensures { IfOk result (IsExplanation name.now bytes.now tokens.now core.now) }
 {
     match fault {

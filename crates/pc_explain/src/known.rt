@@ -102,7 +102,7 @@ fn unwritten(known: &Known, children: &[u32], written: Option<(u32, Cap)>) -> Op
 
 // The place of a slot whose type follows from its definition, and that type.
 fn slot_type(core: &Core, known: &Known, node: &Node, slot: u32) -> Option<(usize, (u32, Cap))>
-    ensures { result ≡ inference.slot_type core.now known.now node.now slot }
+    ensures { result ≡ inference.inferred_slot_type core.now known.now node.now slot }
 {
     let method = core.method_at(node.method)?;
     let declared = core.slot_at(method, slot)?;
@@ -160,7 +160,7 @@ fn infer_slot(core: &Core, known: &mut Known, node: &Node)
 #[tactic(auto, using(crate::proofs::Lengths::same_length))]
 fn infer_slots(core: &Core, known: &mut Known, nodes: &[Node])
     requires { length known.old.slots ≡ length core.now.slots }
-    ensures { known.new ≡ spec.known_from core.now known.old nodes.now }
+    ensures { known.new ≡ spec.with_inferred_slots core.now known.old nodes.now }
 {
     for node in nodes {
         infer_slot(core, known, node);

@@ -58,14 +58,14 @@ fn rule_word(rule: Rule) -> &'static [u8]
 
 // Whether the rule fails with this sentence.
 fn says(sentence: &[u8], told: &Told) -> bool
-    ensures { result ≡ spec.says sentence.now told.now }
+    ensures { result ≡ spec.has_sentence sentence.now told.now }
 {
     told.sentence.as_slice() == sentence
 }
 
 // Whether one of the rules does.
 fn one_says(sentence: &[u8], told: &[Told]) -> bool
-    ensures { result ≡ list_any (spec.says sentence.now) told.now }
+    ensures { result ≡ list_any (spec.has_sentence sentence.now) told.now }
 {
     told.iter().any(|one| says(sentence, one))
 }

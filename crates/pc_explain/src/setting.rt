@@ -50,7 +50,7 @@ fn writes_name(name: u32, kind: &NodeKind) -> bool
 
 // Whether the child with this number is `this`.
 fn is_own(core: &Core, child: Option<u32>) -> bool
-    ensures { result ≡ spec.is_own (spec.child_in core.now child) }
+    ensures { result ≡ spec.is_this_node (spec.child_in core.now child) }
 {
     match child {
         None => false,
@@ -191,7 +191,7 @@ fn push_unset_part(
 }
 
 // Appends the line about a field, if it is not set.
-#[tactic(auto, unfolding(crate::specs::Setting::part_of))]
+#[tactic(auto, unfolding(crate::specs::Setting::unset_part_of))]
 fn push_part(
     alloc: Global,
     out: &mut Vec<u8>,
@@ -200,7 +200,7 @@ fn push_part(
     set: bool,
     field: FieldInfo,
 ) -> Result<(), AllocError>
-    ensures { OnOk result (out.new.items ≡ out.old.items ++ spec.part_of scene.now method.now set field) }
+    ensures { OnOk result (out.new.items ≡ out.old.items ++ spec.unset_part_of scene.now method.now set field) }
 {
     if set {
         Ok(())
@@ -250,14 +250,14 @@ fn first_unset(set: Mask, fields: &[FieldInfo]) -> Option<FieldInfo>
 }
 
 // Appends the name of a field.
-#[tactic(auto, unfolding(crate::specs::Setting::field_name))]
+#[tactic(auto, unfolding(crate::specs::Setting::quoted_field_name))]
 fn push_field_name(
     alloc: Global,
     out: &mut Vec<u8>,
     core: &Core,
     field: Option<FieldInfo>,
 ) -> Result<(), AllocError>
-    ensures { OnOk result (out.new.items ≡ out.old.items ++ spec.field_name core.now field) }
+    ensures { OnOk result (out.new.items ≡ out.old.items ++ spec.quoted_field_name core.now field) }
 {
     match field {
         Some(field) => push_quoted(alloc, out, name_text(core, field.name)),

@@ -8,7 +8,7 @@ use Rattle.pc_members.specs.MemberLists.{members}
 use Rattle.pc_members.specs.Reach.{above_all}
 use Rattle.pc_members.proofs.Closings.{closes}
 use Rattle.pc_names.specs.declared.fault.NameFault.{NameFault}
-use Rattle.pc_names.specs.Names.{OfFile, Collected, IsNameFault, NamesData, name_faults}
+use Rattle.pc_names.specs.Names.{IsNotMemory, Collected, IsNameFault, NamesData, name_faults}
 use Rattle.pc_names.proofs.Ones.{first_is, one_closing}
 use Rattle.pc_explain_names.specs.Rows.{all_faults, rows, rows_if}
 
@@ -21,7 +21,7 @@ no_rows : (fs : List NameFault) (file : t.File) (f : NameFault) → slice_get fs
 no_rows [] file f h = cc
 no_rows (x ∷ xs) file f h = refl
 
-pub rows_faulty : (file : t.File) (f : NameFault) → OfFile f → IsNameFault file f → [] ≡ rows file
+pub rows_faulty : (file : t.File) (f : NameFault) → IsNotMemory f → IsNameFault file f → [] ≡ rows file
 unfolding rows
 rows_faulty file f of h =
     let same = one_closing file h.0 (above_all (edges_of file)) h.1 (closes file) in

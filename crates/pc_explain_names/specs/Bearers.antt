@@ -9,8 +9,8 @@ use Rattle.pc_tree.specs.declared.kinds.EntityKind.{EntityKind}
 use Rattle.pc_tree.specs.declared.kinds.EntityKind.TheVariants as kind
 use Rattle.pc_explain_names.specs.declared.bearers.Bearer.{Bearer}
 use Rattle.pc_explain_names.specs.declared.bearers.Bearer.TheVariants as bearer
-use Rattle.pc_explain_names.specs.Homes.{params_of, marks_at}
-use Rattle.pc_explain_names.specs.Lists.{field_span, method_span, is_other}
+use Rattle.pc_explain_names.specs.Homes.{param_spans_of, marks_at}
+use Rattle.pc_explain_names.specs.Lists.{field_span, method_name_span, is_other}
 use Rattle.pc_explain_names.specs.Marks.{locals}
 
 abbrev pub kind_word : EntityKind → Text
@@ -34,16 +34,16 @@ abbrev pub as_bearer : Bearer → Option Span → Option (Bearer × Span)
 as_bearer b None = None
 as_bearer b (Some s) = Some (b, s)
 
-abbrev pub or_else : Option (Bearer × Span) → Option (Bearer × Span) → Option (Bearer × Span)
-or_else None other = other
-or_else (Some found) other = Some found
+abbrev pub bearer_or_else : Option (Bearer × Span) → Option (Bearer × Span) → Option (Bearer × Span)
+bearer_or_else None other = other
+bearer_or_else (Some found) other = Some found
 
 abbrev pub entity_bearer : Text → Text → ℕ → List t.Entity → Option (Bearer × Span)
 entity_bearer bytes name at [] = None
 entity_bearer bytes name at (e ∷ es) = if is_other bytes name at e.name.span then Some (bearer.Entity e.kind, e.name.span) else entity_bearer bytes name at es
 
 unfoldable pub param_bearer : Text → Option t.Method → Text → ℕ → Option (Bearer × Span)
-param_bearer bytes m name at = as_bearer bearer.Parameter (find (is_other bytes name at) (params_of m))
+param_bearer bytes m name at = as_bearer bearer.Parameter (find (is_other bytes name at) (param_spans_of m))
 
 unfoldable pub local_bearer : Text → t.Entity → Option t.Method → Text → ℕ → Option (Bearer × Span)
 local_bearer bytes e m name at = as_bearer bearer.Local (find (is_other bytes name at) (locals (marks_at at e m)))
@@ -52,19 +52,20 @@ unfoldable pub field_bearer : Text → List t.Field → Text → ℕ → Option 
 field_bearer bytes fs name at = as_bearer bearer.Field (find (is_other bytes name at) (map field_span fs))
 
 unfoldable pub method_bearer : Text → List t.Method → Text → ℕ → Option (Bearer × Span)
-method_bearer bytes ms name at = as_bearer bearer.Method (find (is_other bytes name at) (map method_span ms))
+method_bearer bytes ms name at = as_bearer bearer.Method (find (is_other bytes name at) (map method_name_span ms))
 
 unfoldable pub outer_bearer : Text → t.File → t.Entity → Text → ℕ → Option (Bearer × Span)
 outer_bearer bytes file e name at =
-    or_else (field_bearer bytes e.fields name at) (or_else (method_bearer bytes e.methods name at) (entity_bearer bytes name at file.entities))
+    bearer_or_else (field_bearer bytes e.fields name at) (bearer_or_else (method_bearer bytes e.methods name at) (entity_bearer bytes name at file.entities))
 
 -- The first thing with the name, other than at this byte: a parameter, a local, a field, a method or an entity.
 unfoldable pub bearer_of : Text → t.File → t.Entity → Option t.Method → Text → ℕ → Option (Bearer × Span)
-bearer_of bytes file e m name at = or_else (param_bearer bytes m name at) (or_else (local_bearer bytes e m name at) (outer_bearer bytes file e name at))
+bearer_of bytes file e m name at =
+    bearer_or_else (param_bearer bytes m name at) (bearer_or_else (local_bearer bytes e m name at) (outer_bearer bytes file e name at))
 
 -- A field or a method of the entity that is called `create`.
 unfoldable pub create_bearer : Text → t.Entity → ℕ → Option (Bearer × Span)
-create_bearer bytes e at = or_else (field_bearer bytes e.fields (codes "create") at) (method_bearer bytes e.methods (codes "create") at)
+create_bearer bytes e at = bearer_or_else (field_bearer bytes e.fields (codes "create") at) (method_bearer bytes e.methods (codes "create") at)
 
 -- ---- entities by their names
 

@@ -3,41 +3,41 @@ use Rattle.std.specs.Prelude.{ℕ, zero, suc, Bool, nat_le, List, [], ◌∷◌,
 use Rattle.pc_caps.specs.declared.span.Span.{Span}
 use Rattle.pc_tree.specs.Tree as t
 use Rattle.pc_explain_names.specs.declared.marks.Mark.{Mark}
-use Rattle.pc_explain_names.specs.Lists.{entity_span, method_span, param_span}
-use Rattle.pc_explain_names.specs.Marks.{expr, seq, locals}
+use Rattle.pc_explain_names.specs.Lists.{entity_name_span, method_name_span, param_name_span}
+use Rattle.pc_explain_names.specs.Marks.{expr_marks, seq_marks, locals}
 
 abbrev pub begins_by : ℕ → Span → Bool
 begins_by at span = nat_le span.start at
 
 -- The last of the first n ones.
-abbrev pub last_of : {A : Type 0} → ℕ → List A → Option A
-last_of zero xs = None
-last_of (suc n) xs = slice_get xs n
+abbrev pub last_of_first : {A : Type 0} → ℕ → List A → Option A
+last_of_first zero xs = None
+last_of_first (suc n) xs = slice_get xs n
 
 -- How many entities begin at or before a byte.
 unfoldable pub place_at : t.File → ℕ → ℕ
-place_at file at = count_by (begins_by at) (map entity_span file.entities)
+place_at file at = count_by (begins_by at) (map entity_name_span file.entities)
 
 -- The entity whose text contains a byte: the last one whose name begins at or before it.
-unfoldable pub entity_at : t.File → ℕ → Option t.Entity
-entity_at file at = last_of (place_at file at) file.entities
+unfoldable pub entity_around : t.File → ℕ → Option t.Entity
+entity_around file at = last_of_first (place_at file at) file.entities
 
 -- The same for an entity's methods. The fields come before the first method.
 unfoldable pub method_at : t.Entity → ℕ → Option t.Method
-method_at e at = last_of (count_by (begins_by at) (map method_span e.methods)) e.methods
+method_at e at = last_of_first (count_by (begins_by at) (map method_name_span e.methods)) e.methods
 
 -- ---- what is found there
 
 abbrev pub value_marks : ℕ → Option t.Expr → List Mark
 value_marks at None = []
-value_marks at (Some e) = expr at e
+value_marks at (Some e) = expr_marks at e
 
 abbrev pub field_marks : ℕ → t.Field → List Mark
 field_marks at f = value_marks at f.value
 
 abbrev pub body_marks : ℕ → Option t.Seq → List Mark
 body_marks at None = []
-body_marks at (Some b) = seq at b
+body_marks at (Some b) = seq_marks at b
 
 abbrev pub all_field_marks : ℕ → List t.Field → List Mark
 all_field_marks at [] = []
@@ -48,13 +48,13 @@ unfoldable pub marks_at : ℕ → t.Entity → Option t.Method → List Mark
 marks_at at e None = all_field_marks at e.fields
 marks_at at e (Some m) = body_marks at m.body
 
-abbrev pub params_of : Option t.Method → List Span
-params_of None = []
-params_of (Some m) = map param_span m.params
+abbrev pub param_spans_of : Option t.Method → List Span
+param_spans_of None = []
+param_spans_of (Some m) = map param_name_span m.params
 
 -- The parameters and locals that are visible where these marks were found.
 unfoldable pub visible_by : Option t.Method → List Mark → List Span
-visible_by m marks = params_of m ++ locals marks
+visible_by m marks = param_spans_of m ++ locals marks
 
 abbrev pub visible_at : ℕ → t.Entity → Option t.Method → List Span
 visible_at at e m = visible_by m (marks_at at e m)

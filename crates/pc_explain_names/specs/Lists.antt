@@ -5,23 +5,23 @@ use Rattle.pc_caps.specs.declared.span.Span.{Span}
 use Rattle.pc_lists.specs.Texts.{Text}
 use Rattle.pc_tree.specs.Tree as t
 use Rattle.pc_tree.specs.declared.file.ParamDef.{ParamDef}
-use Rattle.pc_tree.specs.declared.names.Name.{Name}
+use Rattle.pc_tree.specs.declared.written_names.Name.{Name}
 use Rattle.pc_window.specs.Places.{piece_of}
 use Rattle.pc_window.specs.Quoting.{quoted}
 
 -- ---- the places of names
 
-abbrev pub entity_span : t.Entity → Span
-entity_span e = e.name.span
+abbrev pub entity_name_span : t.Entity → Span
+entity_name_span e = e.name.span
 
 abbrev pub field_span : t.Field → Span
 field_span f = f.name.span
 
-abbrev pub method_span : t.Method → Span
-method_span m = m.name.span
+abbrev pub method_name_span : t.Method → Span
+method_name_span m = m.name.span
 
-abbrev pub param_span : ParamDef → Span
-param_span p = p.name.span
+abbrev pub param_name_span : ParamDef → Span
+param_name_span p = p.name.span
 
 abbrev pub name_span : Name → Span
 name_span n = n.span
@@ -29,12 +29,12 @@ name_span n = n.span
 -- ---- names that are looked for
 
 -- The name at the place is this one.
-abbrev pub is_named : Text → Text → Span → Bool
-is_named bytes name span = bytes_eq (piece_of bytes span) name
+abbrev pub span_is_named : Text → Text → Span → Bool
+span_is_named bytes name span = bytes_eq (piece_of bytes span) name
 
 -- The name at the place is this one, and the place is not this byte.
 abbrev pub is_other : Text → Text → ℕ → Span → Bool
-is_other bytes name at span = is_named bytes name span && not (nat_eq span.start at)
+is_other bytes name at span = span_is_named bytes name span && not (nat_eq span.start at)
 
 -- ---- in words
 
@@ -42,11 +42,11 @@ is_other bytes name at span = is_named bytes name span && not (nat_eq span.start
 abbrev pub most : ℕ
 most = 8
 
-abbrev pub between : (first : Bool) → Text
-between first = if first then [] else codes ", "
+abbrev pub name_separator : (first : Bool) → Text
+name_separator first = if first then [] else codes ", "
 
 abbrev pub one_listed : Text → (first : Bool) → Span → Text
-one_listed bytes first s = between first ++ quoted (piece_of bytes s)
+one_listed bytes first s = name_separator first ++ quoted (piece_of bytes s)
 
 -- Names between backquotes, with a comma between any two.
 abbrev pub listed : Text → (first : Bool) → List Span → Text
@@ -61,6 +61,6 @@ abbrev pub none_at_all : Text
 none_at_all = codes "none"
 
 -- The first eight names, and how many more there are; or `none`.
-unfoldable pub names : Text → List Span → Text
-names bytes [] = none_at_all
-names bytes (s ∷ ss) = listed bytes true (take most (s ∷ ss)) ++ rest (length (s ∷ ss))
+unfoldable pub names_listed : Text → List Span → Text
+names_listed bytes [] = none_at_all
+names_listed bytes (s ∷ ss) = listed bytes true (take most (s ∷ ss)) ++ rest (length (s ∷ ss))

@@ -9,85 +9,85 @@ use Rattle.pc_explain_names.specs.declared.marks.Mark.TheVariants as mark
 abbrev pub holds : Span → ℕ → Bool
 holds span at = nat_le span.start at && nat_lt at span.end
 
-abbrev pub when : Bool → List Mark → List Mark
-when b ms = if b then ms else []
+abbrev pub marks_if : Bool → List Mark → List Mark
+marks_if b ms = if b then ms else []
 
 -- The name of the type, if the expression is one.
-abbrev pub type_in : t.Expr → Option Span
-type_in (t.type_name n) = Some n.span
-type_in (t.number n sp) = None
-type_in (t.truth b sp) = None
-type_in (t.text b sp) = None
-type_in (t.name n) = None
-type_in (t.this sp) = None
-type_in (t.consume n sp) = None
-type_in (t.not_ e sp) = None
-type_in (t.infix_ o es sp) = None
-type_in (t.chain e ss sp) = None
-type_in (t.group b sp) = None
-type_in (t.if_ a o sp) = None
-type_in (t.while_ c b sp) = None
-type_in (t.recover c b sp) = None
-type_in (t.assign l r sp) = None
+abbrev pub type_name_in : t.Expr → Option Span
+type_name_in (t.type_name n) = Some n.span
+type_name_in (t.number n sp) = None
+type_name_in (t.truth b sp) = None
+type_name_in (t.text b sp) = None
+type_name_in (t.name n) = None
+type_name_in (t.this sp) = None
+type_name_in (t.consume n sp) = None
+type_name_in (t.not_ e sp) = None
+type_name_in (t.infix_ o es sp) = None
+type_name_in (t.chain e ss sp) = None
+type_name_in (t.group b sp) = None
+type_name_in (t.if_ a o sp) = None
+type_name_in (t.while_ c b sp) = None
+type_name_in (t.recover c b sp) = None
+type_name_in (t.assign l r sp) = None
 
 -- After a type's name and a dot, the name of a constructor.
 abbrev pub constructor_mark : ℕ → Option Span → Span → List Mark
 constructor_mark at None sp = []
-constructor_mark at (Some head) sp = when (nat_eq sp.start at) (mark.Constructor head ∷ [])
+constructor_mark at (Some head) sp = marks_if (nat_eq sp.start at) (mark.Constructor head ∷ [])
 
 -- The locals that are visible at the place, the outer ones first, and how the name there is used. A local is visible in the
 -- rest of the sequence that defines it.
 abbrev mutual
-  pub expr : ℕ → t.Expr → List Mark
-  expr at (t.number n sp) = []
-  expr at (t.truth b sp) = []
-  expr at (t.text b sp) = []
-  expr at (t.name n) = when (nat_eq n.span.start at) (mark.Bare ∷ [])
-  expr at (t.type_name n) = when (nat_eq n.span.start at) (mark.Type ∷ [])
-  expr at (t.this sp) = []
-  expr at (t.consume n sp) = when (nat_eq n.span.start at) (mark.Consumed ∷ [])
-  expr at (t.not_ e sp) = expr at e
-  expr at (t.infix_ o es sp) = exprs at es
-  expr at (t.chain e ss sp) = expr at e ++ suffixes at (type_in e) ss
-  expr at (t.group b sp) = seq at b
-  expr at (t.if_ a o sp) = arms at a ++ other at o
-  expr at (t.while_ c b sp) = seq at c ++ seq at b
-  expr at (t.recover c b sp) = seq at b
-  expr at (t.assign l r sp) = expr at l ++ expr at r
+  pub expr_marks : ℕ → t.Expr → List Mark
+  expr_marks at (t.number n sp) = []
+  expr_marks at (t.truth b sp) = []
+  expr_marks at (t.text b sp) = []
+  expr_marks at (t.name n) = marks_if (nat_eq n.span.start at) (mark.Bare ∷ [])
+  expr_marks at (t.type_name n) = marks_if (nat_eq n.span.start at) (mark.Type ∷ [])
+  expr_marks at (t.this sp) = []
+  expr_marks at (t.consume n sp) = marks_if (nat_eq n.span.start at) (mark.Consumed ∷ [])
+  expr_marks at (t.not_ e sp) = expr_marks at e
+  expr_marks at (t.infix_ o es sp) = exprs_marks at es
+  expr_marks at (t.chain e ss sp) = expr_marks at e ++ suffixes_marks at (type_name_in e) ss
+  expr_marks at (t.group b sp) = seq_marks at b
+  expr_marks at (t.if_ a o sp) = arms_marks at a ++ other_marks at o
+  expr_marks at (t.while_ c b sp) = seq_marks at c ++ seq_marks at b
+  expr_marks at (t.recover c b sp) = seq_marks at b
+  expr_marks at (t.assign l r sp) = expr_marks at l ++ expr_marks at r
 
-  pub exprs : ℕ → t.Exprs → List Mark
-  exprs at t.no_exprs = []
-  exprs at (t.expr e es) = expr at e ++ exprs at es
+  pub exprs_marks : ℕ → t.Exprs → List Mark
+  exprs_marks at t.no_exprs = []
+  exprs_marks at (t.expr e es) = expr_marks at e ++ exprs_marks at es
 
-  pub one_suffix : ℕ → Option Span → t.Suffix → List Mark
-  one_suffix at head (t.dot n) = constructor_mark at head n.span
-  one_suffix at head (t.args es sp) = exprs at es
+  pub suffix_marks : ℕ → Option Span → t.Suffix → List Mark
+  suffix_marks at head (t.dot n) = constructor_mark at head n.span
+  suffix_marks at head (t.args es sp) = exprs_marks at es
 
-  pub suffixes : ℕ → Option Span → t.Suffixes → List Mark
-  suffixes at head t.no_suffixes = []
-  suffixes at head (t.suffix x ss) = one_suffix at head x ++ suffixes at head ss
+  pub suffixes_marks : ℕ → Option Span → t.Suffixes → List Mark
+  suffixes_marks at head t.no_suffixes = []
+  suffixes_marks at head (t.suffix x ss) = suffix_marks at head x ++ suffixes_marks at head ss
 
-  pub one_arm : ℕ → t.Arm → List Mark
-  one_arm at (t.arm_of c b sp) = seq at c ++ seq at b
+  pub arm_marks : ℕ → t.Arm → List Mark
+  arm_marks at (t.arm_of c b sp) = seq_marks at c ++ seq_marks at b
 
-  pub arms : ℕ → t.Arms → List Mark
-  arms at t.no_arms = []
-  arms at (t.arm x xs) = one_arm at x ++ arms at xs
+  pub arms_marks : ℕ → t.Arms → List Mark
+  arms_marks at t.no_arms = []
+  arms_marks at (t.arm x xs) = arm_marks at x ++ arms_marks at xs
 
-  pub other : ℕ → t.Other → List Mark
-  other at t.no_other = []
-  other at (t.other b) = seq at b
+  pub other_marks : ℕ → t.Other → List Mark
+  other_marks at t.no_other = []
+  other_marks at (t.other b) = seq_marks at b
 
-  pub seq : ℕ → t.Seq → List Mark
-  seq at (t.seq is sp) = when (holds sp at) (items at is)
+  pub seq_marks : ℕ → t.Seq → List Mark
+  seq_marks at (t.seq is sp) = marks_if (holds sp at) (items_marks at is)
 
-  pub items : ℕ → t.Items → List Mark
-  items at t.no_items = []
-  items at (t.item i is) = one_item at i ++ items at is
+  pub items_marks : ℕ → t.Items → List Mark
+  items_marks at t.no_items = []
+  items_marks at (t.item i is) = item_marks at i ++ items_marks at is
 
-  pub one_item : ℕ → t.Item → List Mark
-  one_item at (t.local f n ty e sp) = expr at e ++ when (nat_le sp.end at) (mark.Local n.span ∷ [])
-  one_item at (t.plain e) = expr at e
+  pub item_marks : ℕ → t.Item → List Mark
+  item_marks at (t.local f n ty e sp) = expr_marks at e ++ marks_if (nat_le sp.end at) (mark.Local n.span ∷ [])
+  item_marks at (t.plain e) = expr_marks at e
 
 -- ---- what they tell
 

@@ -8,7 +8,7 @@ use Rattle.pc_refusals.specs.Lines.{no_main_line}
 use Rattle.pc_tree.specs.Tree as t
 use Rattle.pc_window.specs.Head.{head}
 use Rattle.pc_window.specs.Places.{piece_of}
-use Rattle.pc_explain_names.specs.Homes.{entity_at, method_at}
+use Rattle.pc_explain_names.specs.Homes.{entity_around, method_at}
 use Rattle.pc_explain_names.specs.Rows.{members_at}
 use Rattle.pc_explain_names.specs.NameLines.{cycle_lines, double_lines, main_lines, no_main_lines, unknown_lines}
 
@@ -29,10 +29,10 @@ cycle_in bytes span (Some e) = cycle_lines e.kind (piece_of bytes span)
 -- The explanation of a fault of the names of the file with this name and these bytes. There is none for a limit that is
 -- passed, or if memory ran out.
 abbrev pub names_text : Text → Text → t.File → NameFault → Text
-names_text name bytes file (fault.Double s) = head name bytes s (codes "name twice") ++ double_in bytes file s (entity_at file s.start)
-names_text name bytes file (fault.Unknown s) = head name bytes s (codes "name unknown") ++ unknown_in bytes file s (entity_at file s.start)
+names_text name bytes file (fault.Double s) = head name bytes s (codes "name twice") ++ double_in bytes file s (entity_around file s.start)
+names_text name bytes file (fault.Unknown s) = head name bytes s (codes "name unknown") ++ unknown_in bytes file s (entity_around file s.start)
 names_text name bytes file fault.NoMain = no_main_line name ++ no_main_lines
 names_text name bytes file (fault.BadMain s) = head name bytes s (codes "Main is of another form") ++ main_lines
-names_text name bytes file (fault.Cycle s) = head name bytes s (codes "trait in a cycle") ++ cycle_in bytes s (entity_at file s.start)
+names_text name bytes file (fault.Cycle s) = head name bytes s (codes "trait in a cycle") ++ cycle_in bytes s (entity_around file s.start)
 names_text name bytes file (fault.TooMany w s) = []
 names_text name bytes file fault.Memory = []

@@ -5,14 +5,14 @@ use Rattle.std.specs.Str.{bytes_eq}
 use Rattle.pc_lists.specs.Texts.{Text}
 use Rattle.pc_tree.specs.Tree as t
 use Rattle.pc_members.specs.Edges.{edges_of}
-use Rattle.pc_members.specs.Members.{Member, member_text, or_none}
+use Rattle.pc_members.specs.Members.{Member, member_text, or_no_members}
 use Rattle.pc_members.specs.MemberLists.{members}
 use Rattle.pc_members.specs.Reach.{above_all}
 use Rattle.pc_names.specs.Names.{name_faults}
 use Rattle.pc_names.specs.declared.fault.NameFault.{NameFault}
 use Rattle.pc_window.specs.Quoting.{quoted}
-use Rattle.pc_explain_names.specs.Homes.{last_of, place_at}
-use Rattle.pc_explain_names.specs.Lists.{between, most, none_at_all, rest}
+use Rattle.pc_explain_names.specs.Homes.{last_of_first, place_at}
+use Rattle.pc_explain_names.specs.Lists.{name_separator, most, none_at_all, rest}
 
 abbrev pub all_faults : t.File → List NameFault
 all_faults file = name_faults file (above_all (edges_of file))
@@ -28,19 +28,19 @@ rows file = rows_if (all_faults file) file
 
 -- The members of the entity whose text contains a byte.
 unfoldable pub members_at : t.File → ℕ → List Member
-members_at file at = or_none (last_of (place_at file at) (rows file))
+members_at file at = or_no_members (last_of_first (place_at file at) (rows file))
 
-abbrev pub is_called : Text → Member → Bool
-is_called name m = bytes_eq (member_text m) name
+abbrev pub member_is_called : Text → Member → Bool
+member_is_called name m = bytes_eq (member_text m) name
 
 -- One of the members has the name.
 unfoldable pub has_member : Text → List Member → Bool
-has_member name ms = list_any (is_called name) ms
+has_member name ms = list_any (member_is_called name) ms
 
 -- ---- in words
 
 abbrev pub one_member : (first : Bool) → Member → Text
-one_member first m = between first ++ quoted (member_text m)
+one_member first m = name_separator first ++ quoted (member_text m)
 
 abbrev pub listed_members : (first : Bool) → List Member → Text
 listed_members first [] = []

@@ -1,6 +1,6 @@
 //! The explanation of a fault of a file's names.
 ghost use Rattle.std.specs.Prelude.{◌≡◌, ◌++◌, IfOk, OnOk, Some};
-ghost use Rattle.pc_explain_names.specs.Homes.{entity_at as entity_is, method_at as method_is};
+ghost use Rattle.pc_explain_names.specs.Homes.{entity_around as entity_is, method_at as method_is};
 ghost use Rattle.pc_explain_names.specs.NameLines as lines;
 ghost use Rattle.pc_explain_names.specs.Names as spec;
 ghost use Rattle.pc_members.specs.Views.{members_view};

@@ -26,7 +26,7 @@ fn count_before(spans: &[Span], at: u32) -> usize
 
 // The last of the first `count` entities.
 fn last_entity(entities: &List<Entity>, count: usize) -> Option<&Entity>
-    ensures { option_map (λ e. entity_view e.now) result ≡ spec.last_of count (map entity_view entities.now) }
+    ensures { option_map (λ e. entity_view e.now) result ≡ spec.last_of_first count (map entity_view entities.now) }
 {
     if count == 0 {
         None
@@ -37,7 +37,7 @@ fn last_entity(entities: &List<Entity>, count: usize) -> Option<&Entity>
 
 // The last of the first `count` methods.
 fn last_method(methods: &List<MethodDef>, count: usize) -> Option<&MethodDef>
-    ensures { option_map (λ m. method_view m.now) result ≡ spec.last_of count (map method_view methods.now) }
+    ensures { option_map (λ m. method_view m.now) result ≡ spec.last_of_first count (map method_view methods.now) }
 {
     if count == 0 {
         None
@@ -56,9 +56,9 @@ pub(crate) fn place_at(alloc: Global, file: &File, at: u32) -> Result<usize, All
 }
 
 /// The entity whose text contains a byte.
-#[tactic(auto, unfolding(crate::specs::Homes::entity_at))]
+#[tactic(auto, unfolding(crate::specs::Homes::entity_around))]
 pub(crate) fn entity_at(alloc: Global, file: &File, at: u32) -> Result<Option<&Entity>, AllocError>
-    ensures { IfOk result (λ found. option_map (λ e. entity_view e.now) found ≡ spec.entity_at (file_view file.now) at) }
+    ensures { IfOk result (λ found. option_map (λ e. entity_view e.now) found ≡ spec.entity_around (file_view file.now) at) }
 {
     let place = place_at(alloc, file, at)?;
     Ok(last_entity(&file.entities, place))
@@ -127,7 +127,7 @@ pub(crate) fn marks_at(
 
 /// The places of the names of the method's parameters.
 pub(crate) fn params_of(alloc: Global, method: Option<&MethodDef>) -> Result<Vec<Span>, AllocError>
-    ensures { IfOk result (λ spans. spans.items ≡ spec.params_of (option_map (λ m. method_view m.now) method.entry)) }
+    ensures { IfOk result (λ spans. spans.items ≡ spec.param_spans_of (option_map (λ m. method_view m.now) method.entry)) }
 {
     match method {
         Some(method) => param_spans(alloc, method.params.as_slice()),

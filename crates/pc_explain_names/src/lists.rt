@@ -12,14 +12,14 @@ pub(crate) const MOST: usize = 8;
 
 // Whether the name at the place is this one.
 pub(crate) fn is_named(bytes: &[u8], name: &[u8], span: Span) -> bool
-    ensures { result ≡ spec.is_named bytes.now name.now span }
+    ensures { result ≡ spec.span_is_named bytes.now name.now span }
 {
     piece_of(bytes, span) == name
 }
 
 /// Whether one of the names at these places is this one.
 pub(crate) fn one_is_named(bytes: &[u8], name: &[u8], spans: &[Span]) -> bool
-    ensures { result ≡ list_any (spec.is_named bytes.now name.now) spans.now }
+    ensures { result ≡ list_any (spec.span_is_named bytes.now name.now) spans.now }
 {
     spans.iter().any(|span| is_named(bytes, name, *span))
 }
@@ -45,7 +45,7 @@ pub(crate) fn first_other(bytes: &[u8], name: &[u8], at: u32, spans: &[Span]) ->
 
 /// A comma, unless this is the first name.
 pub(crate) fn between(first: bool) -> &'static [u8]
-    ensures { result.now ≡ spec.between first }
+    ensures { result.now ≡ spec.name_separator first }
 {
     if first { b"" } else { b", " }
 }
@@ -94,14 +94,14 @@ pub(crate) fn push_rest(alloc: Global, out: &mut Vec<u8>, count: usize) -> Resul
 }
 
 /// Appends names between backquotes, the first eight and how many more there are; or `none`.
-#[tactic(auto, unfolding(crate::specs::Lists::names))]
+#[tactic(auto, unfolding(crate::specs::Lists::names_listed))]
 pub(crate) fn push_names(
     alloc: Global,
     out: &mut Vec<u8>,
     bytes: &[u8],
     spans: &[Span],
 ) -> Result<(), AllocError>
-    ensures { OnOk result (out.new.items ≡ out.old.items ++ spec.names bytes.now spans.now) }
+    ensures { OnOk result (out.new.items ≡ out.old.items ++ spec.names_listed bytes.now spans.now) }
 {
     match spans {
         [] => push_bytes(out, b"none"),

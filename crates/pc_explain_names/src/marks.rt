@@ -32,7 +32,7 @@ fn holds(span: Span, at: u32) -> bool
 
 // Appends a mark, if it was met.
 fn push_when(out: &mut Vec<Mark>, met: bool, mark: Mark) -> Result<(), AllocError>
-    ensures { OnOk result (out.new.items ≡ out.old.items ++ spec.when met (mark ∷ [])) }
+    ensures { OnOk result (out.new.items ≡ out.old.items ++ spec.marks_if met (mark ∷ [])) }
 {
     if met {
         out.push(mark)?;
@@ -42,7 +42,7 @@ fn push_when(out: &mut Vec<Mark>, met: bool, mark: Mark) -> Result<(), AllocErro
 
 // The place of the type's name, if an expression is a type.
 fn type_in(head: &Expr) -> Option<Span>
-    ensures { result ≡ spec.type_in (expr_view head.now) }
+    ensures { result ≡ spec.type_name_in (expr_view head.now) }
 {
     match head {
         Expr::TypeName(name) => Some(name.span),
@@ -81,7 +81,7 @@ fn push_constructor(
 /// Appends what is found in an expression.
 #[cycle(met)]
 pub(crate) fn push_expr(out: &mut Vec<Mark>, at: u32, expression: &Expr) -> Result<(), AllocError>
-    ensures { OnOk result (out.new.items ≡ out.old.items ++ spec.expr at (expr_view expression.now)) }
+    ensures { OnOk result (out.new.items ≡ out.old.items ++ spec.expr_marks at (expr_view expression.now)) }
 {
     match expression {
         Expr::Number { .. } | Expr::Truth { .. } | Expr::Text { .. } | Expr::This(_) => Ok(()),
@@ -113,7 +113,7 @@ pub(crate) fn push_expr(out: &mut Vec<Mark>, at: u32, expression: &Expr) -> Resu
 
 #[cycle(met)]
 fn push_exprs(out: &mut Vec<Mark>, at: u32, xs: &[Expr]) -> Result<(), AllocError>
-    ensures { OnOk result (out.new.items ≡ out.old.items ++ spec.exprs at (exprs_view xs.now)) }
+    ensures { OnOk result (out.new.items ≡ out.old.items ++ spec.exprs_marks at (exprs_view xs.now)) }
 {
     for x in xs {
         push_expr(out, at, x)?;
@@ -128,7 +128,7 @@ fn push_suffixes(
     head: Option<Span>,
     xs: &[Suffix],
 ) -> Result<(), AllocError>
-    ensures { OnOk result (out.new.items ≡ out.old.items ++ spec.suffixes at head (suffixes_view xs.now)) }
+    ensures { OnOk result (out.new.items ≡ out.old.items ++ spec.suffixes_marks at head (suffixes_view xs.now)) }
 {
     for x in xs {
         push_suffix(out, at, head, x)?;
@@ -143,7 +143,7 @@ fn push_suffix(
     head: Option<Span>,
     suffix: &Suffix,
 ) -> Result<(), AllocError>
-    ensures { OnOk result (out.new.items ≡ out.old.items ++ spec.one_suffix at head (suffix_view suffix.now)) }
+    ensures { OnOk result (out.new.items ≡ out.old.items ++ spec.suffix_marks at head (suffix_view suffix.now)) }
 {
     match suffix {
         Suffix::Dot(name) => push_constructor(out, at, head, name.span),
@@ -153,7 +153,7 @@ fn push_suffix(
 
 #[cycle(met)]
 fn push_arms(out: &mut Vec<Mark>, at: u32, xs: &[Arm]) -> Result<(), AllocError>
-    ensures { OnOk result (out.new.items ≡ out.old.items ++ spec.arms at (arms_view xs.now)) }
+    ensures { OnOk result (out.new.items ≡ out.old.items ++ spec.arms_marks at (arms_view xs.now)) }
 {
     for x in xs {
         push_arm(out, at, x)?;
@@ -163,7 +163,7 @@ fn push_arms(out: &mut Vec<Mark>, at: u32, xs: &[Arm]) -> Result<(), AllocError>
 
 #[cycle(met)]
 fn push_arm(out: &mut Vec<Mark>, at: u32, arm: &Arm) -> Result<(), AllocError>
-    ensures { OnOk result (out.new.items ≡ out.old.items ++ spec.one_arm at (arm_view arm.now)) }
+    ensures { OnOk result (out.new.items ≡ out.old.items ++ spec.arm_marks at (arm_view arm.now)) }
 {
     push_seq(out, at, &arm.cond)?;
     push_seq(out, at, &arm.body)
@@ -171,7 +171,7 @@ fn push_arm(out: &mut Vec<Mark>, at: u32, arm: &Arm) -> Result<(), AllocError>
 
 #[cycle(met)]
 fn push_other(out: &mut Vec<Mark>, at: u32, other: &Option<Box<Seq>>) -> Result<(), AllocError>
-    ensures { OnOk result (out.new.items ≡ out.old.items ++ spec.other at (other_view other.now)) }
+    ensures { OnOk result (out.new.items ≡ out.old.items ++ spec.other_marks at (other_view other.now)) }
 {
     match other {
         Some(seq) => push_seq(out, at, seq),
@@ -182,7 +182,7 @@ fn push_other(out: &mut Vec<Mark>, at: u32, other: &Option<Box<Seq>>) -> Result<
 /// Appends what is found in a sequence.
 #[cycle(met)]
 pub(crate) fn push_seq(out: &mut Vec<Mark>, at: u32, seq: &Seq) -> Result<(), AllocError>
-    ensures { OnOk result (out.new.items ≡ out.old.items ++ spec.seq at (seq_view seq.now)) }
+    ensures { OnOk result (out.new.items ≡ out.old.items ++ spec.seq_marks at (seq_view seq.now)) }
 {
     if holds(seq.span, at) {
         push_items(out, at, seq.items.as_slice())
@@ -193,7 +193,7 @@ pub(crate) fn push_seq(out: &mut Vec<Mark>, at: u32, seq: &Seq) -> Result<(), Al
 
 #[cycle(met)]
 fn push_items(out: &mut Vec<Mark>, at: u32, xs: &[Item]) -> Result<(), AllocError>
-    ensures { OnOk result (out.new.items ≡ out.old.items ++ spec.items at (items_view xs.now)) }
+    ensures { OnOk result (out.new.items ≡ out.old.items ++ spec.items_marks at (items_view xs.now)) }
 {
     for x in xs {
         push_item(out, at, x)?;
@@ -203,7 +203,7 @@ fn push_items(out: &mut Vec<Mark>, at: u32, xs: &[Item]) -> Result<(), AllocErro
 
 #[cycle(met)]
 fn push_item(out: &mut Vec<Mark>, at: u32, item: &Item) -> Result<(), AllocError>
-    ensures { OnOk result (out.new.items ≡ out.old.items ++ spec.one_item at (item_view item.now)) }
+    ensures { OnOk result (out.new.items ≡ out.old.items ++ spec.item_marks at (item_view item.now)) }
 {
     match item {
         Item::Local {

@@ -1,11 +1,11 @@
 //! The members of a file's entities, and their names in words.
 ghost use Rattle.std.specs.Prelude.{◌≡◌, ◌++◌, map, true, IfOk, OnOk};
 ghost use Rattle.std.specs.Option.{option_map};
-ghost use Rattle.pc_explain_names.specs.Homes.{last_of};
+ghost use Rattle.pc_explain_names.specs.Homes.{last_of_first};
 ghost use Rattle.pc_explain_names.specs.Rows as spec;
 ghost use Rattle.pc_members.specs.MemberLists.{members};
 ghost use Rattle.pc_members.specs.Views.{member_view, members_view, table_view};
-ghost use Rattle.pc_names.specs.Names.{OfFile, Collected};
+ghost use Rattle.pc_names.specs.Names.{IsNotMemory, Collected};
 ghost use Rattle.pc_tree.specs.View.{file_view};
 
 use crate::lists::{MOST, between, push_rest};
@@ -30,7 +30,7 @@ fn members_of<'a>(
 
 // An `Err` if memory ran out.
 fn unless_memory(fault: NameFault) -> Result<(), AllocError>
-    ensures { OnOk result (OfFile fault) }
+    ensures { OnOk result (IsNotMemory fault) }
 {
     match fault {
         NameFault::Memory => Err(AllocError),
@@ -64,7 +64,7 @@ pub(crate) fn last_row<'t, 'a>(
     rows: &'t List<List<Member<'a>>>,
     count: usize,
 ) -> Option<&'t List<Member<'a>>>
-    ensures { option_map (λ r. members_view r.now) result ≡ last_of count (table_view rows.now) }
+    ensures { option_map (λ r. members_view r.now) result ≡ last_of_first count (table_view rows.now) }
 {
     if count == 0 {
         None

@@ -8,7 +8,7 @@ use pc_tree::{Entity, FieldDef, MethodDef, Name, ParamDef};
 use std::alloc::{AllocError, Global};
 
 fn entity_span(entity: &Entity) -> Span
-    ensures { result ≡ spec.entity_span (entity_view entity.now) }
+    ensures { result ≡ spec.entity_name_span (entity_view entity.now) }
 {
     entity.name.span
 }
@@ -20,13 +20,13 @@ fn field_span(field: &FieldDef) -> Span
 }
 
 fn method_span(method: &MethodDef) -> Span
-    ensures { result ≡ spec.method_span (method_view method.now) }
+    ensures { result ≡ spec.method_name_span (method_view method.now) }
 {
     method.name.span
 }
 
 fn param_span(param: &ParamDef) -> Span
-    ensures { result ≡ spec.param_span param.now }
+    ensures { result ≡ spec.param_name_span param.now }
 {
     param.name.span
 }
@@ -39,7 +39,7 @@ fn name_span(name: &Name) -> Span
 
 /// The places of the names of entities.
 pub(crate) fn entity_spans(alloc: Global, entities: &[Entity]) -> Result<Vec<Span>, AllocError>
-    ensures { IfOk result (λ spans. spans.items ≡ map spec.entity_span (map entity_view entities.now)) }
+    ensures { IfOk result (λ spans. spans.items ≡ map spec.entity_name_span (map entity_view entities.now)) }
 {
     let mut spans = Vec::new(alloc);
     for entity in entities {
@@ -61,7 +61,7 @@ pub(crate) fn field_spans(alloc: Global, fields: &[FieldDef]) -> Result<Vec<Span
 
 /// The places of the names of methods.
 pub(crate) fn method_spans(alloc: Global, methods: &[MethodDef]) -> Result<Vec<Span>, AllocError>
-    ensures { IfOk result (λ spans. spans.items ≡ map spec.method_span (map method_view methods.now)) }
+    ensures { IfOk result (λ spans. spans.items ≡ map spec.method_name_span (map method_view methods.now)) }
 {
     let mut spans = Vec::new(alloc);
     for method in methods {
@@ -72,7 +72,7 @@ pub(crate) fn method_spans(alloc: Global, methods: &[MethodDef]) -> Result<Vec<S
 
 /// The places of the names of parameters.
 pub(crate) fn param_spans(alloc: Global, params: &[ParamDef]) -> Result<Vec<Span>, AllocError>
-    ensures { IfOk result (λ spans. spans.items ≡ map spec.param_span params.now) }
+    ensures { IfOk result (λ spans. spans.items ≡ map spec.param_name_span params.now) }
 {
     let mut spans = Vec::new(alloc);
     for param in params {

@@ -36,14 +36,14 @@ fn push_method_part(
 }
 
 // Appends ` in E.m`.
-#[tactic(auto, unfolding(crate::specs::NameLines::home))]
+#[tactic(auto, unfolding(crate::specs::NameLines::home_of_name))]
 fn push_home(
     alloc: Global,
     out: &mut Vec<u8>,
     entity: &Entity,
     method: Option<&MethodDef>,
 ) -> Result<(), AllocError>
-    ensures { OnOk result (out.new.items ≡ out.old.items ++ spec.home (entity_view entity.now) (option_map (λ m. method_view m.now) method.entry)) }
+    ensures { OnOk result (out.new.items ≡ out.old.items ++ spec.home_of_name (entity_view entity.now) (option_map (λ m. method_view m.now) method.entry)) }
 {
     push_bytes(out, b" in ")?;
     push_piece(alloc, out, entity.name.text.as_slice())?;
@@ -51,7 +51,7 @@ fn push_home(
 }
 
 /// Appends the line about the name.
-#[tactic(auto, unfolding(crate::specs::NameLines::node_line))]
+#[tactic(auto, unfolding(crate::specs::NameLines::name_node_line))]
 pub(crate) fn push_node_line(
     alloc: Global,
     out: &mut Vec<u8>,
@@ -59,7 +59,7 @@ pub(crate) fn push_node_line(
     entity: &Entity,
     method: Option<&MethodDef>,
 ) -> Result<(), AllocError>
-    ensures { OnOk result (out.new.items ≡ out.old.items ++ spec.node_line name.now (entity_view entity.now) (option_map (λ m. method_view m.now) method.entry)) }
+    ensures { OnOk result (out.new.items ≡ out.old.items ++ spec.name_node_line name.now (entity_view entity.now) (option_map (λ m. method_view m.now) method.entry)) }
 {
     push_bytes(out, b"node: the name ")?;
     push_quoted(alloc, out, name)?;
@@ -130,9 +130,9 @@ fn push_bare_line(
 }
 
 // Whether the entity has a field with this name.
-#[tactic(auto, unfolding(crate::specs::NameLines::has_field))]
+#[tactic(auto, unfolding(crate::specs::NameLines::has_field_named))]
 fn has_field(alloc: Global, bytes: &[u8], name: &[u8], entity: &Entity) -> Result<bool, AllocError>
-    ensures { IfOk result (λ has. has ≡ spec.has_field bytes.now name.now (entity_view entity.now)) }
+    ensures { IfOk result (λ has. has ≡ spec.has_field_named bytes.now name.now (entity_view entity.now)) }
 {
     let spans = field_spans(alloc, entity.fields.as_slice())?;
     Ok(one_is_named(bytes, name, &spans))
@@ -243,14 +243,14 @@ fn push_consumed_lines(
 }
 
 // Appends the line about a name after a type's name and a dot.
-#[tactic(auto, unfolding(crate::specs::NameLines::constructor_line))]
+#[tactic(auto, unfolding(crate::specs::NameLines::constructor_rule_line))]
 fn push_constructor_line(
     alloc: Global,
     out: &mut Vec<u8>,
     entity: &[u8],
     name: &[u8],
 ) -> Result<(), AllocError>
-    ensures { OnOk result (out.new.items ≡ out.old.items ++ spec.constructor_line entity.now name.now) }
+    ensures { OnOk result (out.new.items ≡ out.old.items ++ spec.constructor_rule_line entity.now name.now) }
 {
     push_bytes(
         out,
@@ -263,7 +263,7 @@ fn push_constructor_line(
 }
 
 fn article(kind: EntityKind) -> &'static [u8]
-    ensures { result.now ≡ spec.article kind }
+    ensures { result.now ≡ spec.kind_article kind }
 {
     match kind {
         EntityKind::Class | EntityKind::Primitive | EntityKind::Trait => b"a ",
@@ -272,14 +272,14 @@ fn article(kind: EntityKind) -> &'static [u8]
 }
 
 // Appends that the name is of an entity of this kind.
-#[tactic(auto, unfolding(crate::specs::NameLines::is_a))]
+#[tactic(auto, unfolding(crate::specs::NameLines::name_is_a))]
 fn push_is_a(
     alloc: Global,
     out: &mut Vec<u8>,
     name: &[u8],
     kind: EntityKind,
 ) -> Result<(), AllocError>
-    ensures { OnOk result (out.new.items ≡ out.old.items ++ spec.is_a name.now kind) }
+    ensures { OnOk result (out.new.items ≡ out.old.items ++ spec.name_is_a name.now kind) }
 {
     push_piece(alloc, out, name)?;
     push_bytes(out, b" is ")?;

@@ -5,4 +5,4 @@
 #[cfg(test)]
 mod cases;
 #[cfg(test)]
-mod names;
+mod name_explanations;

@@ -7,7 +7,7 @@ use Rattle.pc_tree.specs.View.{expr_view, item_view, suffix_view}
 use Rattle.pc_tree.specs.declared.expression.Expr.{Expr}
 use Rattle.pc_tree.specs.declared.expression.Item.{Item}
 use Rattle.pc_tree.specs.declared.expression.Suffix.{Suffix}
-use Rattle.pc_grammar.specs.Spells.{no_span, join}
+use Rattle.pc_grammar.specs.Spells.{no_span, span_from_to}
 use Rattle.pc_grammar.specs.Reading.{first_item, last_item, first_expr, last_expr, last_suffix}
 
 one_less : {X : Type 0} (y z : X) (zs : List X) (x : X) → Some x ≡ slice_get (y ∷ z ∷ zs) (length (y ∷ z ∷ zs) - 1) → Some x ≡ slice_get (z ∷ zs) (length (z ∷ zs) - 1)
@@ -35,12 +35,13 @@ last_expr_is s (y ∷ []) x e = let same : x ≡ y = cc e in ap (λ v. t.span_of
 last_expr_is s (y ∷ z ∷ zs) x e = last_expr_is (t.span_of (expr_view y)) (z ∷ zs) x (one_less y z zs x e)
 
 pub items_joined : (xs : List Item) (x y : Item) → Some x ≡ slice_get xs 0 → Some y ≡ slice_get xs (length xs - 1)
-    → join (t.item_span (item_view x)) (t.item_span (item_view y)) ≡ join (first_item (map item_view xs)) (last_item no_span (map item_view xs))
-items_joined xs x y first last = ap₂ join (first_item_is xs x first) (last_item_is no_span xs y last)
+    → span_from_to (t.item_span (item_view x)) (t.item_span (item_view y))
+        ≡ span_from_to (first_item (map item_view xs)) (last_item no_span (map item_view xs))
+items_joined xs x y first last = ap₂ span_from_to (first_item_is xs x first) (last_item_is no_span xs y last)
 
 pub terms_joined : (xs : List Expr) (x y : Expr) → Some x ≡ slice_get xs 0 → Some y ≡ slice_get xs (length xs - 1)
-    → join (t.span_of (expr_view x)) (t.span_of (expr_view y)) ≡ join (first_expr (map expr_view xs)) (last_expr no_span (map expr_view xs))
-terms_joined xs x y first last = ap₂ join (first_expr_is xs x first) (last_expr_is no_span xs y last)
+    → span_from_to (t.span_of (expr_view x)) (t.span_of (expr_view y)) ≡ span_from_to (first_expr (map expr_view xs)) (last_expr no_span (map expr_view xs))
+terms_joined xs x y first last = ap₂ span_from_to (first_expr_is xs x first) (last_expr_is no_span xs y last)
 
 pub last_suffix_is : (s : Span) (xs : List Suffix) (x : Suffix) → Some x ≡ slice_get xs (length xs - 1) → t.suffix_span (suffix_view x) ≡ last_suffix s (map suffix_view xs)
 last_suffix_is s [] x e = cc

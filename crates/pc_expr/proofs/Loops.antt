@@ -6,10 +6,10 @@ use Rattle.pc_expr.specs.declared.stop.ParseStop.TheVariants as stop
 use Rattle.pc_expr.specs.Gives.{Stops}
 use Rattle.pc_expr.specs.Onto.{onto}
 use Rattle.pc_expr.proofs.Parts.{stops_first}
-use Rattle.pc_grammar.specs.Reading.{Fault, Outcome, Parser, and_then, pure, many, many_step, all}
+use Rattle.pc_grammar.specs.Reading.{ReadingFault, ReadingOutcome, Parser, and_then, pure, many, many_step, all}
 
 -- What has been read is xs, and together with what is still read it makes the whole.
-pub record Loop {A : Type 0} (next : List Token → Option (List Token)) (p : Parser A) (whole : Outcome (List A)) (rest : List Token) (xs : List A) : Type 0 where
+pub record Loop {A : Type 0} (next : List Token → Option (List Token)) (p : Parser A) (whole : ReadingOutcome (List A)) (rest : List Token) (xs : List A) : Type 0 where
   pub turns : ℕ
   pub enough : length rest ≤ turns
   pub reads : whole ≡ and_then (many next p turns rest) (λ more. pure (xs ++ more))
@@ -23,11 +23,11 @@ module _ {A : Type 0} (next : List Token → Option (List Token)) (p : Parser A)
   unfolding many
   one_turn n rest some = let e : n ≡ suc (n - 1) = omega arith in ap (λ m. many next p m rest) e
 
-  regroup : (xs : List A) (x : A) (o : Outcome (List A)) → and_then (and_then o (λ ys. pure (x ∷ ys))) (λ more. pure (xs ++ more)) ≡ and_then o (λ more. pure ((xs ++ x ∷ []) ++ more))
+  regroup : (xs : List A) (x : A) (o : ReadingOutcome (List A)) → and_then (and_then o (λ ys. pure (x ∷ ys))) (λ more. pure (xs ++ more)) ≡ and_then o (λ more. pure ((xs ++ x ∷ []) ++ more))
   regroup xs x (Ok r) = ap (λ l. Ok (l, r.1)) (sym (append_assoc xs (x ∷ []) r.0))
   regroup xs x (Err e) = refl
 
-  module _ (whole : Outcome (List A)) where
+  module _ (whole : ReadingOutcome (List A)) where
     pub loop_goes_on : (xs : List A) (rest begin after : List Token) (x : A) → Loop next p whole rest xs → next rest ≡ Some begin → p begin ≡ Ok (x, after) → length after < length rest
         → Loop next p whole after (xs ++ x ∷ [])
     loop_goes_on xs rest begin after x l goes read less =
@@ -43,7 +43,7 @@ module _ {A : Type 0} (next : List Token → Option (List Token)) (p : Parser A)
         let n = l.turns in
         l.reads ∙ ap (λ o. and_then o (λ more. pure (xs ++ more))) (one_turn n rest (omega (arith, l.enough)) ∙ ap (many_step p (many next p (n - 1)) rest) ends) ∙ ap (λ ys. Ok (ys, rest)) (append-nil xs)
 
-    pub loop_fails : (xs : List A) (rest begin : List Token) (e : Fault × List Token) → Loop next p whole rest xs → next rest ≡ Some begin → p begin ≡ Err e → 0 < length rest → whole ≡ Err e
+    pub loop_fails : (xs : List A) (rest begin : List Token) (e : ReadingFault × List Token) → Loop next p whole rest xs → next rest ≡ Some begin → p begin ≡ Err e → 0 < length rest → whole ≡ Err e
     loop_fails xs rest begin e l goes read some =
         let n = l.turns in
         l.reads ∙ ap (λ o. and_then o (λ more. pure (xs ++ more))) (one_turn n rest (omega (arith, l.enough)) ∙ ap (many_step p (many next p (n - 1)) rest) goes ∙ ap (λ o. and_then o (λ y. λ ts. and_then (many next p (n - 1) ts) (λ ys. pure (y ∷ ys)))) read)
@@ -54,20 +54,20 @@ module _ {A : Type 0} (next : List Token → Option (List Token)) (p : Parser A)
     stops_here xs tokens rest begin stop.Memory l goes s some = tt
 
 -- The next one begins at rest: it is the first, or one after those that have been read.
-abbrev pub Turn : {A : Type 0} → (List Token → Option (List Token)) → Parser A → Outcome (List A) → List Token → List A → Type 0
+abbrev pub Turn : {A : Type 0} → (List Token → Option (List Token)) → Parser A → ReadingOutcome (List A) → List Token → List A → Type 0
 Turn next p whole rest xs =
     ((xs ≡ []) × (whole ≡ and_then (p rest) (λ x. onto next p (x ∷ []))))
     ⊎ ((ts : List Token) × Loop next p whole ts xs × (next ts ≡ Some rest) × (0 < length ts) × (length rest ≤ length ts))
 
-module _ {A : Type 0} (next : List Token → Option (List Token)) (p : Parser A) (whole : Outcome (List A)) where
+module _ {A : Type 0} (next : List Token → Option (List Token)) (p : Parser A) (whole : ReadingOutcome (List A)) where
   pub turn_reads : (xs : List A) (rest after : List Token) (x : A) → Turn next p whole rest xs → p rest ≡ Ok (x, after) → length after < length rest → Loop next p whole after (xs ++ x ∷ [])
   turn_reads xs rest after x (inl h) read less =
       let is : whole ≡ onto next p (x ∷ []) after = h.1 ∙ ap (λ o. and_then o (λ y. onto next p (y ∷ []))) read in
       let P : List A → Type 0 = λ ys. Loop next p whole after (ys ++ x ∷ []) in
-      let Q : Outcome (List A) → Type 0 = λ w. Loop next p w after (x ∷ []) in
+      let Q : ReadingOutcome (List A) → Type 0 = λ w. Loop next p w after (x ∷ []) in
       subst P (sym h.0) (subst Q (sym is) (loop_starts next p (x ∷ []) after))
   turn_reads xs rest after x (inr h) read less = loop_goes_on next p whole xs h.0 rest after x h.1 h.2 read (omega (arith, less, h.4))
 
   pub turn_stops : (xs : List A) (tokens rest : List Token) (e : ParseStop) → Turn next p whole rest xs → Stops tokens e (p rest) → Stops tokens e whole
-  turn_stops xs tokens rest e (inl h) s = let P : Outcome (List A) → Type 0 = λ w. Stops tokens e w in subst P (sym h.1) (stops_first tokens e (p rest) (λ x. onto next p (x ∷ [])) s)
+  turn_stops xs tokens rest e (inl h) s = let P : ReadingOutcome (List A) → Type 0 = λ w. Stops tokens e w in subst P (sym h.1) (stops_first tokens e (p rest) (λ x. onto next p (x ∷ [])) s)
   turn_stops xs tokens rest e (inr h) s = stops_here next p whole xs tokens h.0 rest e h.1 h.2 s h.3

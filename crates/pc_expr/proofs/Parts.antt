@@ -9,29 +9,32 @@ use Rattle.pc_token.specs.declared.kinds.Token.{Token}
 use Rattle.pc_token.specs.declared.words.Word.TheVariants as w
 use Rattle.pc_token.specs.declared.signs.Sign.TheVariants as s
 use Rattle.pc_token.specs.Asking.{is_sign, is_word}
-use Rattle.pc_grammar.specs.Spells.{join}
+use Rattle.pc_grammar.specs.Spells.{span_from_to}
 use Rattle.pc_grammar.specs.Asking.{op_of}
-use Rattle.pc_grammar.specs.Reading.{Outcome, Parser, Inner, and_then, pure, ◌>>=◌, ◌>>◌, peek, deeper, take_if, all, next_item, after, at, is_op, begins_suffix, item, expr_in, seq_of, seq_in, seq_with, arm, other, if_, term, infix_of, infix_by, infix_in, infix_with, atom, suffix, postfix, chain_of, arg_list, assigns, becomes, expr_by, expr_with, too_deep, inner, maybe_cap, while_, recover_}
+use Rattle.pc_grammar.specs.Reading.{ReadingOutcome, Parser, Inner, and_then, pure, ◌>>=◌, ◌>>◌, peek, deeper, take_if, all, next_item, after, at}
+use Rattle.pc_grammar.specs.Reading.{is_op, begins_suffix, item, expr_in, seq_of, seq_in, seq_with, arm, other, if_, term, infix_of, infix_by, infix_in}
+use Rattle.pc_grammar.specs.Reading.{infix_with, atom, suffix, postfix, chain_of, arg_list, assigns, becomes, expr_by, expr_with, too_deep, inner, maybe_cap}
+use Rattle.pc_grammar.specs.Reading.{while_, recover_}
 use Rattle.pc_grammar.proofs.Levels.{no_deeper, one_deeper, inner_seq}
 use Rattle.pc_caps.specs.declared.span.Span.{Span}
 use Rattle.pc_token.specs.declared.words.Word.{Word}
 use Rattle.pc_expr.specs.Onto.{onto, seq_parts, more_items, some_args, arg_list_by, arg_list_parts, chain_terms, chain_by, infix_parts, postfix_parts, arms, first_arm, if_parts}
-use Rattle.pc_expr.specs.Gives.{Stops, Gives}
+use Rattle.pc_expr.specs.Gives.{Stops, GivesReading}
 use Rattle.pc_expr.specs.declared.stop.ParseStop.{ParseStop}
 use Rattle.pc_expr.specs.declared.stop.ParseStop.TheVariants as stop
 
 -- the same is read if the same is read first, and then the same after whatever that is
-pub same_behind : {A B : Type 0} (o : Outcome A) (f g : A → Parser B) → ((x : A) (rest : List Token) → f x rest ≡ g x rest) → and_then o f ≡ and_then o g
+pub same_behind : {A B : Type 0} (o : ReadingOutcome A) (f g : A → Parser B) → ((x : A) (rest : List Token) → f x rest ≡ g x rest) → and_then o f ≡ and_then o g
 same_behind (Ok r) f g same = same r.0 r.1
 same_behind (Err e) f g same = refl
 
 -- what stops first stops the whole
-pub stops_first : {A B : Type 0} (tokens : List Token) (e : ParseStop) (o : Outcome A) (f : A → Parser B) → Stops tokens e o → Stops tokens e (and_then o f)
+pub stops_first : {A B : Type 0} (tokens : List Token) (e : ParseStop) (o : ReadingOutcome A) (f : A → Parser B) → Stops tokens e o → Stops tokens e (and_then o f)
 stops_first tokens (stop.Unexpected n) o f s = (ap (λ r. and_then r f) s.0, s.1)
 stops_first tokens (stop.TooDeep n) o f s = (ap (λ r. and_then r f) s.0, s.1)
 stops_first tokens stop.Memory o f s = tt
 
-pub grouped : {A B C : Type 0} (o : Outcome A) (f : A → Parser B) (g : B → Parser C) → and_then o (λ x rest. and_then (f x rest) g) ≡ and_then (and_then o f) g
+pub grouped : {A B C : Type 0} (o : ReadingOutcome A) (f : A → Parser B) (g : B → Parser C) → and_then o (λ x rest. and_then (f x rest) g) ≡ and_then (and_then o f) g
 grouped (Ok r) f g = refl
 grouped (Err e) f g = refl
 
@@ -40,7 +43,7 @@ unfolding deeper
 same_deeper zero p q ts same = refl
 same_deeper (suc n) p q ts same = same
 
-made_after : {A B : Type 0} (xs : List A) (f : List A → Parser B) (o : Outcome (List A)) → and_then o (λ more. f (xs ++ more)) ≡ and_then (and_then o (λ more. pure (xs ++ more))) f
+made_after : {A B : Type 0} (xs : List A) (f : List A → Parser B) (o : ReadingOutcome (List A)) → and_then o (λ more. f (xs ++ more)) ≡ and_then (and_then o (λ more. pure (xs ++ more))) f
 made_after xs f (Ok r) = refl
 made_after xs f (Err e) = refl
 
@@ -88,7 +91,7 @@ unfolding postfix postfix_parts
 postfix_by_parts n i ts = same_behind (atom n i.seq ts) _ _ (λ e rest. onto_first (at begins_suffix) (suffix n i.expr) [] (λ ss. pure (chain_of e ss)) rest)
 
 behind_arms : Parser t.Seq → List t.Arm → Parser t.Expr
-behind_arms body as' = other body >>= λ o. take_if (is_word w.EndWord) >>= λ close. pure (t.if_ (t.arms_of as') o (join (first_arm as') close.span))
+behind_arms body as' = other body >>= λ o. take_if (is_word w.EndWord) >>= λ close. pure (t.if_ (t.arms_of as') o (span_from_to (first_arm as') close.span))
 
 arms_first : (body : Parser t.Seq) (ts : List Token)
     → (arm w.IfWord body >>= λ a. all (at (is_word w.ElseifWord)) (arm w.ElseifWord body) >>= λ more. behind_arms body (a ∷ more)) ts ≡ (arms body >>= behind_arms body) ts
@@ -101,7 +104,7 @@ pub if_by_parts : (n : ℕ) (body : Parser t.Seq) (ts : List Token) → if_ n bo
 unfolding if_ if_parts behind_arms
 if_by_parts n body ts = same_deeper n _ _ ts (arms_first body ts)
 
-taken_first : {B : Type 0} (o : Outcome Token) (b : t.Seq) (f : t.Seq → Span → Parser B) → and_then o (λ close. f b close.span) ≡ and_then {A = t.Seq × Span} (and_then o (λ close. pure (b, close.span))) (λ p. f p.0 p.1)
+taken_first : {B : Type 0} (o : ReadingOutcome Token) (b : t.Seq) (f : t.Seq → Span → Parser B) → and_then o (λ close. f b close.span) ≡ and_then {A = t.Seq × Span} (and_then o (λ close. pure (b, close.span))) (λ p. f p.0 p.1)
 taken_first (Ok r) b f = refl
 taken_first (Err e) b f = refl
 
@@ -109,49 +112,51 @@ taken_first (Err e) b f = refl
 abbrev closed_by : Parser t.Seq → Word → Parser (t.Seq × Span)
 closed_by body word = body >>= λ b. take_if (is_word word) >>= λ close. pure (b, close.span)
 
-closed_first : {B : Type 0} (o : Outcome t.Seq) (word : Word) (f : t.Seq → Span → Parser B)
+closed_first : {B : Type 0} (o : ReadingOutcome t.Seq) (word : Word) (f : t.Seq → Span → Parser B)
     → and_then o (λ b. take_if (is_word word) >>= λ close. f b close.span) ≡ and_then {A = t.Seq × Span} (and_then o (λ b. take_if (is_word word) >>= λ close. pure (b, close.span))) (λ p. f p.0 p.1)
 closed_first (Ok r) word f = taken_first (take_if (is_word word) r.1) r.0 f
 closed_first (Err e) word f = refl
 
 pub arm_reads : (word : Word) (body : Parser t.Seq) (ts : List Token)
-    → arm word body ts ≡ and_then (take_if (is_word word) ts) (λ opener rest. and_then (closed_by body w.ThenWord rest) (λ c. body >>= λ b. pure (t.arm_of c.0 b (join opener.span (t.seq_span b)))))
+    → arm word body ts ≡ and_then (take_if (is_word word) ts) (λ opener rest. and_then (closed_by body w.ThenWord rest) (λ c. body >>= λ b. pure (t.arm_of c.0 b (span_from_to opener.span (t.seq_span b)))))
 unfolding arm
 arm_reads word body ts = same_behind (take_if (is_word word) ts) _ _ (λ opener rest.
-    same_behind (body rest) _ _ (λ c more. sym (grouped (take_if (is_word w.ThenWord) more) (λ _. body) (λ b. pure (t.arm_of c b (join opener.span (t.seq_span b))))))
-    ∙ closed_first (body rest) w.ThenWord (λ c _. body >>= λ b. pure (t.arm_of c b (join opener.span (t.seq_span b)))))
+    same_behind (body rest) _ _ (λ c more. sym (grouped (take_if (is_word w.ThenWord) more) (λ _. body) (λ b. pure (t.arm_of c b (span_from_to opener.span (t.seq_span b))))))
+    ∙ closed_first (body rest) w.ThenWord (λ c _. body >>= λ b. pure (t.arm_of c b (span_from_to opener.span (t.seq_span b)))))
 
 pub seq_spans : (b : Seq) → t.seq_span (seq_view b) ≡ b.span
 seq_spans b = search (rules, the_lemmas)
 
 -- an arm made of parts that are read
 pub arm_made : (word : Word) (body : Parser t.Seq) (ts us vs rest : List Token) (x : Token) (c : t.Seq × Span) (b : t.Seq)
-    → take_if (is_word word) ts ≡ Ok (x, us) → closed_by body w.ThenWord us ≡ Ok (c, vs) → body vs ≡ Ok (b, rest) → arm word body ts ≡ Ok (t.arm_of c.0 b (join x.span (t.seq_span b)), rest)
+    → take_if (is_word word) ts ≡ Ok (x, us) → closed_by body w.ThenWord us ≡ Ok (c, vs) → body vs ≡ Ok (b, rest) → arm word body ts ≡ Ok (t.arm_of c.0 b (span_from_to x.span (t.seq_span b)), rest)
 arm_made word body ts us vs rest x c b opened closed read =
     arm_reads word body ts
-    ∙ ap (λ o. and_then o (λ opener more. and_then (closed_by body w.ThenWord more) (λ d. body >>= λ e. pure (t.arm_of d.0 e (join opener.span (t.seq_span e)))))) opened
-    ∙ ap (λ o. and_then o (λ d. body >>= λ e. pure (t.arm_of d.0 e (join x.span (t.seq_span e))))) closed
-    ∙ ap (λ o. and_then o (λ e. pure (t.arm_of c.0 e (join x.span (t.seq_span e))))) read
+    ∙ ap (λ o. and_then o (λ opener more. and_then (closed_by body w.ThenWord more) (λ d. body >>= λ e. pure (t.arm_of d.0 e (span_from_to opener.span (t.seq_span e)))))) opened
+    ∙ ap (λ o. and_then o (λ d. body >>= λ e. pure (t.arm_of d.0 e (span_from_to x.span (t.seq_span e))))) closed
+    ∙ ap (λ o. and_then o (λ e. pure (t.arm_of c.0 e (span_from_to x.span (t.seq_span e))))) read
 
 while_first : (body : Parser t.Seq) (opener : Token) (rest : List Token)
-    → and_then (body rest) (λ c. take_if (is_word w.DoWord) >> body >>= λ b. take_if (is_word w.EndWord) >>= λ close. pure (t.while_ c b (join opener.span close.span)))
-    ≡ and_then (closed_by body w.DoWord rest) (λ c. closed_by body w.EndWord >>= λ p. pure (t.while_ c.0 p.0 (join opener.span p.1)))
+    → and_then (body rest) (λ c. take_if (is_word w.DoWord) >> body >>= λ b. take_if (is_word w.EndWord) >>= λ close. pure (t.while_ c b (span_from_to opener.span close.span)))
+    ≡ and_then (closed_by body w.DoWord rest) (λ c. closed_by body w.EndWord >>= λ p. pure (t.while_ c.0 p.0 (span_from_to opener.span p.1)))
 while_first body opener rest =
-    same_behind (body rest) _ _ (λ c more. sym (grouped (take_if (is_word w.DoWord) more) (λ _. body) (λ b. take_if (is_word w.EndWord) >>= λ close. pure (t.while_ c b (join opener.span close.span)))))
-    ∙ closed_first (body rest) w.DoWord (λ c _. body >>= λ b. take_if (is_word w.EndWord) >>= λ close. pure (t.while_ c b (join opener.span close.span)))
-    ∙ same_behind (closed_by body w.DoWord rest) _ _ (λ c more. closed_first (body more) w.EndWord (λ b sp. pure (t.while_ c.0 b (join opener.span sp))))
+    same_behind (body rest) _ _ (λ c more. sym (grouped (take_if (is_word w.DoWord) more) (λ _. body) (λ b. take_if (is_word w.EndWord) >>= λ close. pure (t.while_ c b (span_from_to opener.span close.span)))))
+    ∙ closed_first (body rest) w.DoWord
+        (λ c _. body >>= λ b. take_if (is_word w.EndWord) >>= λ close. pure (t.while_ c b (span_from_to opener.span close.span)))
+    ∙ same_behind (closed_by body w.DoWord rest) _ _
+        (λ c more. closed_first (body more) w.EndWord (λ b sp. pure (t.while_ c.0 b (span_from_to opener.span sp))))
 
 pub while_deep : (n : ℕ) (body : Parser t.Seq) (ts : List Token) → n ≡ 0 → while_ n body ts ≡ Err (too_deep, ts)
 unfolding while_
 while_deep n body ts none = no_deeper n _ ts none
 
 pub while_reads : (n : ℕ) (ts : List Token) → 0 < n
-    → while_ n (inner n).seq ts ≡ and_then (take_if (is_word w.WhileWord) ts) (λ opener rest. and_then (closed_by (seq_in (n - 1) (inner (n - 1))) w.DoWord rest) (λ c. closed_by (seq_in (n - 1) (inner (n - 1))) w.EndWord >>= λ p. pure (t.while_ c.0 p.0 (join opener.span p.1))))
+    → while_ n (inner n).seq ts ≡ and_then (take_if (is_word w.WhileWord) ts) (λ opener rest. and_then (closed_by (seq_in (n - 1) (inner (n - 1))) w.DoWord rest) (λ c. closed_by (seq_in (n - 1) (inner (n - 1))) w.EndWord >>= λ p. pure (t.while_ c.0 p.0 (span_from_to opener.span p.1))))
 unfolding while_
 while_reads n ts some =
     let body = seq_in (n - 1) (inner (n - 1)) in
     ap (λ b. while_ n b ts) (inner_seq n some)
-    ∙ one_deeper n (take_if (is_word w.WhileWord) >>= λ opener. body >>= λ c. take_if (is_word w.DoWord) >> body >>= λ b. take_if (is_word w.EndWord) >>= λ close. pure (t.while_ c b (join opener.span close.span))) ts some
+    ∙ one_deeper n (take_if (is_word w.WhileWord) >>= λ opener. body >>= λ c. take_if (is_word w.DoWord) >> body >>= λ b. take_if (is_word w.EndWord) >>= λ close. pure (t.while_ c b (span_from_to opener.span close.span))) ts some
     ∙ same_behind (take_if (is_word w.WhileWord) ts) _ _ (λ opener rest. while_first body opener rest)
 
 pub recover_deep : (n : ℕ) (body : Parser t.Seq) (ts : List Token) → n ≡ 0 → recover_ n body ts ≡ Err (too_deep, ts)
@@ -159,24 +164,25 @@ unfolding recover_
 recover_deep n body ts none = no_deeper n _ ts none
 
 pub recover_reads : (n : ℕ) (ts : List Token) → 0 < n
-    → recover_ n (inner n).seq ts ≡ and_then (take_if (is_word w.RecoverWord) ts) (λ opener rest. and_then (maybe_cap rest) (λ k. closed_by (seq_in (n - 1) (inner (n - 1))) w.EndWord >>= λ p. pure (t.recover k p.0 (join opener.span p.1))))
+    → recover_ n (inner n).seq ts ≡ and_then (take_if (is_word w.RecoverWord) ts) (λ opener rest. and_then (maybe_cap rest) (λ k. closed_by (seq_in (n - 1) (inner (n - 1))) w.EndWord >>= λ p. pure (t.recover k p.0 (span_from_to opener.span p.1))))
 unfolding recover_
 recover_reads n ts some =
     let body = seq_in (n - 1) (inner (n - 1)) in
     ap (λ b. recover_ n b ts) (inner_seq n some)
-    ∙ one_deeper n (take_if (is_word w.RecoverWord) >>= λ opener. maybe_cap >>= λ k. body >>= λ b. take_if (is_word w.EndWord) >>= λ close. pure (t.recover k b (join opener.span close.span))) ts some
-    ∙ same_behind (take_if (is_word w.RecoverWord) ts) _ _ (λ opener rest. same_behind (maybe_cap rest) _ _ (λ k more. closed_first (body more) w.EndWord (λ b sp. pure (t.recover k b (join opener.span sp)))))
+    ∙ one_deeper n (take_if (is_word w.RecoverWord) >>= λ opener. maybe_cap >>= λ k. body >>= λ b. take_if (is_word w.EndWord) >>= λ close. pure (t.recover k b (span_from_to opener.span close.span))) ts some
+    ∙ same_behind (take_if (is_word w.RecoverWord) ts) _ _ (λ opener rest. same_behind (maybe_cap rest) _ _ (λ k more. closed_first (body more) w.EndWord (λ b sp. pure (t.recover k b (span_from_to opener.span sp)))))
 
 -- what is assigned is read, and then the assignment is made of it
 becomes_by_parts : (n : ℕ) (inner : Parser t.Expr) (e : t.Expr) (ts : List Token)
-    → becomes n inner e ts ≡ and_then (deeper n (take_if (is_sign s.Assign) >> inner) ts) (λ r. pure (t.assign e r (join (t.span_of e) (t.span_of r))))
+    → becomes n inner e ts
+        ≡ and_then (deeper n (take_if (is_sign s.Assign) >> inner) ts) (λ r. pure (t.assign e r (span_from_to (t.span_of e) (t.span_of r))))
 unfolding becomes deeper
 becomes_by_parts zero inner e ts = refl
 becomes_by_parts (suc n) inner e ts = refl
 
 -- if a place is read and an "=" follows
 pub reads_becomes : (n : ℕ) (i : Inner) (e : t.Expr) (x : Token) (ts rest more : List Token) → infix_in n i ts ≡ Ok (e, rest) → rest ≡ x ∷ more → assigns x e ≡ true
-    → expr_in n i ts ≡ and_then (deeper n (λ us. and_then (take_if (is_sign s.Assign) us) (λ _. i.expr)) rest) (λ r. pure (t.assign e r (join (t.span_of e) (t.span_of r))))
+    → expr_in n i ts ≡ and_then (deeper n (λ us. and_then (take_if (is_sign s.Assign) us) (λ _. i.expr)) rest) (λ r. pure (t.assign e r (span_from_to (t.span_of e) (t.span_of r))))
 unfolding expr_in expr_with peek
 reads_becomes n i e x ts rest more read here follows =
     let by = λ (b : Bool). (if b then becomes n i.expr e else pure e) in
@@ -187,8 +193,8 @@ reads_becomes n i e x ts rest more read here follows =
     ∙ becomes_by_parts n i.expr e rest
 
 -- what is made of a list, given the list
-pub gives_made : {X Y Z : Type 0} (view : X → Y) (make : Y → Z) (tokens : List Token) (r : Result (X × ℕ) ParseStop) (read : Outcome Y)
-    → Gives view tokens r read → Gives (λ x. make (view x)) tokens r (and_then read (λ y. pure (make y)))
+pub gives_made : {X Y Z : Type 0} (view : X → Y) (make : Y → Z) (tokens : List Token) (r : Result (X × ℕ) ParseStop) (read : ReadingOutcome Y)
+    → GivesReading view tokens r read → GivesReading (λ x. make (view x)) tokens r (and_then read (λ y. pure (make y)))
 gives_made view make tokens (Ok r) read gives = ap (λ o. and_then o (λ y. pure (make y))) gives
 gives_made view make tokens (Err (stop.Unexpected p)) read gives = (ap (λ o. and_then o (λ y. pure (make y))) gives.0, gives.1)
 gives_made view make tokens (Err (stop.TooDeep p)) read gives = (ap (λ o. and_then o (λ y. pure (make y))) gives.0, gives.1)

@@ -1,14 +1,14 @@
 -- From reading to the promises of the public calls.
 use Rattle.std.proofs.Common.{◌≡◌, ℕ, zero, suc, ◌<◌, List, [], ◌∷◌, drop, length, Err, sym, ap, ◌∙◌, subst, arith}
 use Rattle.pc_token.specs.declared.kinds.Token.{Token}
-use Rattle.pc_grammar.specs.Reading.{Outcome, Parser, unexpected}
+use Rattle.pc_grammar.specs.Reading.{ReadingOutcome, Parser, unexpected}
 use Rattle.pc_grammar.specs.Begins.{IsRefused}
 use Rattle.pc_grammar.specs.Laws.{RefusesRight, DeepRight}
 use Rattle.pc_expr.specs.declared.stop.ParseStop.{ParseStop}
 use Rattle.pc_expr.specs.declared.stop.ParseStop.TheVariants as stop
 use Rattle.pc_expr.specs.declared.fault.ParseFault.{ParseFault}
-use Rattle.pc_expr.specs.Gives.{EndsWithEnd, At, Stops}
-use Rattle.pc_expr.specs.Answers.{Refuses, StopsAtToken, Names}
+use Rattle.pc_expr.specs.Gives.{EndsWithEnd, StandsAtToken, Stops}
+use Rattle.pc_expr.specs.Answers.{RefusesTree, StopsAtToken, NamesByte}
 
 ends_from : (tokens : List Token) (at : ℕ) → EndsWithEnd tokens → at < length tokens → EndsWithEnd (drop at tokens)
 ends_from tokens zero ends within = ends
@@ -16,27 +16,27 @@ ends_from [] (suc at) ends within = absurd ends
 ends_from (x ∷ []) (suc at) ends within = absurd (omega (arith, within))
 ends_from (x ∷ y ∷ ts) (suc at) ends within = ends_from (y ∷ ts) at ends (omega (arith, within))
 
-pub is_at : (tokens : List Token) (at : ℕ) → EndsWithEnd tokens → at < length tokens → At tokens at
+pub is_at : (tokens : List Token) (at : ℕ) → EndsWithEnd tokens → at < length tokens → StandsAtToken tokens at
 is_at tokens at ends within = record { within = within; ends = ends_from tokens at ends within }
 
-pub stands : {Y : Type 0} (tokens : List Token) (e : ParseStop) (read : Outcome Y) → Stops tokens e read → StopsAtToken tokens e
+pub stands : {Y : Type 0} (tokens : List Token) (e : ParseStop) (read : ReadingOutcome Y) → Stops tokens e read → StopsAtToken tokens e
 stands tokens (stop.Unexpected k) read s = s.1
 stands tokens (stop.TooDeep k) read s = s.1
 stands tokens stop.Memory read s = tt
 
 module _ {A : Type 0} (spells : A → List Token → Type 0) (depth : A → ℕ) (reading : ℕ → Parser A) (refuses : RefusesRight spells depth reading) (deep : DeepRight spells depth reading) where
-  pub refused : (n : ℕ) (tokens : List Token) (at : ℕ) (e : ParseStop) (f : ParseFault) → Stops tokens e (reading n (drop at tokens)) → Names tokens e f → Refuses spells depth n tokens at f
+  pub refused : (n : ℕ) (tokens : List Token) (at : ℕ) (e : ParseStop) (f : ParseFault) → Stops tokens e (reading n (drop at tokens)) → NamesByte tokens e f → RefusesTree spells depth n tokens at f
   refused n tokens at (stop.Unexpected k) f s named =
       let here = named.2 in
       let read : reading n (drop at tokens) ≡ Err (unexpected, here.0 ∷ here.1) = s.0 ∙ ap (λ l. Err (unexpected, l)) here.2 in
       let is = refuses n (drop at tokens) here.0 here.1 read in
       let P : List Token → Type 0 = λ l. IsRefused spells depth n (drop at tokens) l in
-      let Q : ParseFault → Type 0 = λ v. Refuses spells depth n tokens at v in
+      let Q : ParseFault → Type 0 = λ v. RefusesTree spells depth n tokens at v in
       subst Q (sym named.1) (k, (here.0, here.1, here.2, here.3), subst P (sym here.2) is)
   refused n tokens at (stop.TooDeep k) f s named =
       let here = named.2 in
-      let Q : ParseFault → Type 0 = λ v. Refuses spells depth n tokens at v in
+      let Q : ParseFault → Type 0 = λ v. RefusesTree spells depth n tokens at v in
       subst Q (sym named.1) (k, (here.0, here.1, here.2, here.3), deep n (drop at tokens) (drop k tokens) s.0)
   refused n tokens at stop.Memory f s named =
-      let Q : ParseFault → Type 0 = λ v. Refuses spells depth n tokens at v in
+      let Q : ParseFault → Type 0 = λ v. RefusesTree spells depth n tokens at v in
       subst Q (sym named) tt

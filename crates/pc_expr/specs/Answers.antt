@@ -25,19 +25,19 @@ module _ {A : Type 0} (spells : A → List Token → Type 0) (depth : A → ℕ)
 
   -- Why there is no tree from `at` on, by the first byte of the token with which nothing begins any more, or with which
   -- only deeper trees begin. Or memory ran out.
-  abbrev pub Refuses : List Token → ℕ → ParseFault → Type 0
-  Refuses tokens at (fault.Unexpected p) = (k : ℕ) × Places tokens k p × IsRefused spells depth n (drop at tokens) (drop k tokens)
-  Refuses tokens at (fault.TooDeep p) = (k : ℕ) × Places tokens k p × IsTooDeep spells depth n (drop at tokens) (drop k tokens)
-  Refuses tokens at fault.Memory = Unit {0}
+  abbrev pub RefusesTree : List Token → ℕ → ParseFault → Type 0
+  RefusesTree tokens at (fault.Unexpected p) = (k : ℕ) × Places tokens k p × IsRefused spells depth n (drop at tokens) (drop k tokens)
+  RefusesTree tokens at (fault.TooDeep p) = (k : ℕ) × Places tokens k p × IsTooDeep spells depth n (drop at tokens) (drop k tokens)
+  RefusesTree tokens at fault.Memory = Unit {0}
 
   -- a definite answer: a tree and a place, or a fault other than running out of memory
-  abbrev pub Answers : List Token → ℕ → Result (A × ℕ) ParseFault → Type 0
-  Answers tokens at (Ok r) = ReadsTo tokens at r.0 r.1
-  Answers tokens at (Err f) = (f ≢ fault.Memory) × Refuses tokens at f
+  abbrev pub AnswersTree : List Token → ℕ → Result (A × ℕ) ParseFault → Type 0
+  AnswersTree tokens at (Ok r) = ReadsTo tokens at r.0 r.1
+  AnswersTree tokens at (Err f) = (f ≢ fault.Memory) × RefusesTree tokens at f
 
   -- Whatever answer holds for the tokens is the result, unless memory ran out.
   abbrev pub IsOnly : {X : Type 0} → (X → A) → List Token → ℕ → Result (X × ℕ) ParseFault → Type 0
-  IsOnly view tokens at result = (answer : Result (A × ℕ) ParseFault) → Answers tokens at answer → Is view result answer
+  IsOnly view tokens at result = (answer : Result (A × ℕ) ParseFault) → AnswersTree tokens at answer → Is view result answer
 
 -- a stop is at a token
 abbrev pub StopsAtToken : List Token → ParseStop → Type 0
@@ -46,7 +46,7 @@ StopsAtToken tokens (stop.TooDeep k) = k < length tokens
 StopsAtToken tokens stop.Memory = Unit {0}
 
 -- the fault is that of the stop, given by the byte at which its token begins
-abbrev pub Names : List Token → ParseStop → ParseFault → Type 0
-Names tokens (stop.Unexpected k) f = (p : ℕ) × (f ≡ fault.Unexpected p) × Places tokens k p
-Names tokens (stop.TooDeep k) f = (p : ℕ) × (f ≡ fault.TooDeep p) × Places tokens k p
-Names tokens stop.Memory f = f ≡ fault.Memory
+abbrev pub NamesByte : List Token → ParseStop → ParseFault → Type 0
+NamesByte tokens (stop.Unexpected k) f = (p : ℕ) × (f ≡ fault.Unexpected p) × Places tokens k p
+NamesByte tokens (stop.TooDeep k) f = (p : ℕ) × (f ≡ fault.TooDeep p) × Places tokens k p
+NamesByte tokens stop.Memory f = f ≡ fault.Memory

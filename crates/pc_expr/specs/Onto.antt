@@ -9,7 +9,7 @@ use Rattle.pc_token.specs.declared.words.Word.TheVariants as w
 use Rattle.pc_token.specs.declared.signs.Sign.TheVariants as s
 use Rattle.pc_token.specs.Asking.{is_sign, is_word}
 use Rattle.pc_tree.specs.declared.kinds.Op.{Op}
-use Rattle.pc_grammar.specs.Spells.{join}
+use Rattle.pc_grammar.specs.Spells.{span_from_to}
 use Rattle.pc_grammar.specs.Asking.{op_of}
 use Rattle.pc_grammar.specs.Reading.{Parser, Inner, ◌>>=◌, pure, name, type_name, refuse, leaf, peek, deeper, take_if, all, next_item, after, at, is_op, begins_suffix, item, expr_in, seq_of, arm, other, term, infix_of, atom, suffix, chain_of}
 
@@ -77,7 +77,7 @@ first_arm [] = record { start = 0; end = 0 }
 first_arm (a ∷ more) = t.arm_span a
 
 unfoldable pub if_parts : ℕ → Parser t.Seq → Parser t.Expr
-if_parts n body = deeper n (arms body >>= λ as'. other body >>= λ o. take_if (is_word w.EndWord) >>= λ close. pure (t.if_ (t.arms_of as') o (join (first_arm as') close.span)))
+if_parts n body = deeper n (arms body >>= λ as'. other body >>= λ o. take_if (is_word w.EndWord) >>= λ close. pure (t.if_ (t.arms_of as') o (span_from_to (first_arm as') close.span)))
 
 -- a name, or a type name, as an expression
 unfoldable pub named : Parser t.Expr

@@ -8,7 +8,7 @@
 
 mod asking;
 mod fault;
-mod names;
+mod atoms;
 pub mod parsers;
 mod parsing;
 mod rules;

@@ -5,7 +5,7 @@ ghost use Rattle.pc_tree.specs.Depths as levels;
 ghost use Rattle.pc_grammar.specs.Spells.{Spells, SpellsInfix, SpellsSeq};
 ghost use Rattle.pc_grammar.specs.FileAnswers.{level_limit};
 ghost use Rattle.pc_expr.specs.Gives.{EndsWithEnd};
-ghost use Rattle.pc_expr.specs.Answers.{Places, ReadsTo, Refuses, IsOnly, StopsAtToken, Names};
+ghost use Rattle.pc_expr.specs.Answers.{Places, ReadsTo, RefusesTree, IsOnly, StopsAtToken, NamesByte};
 
 use crate::fault::ParseFault;
 use crate::rules;
@@ -27,7 +27,7 @@ fn begin(tokens: &[Token], at: usize) -> u32
 /// The fault of a stop, with the offset of its token.
 pub fn fault(tokens: &[Token], stop: ParseStop) -> ParseFault
     requires { StopsAtToken tokens.now stop }
-    ensures { Names tokens.now stop result }
+    ensures { NamesByte tokens.now stop result }
 {
     match stop {
         ParseStop::Unexpected(at) => ParseFault::Unexpected(begin(tokens, at)),
@@ -53,7 +53,7 @@ pub fn seq(
     // The tree that the tokens spell up to the place, at which nothing continues it.
     ensures read { IfOk result (λ r. ReadsTo SpellsSeq levels.seq_depth (level_limit - level) tokens.now at (seq_view r.0) r.1) }
     // Why there is none, or memory ran out.
-    ensures refused { IfErr result (Refuses SpellsSeq levels.seq_depth (level_limit - level) tokens.now at) }
+    ensures refused { IfErr result (RefusesTree SpellsSeq levels.seq_depth (level_limit - level) tokens.now at) }
     // Whatever answer holds for the tokens is the result, unless memory ran out.
     ensures exact { IsOnly SpellsSeq levels.seq_depth (level_limit - level) seq_view tokens.now at result }
 {
@@ -76,7 +76,7 @@ pub fn expr(
     // The tree that the tokens spell up to the place, at which nothing continues it.
     ensures read { IfOk result (λ r. ReadsTo Spells levels.depth (level_limit - level) tokens.now at (expr_view r.0) r.1) }
     // Why there is none, or memory ran out.
-    ensures refused { IfErr result (Refuses Spells levels.depth (level_limit - level) tokens.now at) }
+    ensures refused { IfErr result (RefusesTree Spells levels.depth (level_limit - level) tokens.now at) }
     // Whatever answer holds for the tokens is the result, unless memory ran out.
     ensures exact { IsOnly Spells levels.depth (level_limit - level) expr_view tokens.now at result }
 {
@@ -99,7 +99,7 @@ pub fn infix(
     // The tree that the tokens spell up to the place, at which nothing continues it.
     ensures read { IfOk result (λ r. ReadsTo SpellsInfix levels.depth (level_limit - level) tokens.now at (expr_view r.0) r.1) }
     // Why there is none, or memory ran out.
-    ensures refused { IfErr result (Refuses SpellsInfix levels.depth (level_limit - level) tokens.now at) }
+    ensures refused { IfErr result (RefusesTree SpellsInfix levels.depth (level_limit - level) tokens.now at) }
     // Whatever answer holds for the tokens is the result, unless memory ran out.
     ensures exact { IsOnly SpellsInfix levels.depth (level_limit - level) expr_view tokens.now at result }
 {

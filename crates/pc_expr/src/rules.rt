@@ -7,12 +7,12 @@ ghost use Rattle.pc_tree.specs.Tree as t;
 ghost use Rattle.pc_tree.specs.View.{expr_view, item_view, suffix_view, arm_view, seq_view, exprs_view, other_view};
 ghost use Rattle.pc_grammar.specs.Spells as spells;
 ghost use Rattle.pc_grammar.specs.Reading as reading;
-ghost use Rattle.pc_expr.specs.Gives.{At, Moves, Gives};
+ghost use Rattle.pc_expr.specs.Gives.{StandsAtToken, Moves, GivesReading};
 ghost use Rattle.pc_expr.specs.Onto as onto;
 ghost use Rattle.pc_expr.specs.declared.stop.ParseStop.TheVariants.{Memory};
 
 use crate::asking::{assigns, local_word};
-use crate::names::{consume, maybe_cap, maybe_type, name, named, text, type_named};
+use crate::atoms::{consume, maybe_cap, maybe_type, name, named, text, type_named};
 use crate::spans::{chain_span, first_arm, items_span, terms_span};
 use crate::stop::ParseStop;
 use crate::tokens::{
@@ -28,8 +28,8 @@ use std::alloc::Global;
 #[cycle(rules)]
 #[tactic(auto, using(pc_tree::proofs::Views::view_seq, crate::proofs::Parts::seq_by_items), unfolding(pc_grammar::specs::Reading::seq_of))]
 pub fn seq(alloc: Global, tokens: &[Token], at: usize, left: u16) -> Result<(Seq, usize), ParseStop>
-    requires { At tokens.now at }
-    ensures gives { Gives seq_view tokens.now result (reading.seq_in left (reading.inner left) (drop at tokens.now)) }
+    requires { StandsAtToken tokens.now at }
+    ensures gives { GivesReading seq_view tokens.now result (reading.seq_in left (reading.inner left) (drop at tokens.now)) }
     ensures moves { IfOk result (λ r. Moves tokens.now at r.1) }
 {
     let (items, to) = items(alloc, tokens, at, left)?;
@@ -45,8 +45,8 @@ fn items(
     at: usize,
     left: u16,
 ) -> Result<(List<Item>, usize), ParseStop>
-    requires { At tokens.now at }
-    ensures gives { Gives (map item_view) tokens.now result (reading.and_then (reading.item (reading.expr_in left (reading.inner left)) (drop at tokens.now)) (λ x. onto.more_items left (reading.inner left) (x ∷ []))) }
+    requires { StandsAtToken tokens.now at }
+    ensures gives { GivesReading (map item_view) tokens.now result (reading.and_then (reading.item (reading.expr_in left (reading.inner left)) (drop at tokens.now)) (λ x. onto.more_items left (reading.inner left) (x ∷ []))) }
     ensures moves { IfOk result (λ r. Moves tokens.now at r.1) }
 {
     let mut items = List::new(alloc);
@@ -65,8 +65,8 @@ fn items(
 #[cycle(rules)]
 #[tactic(auto, using(pc_tree::proofs::Views::view_plain), unfolding(pc_grammar::specs::Reading::item, pc_grammar::specs::Reading::peek))]
 fn item(alloc: Global, tokens: &[Token], at: usize, left: u16) -> Result<(Item, usize), ParseStop>
-    requires { At tokens.now at }
-    ensures gives { Gives item_view tokens.now result (reading.item (reading.expr_in left (reading.inner left)) (drop at tokens.now)) }
+    requires { StandsAtToken tokens.now at }
+    ensures gives { GivesReading item_view tokens.now result (reading.item (reading.expr_in left (reading.inner left)) (drop at tokens.now)) }
     ensures moves { IfOk result (λ r. Moves tokens.now at r.1) }
 {
     let token = look(tokens, at);
@@ -90,8 +90,8 @@ fn local(
     left: u16,
     fixed: bool,
 ) -> Result<(Item, usize), ParseStop>
-    requires { At tokens.now at }
-    ensures gives { Gives item_view tokens.now result (reading.local fixed (reading.expr_in left (reading.inner left)) (drop at tokens.now)) }
+    requires { StandsAtToken tokens.now at }
+    ensures gives { GivesReading item_view tokens.now result (reading.local fixed (reading.expr_in left (reading.inner left)) (drop at tokens.now)) }
     ensures moves { IfOk result (λ r. Moves tokens.now at r.1) }
 {
     let (opener, begin) = take_word(tokens, at, local_word(fixed))?;
@@ -121,8 +121,8 @@ pub fn expr(
     at: usize,
     left: u16,
 ) -> Result<(Expr, usize), ParseStop>
-    requires { At tokens.now at }
-    ensures gives { Gives expr_view tokens.now result (reading.expr_in left (reading.inner left) (drop at tokens.now)) }
+    requires { StandsAtToken tokens.now at }
+    ensures gives { GivesReading expr_view tokens.now result (reading.expr_in left (reading.inner left) (drop at tokens.now)) }
     ensures moves { IfOk result (λ r. Moves tokens.now at r.1) }
 {
     let (e, to) = infix(alloc, tokens, at, left)?;
@@ -148,8 +148,8 @@ fn becomes(
     at: usize,
     left: u16,
 ) -> Result<(Expr, usize), ParseStop>
-    requires { At tokens.now at }
-    ensures gives { Gives expr_view tokens.now result (reading.deeper left (λ ts. reading.and_then (reading.take_if (asking.is_sign Assign) ts) (λ _. (reading.inner left).expr)) (drop at tokens.now)) }
+    requires { StandsAtToken tokens.now at }
+    ensures gives { GivesReading expr_view tokens.now result (reading.deeper left (λ ts. reading.and_then (reading.take_if (asking.is_sign Assign) ts) (λ _. (reading.inner left).expr)) (drop at tokens.now)) }
     ensures moves { IfOk result (λ r. Moves tokens.now at r.1) }
 {
     if left == 0 {
@@ -161,7 +161,7 @@ fn becomes(
 
 /// The assignment of an expression.
 fn assigned(alloc: Global, place: Expr, right: Expr) -> Result<Expr, ParseStop>
-    ensures ok { IfOk result (λ e. expr_view e ≡ t.assign (expr_view place) (expr_view right) (spells.join (t.span_of (expr_view place)) (t.span_of (expr_view right)))) }
+    ensures ok { IfOk result (λ e. expr_view e ≡ t.assign (expr_view place) (expr_view right) (spells.span_from_to (t.span_of (expr_view place)) (t.span_of (expr_view right)))) }
     ensures err { IfErr result (λ e. e ≡ Memory) }
 {
     let span = join(span_of(&place), span_of(&right));
@@ -198,8 +198,8 @@ pub fn infix(
     at: usize,
     left: u16,
 ) -> Result<(Expr, usize), ParseStop>
-    requires { At tokens.now at }
-    ensures gives { Gives expr_view tokens.now result (reading.infix_in left (reading.inner left) (drop at tokens.now)) }
+    requires { StandsAtToken tokens.now at }
+    ensures gives { GivesReading expr_view tokens.now result (reading.infix_in left (reading.inner left) (drop at tokens.now)) }
     ensures moves { IfOk result (λ r. Moves tokens.now at r.1) }
 {
     let (first, to) = term(alloc, tokens, at, left)?;
@@ -220,9 +220,9 @@ fn operators(
     first: Expr,
     op: Op,
 ) -> Result<(Expr, usize), ParseStop>
-    requires { At tokens.now at }
-    ensures gives { Gives expr_view tokens.now result (onto.chain_terms left (reading.inner left) op (expr_view first) (drop at tokens.now)) }
-    ensures moves { IfOk result (λ r. (at ≤ r.1) × At tokens.now r.1) }
+    requires { StandsAtToken tokens.now at }
+    ensures gives { GivesReading expr_view tokens.now result (onto.chain_terms left (reading.inner left) op (expr_view first) (drop at tokens.now)) }
+    ensures moves { IfOk result (λ r. (at ≤ r.1) × StandsAtToken tokens.now r.1) }
 {
     let mut terms = List::new(alloc);
     terms.push(first)?;
@@ -241,9 +241,9 @@ fn more_terms(
     op: Op,
     so_far: List<Expr>,
 ) -> Result<(List<Expr>, usize), ParseStop>
-    requires { At tokens.now at }
-    ensures gives { Gives (map expr_view) tokens.now result (onto.more_terms left (reading.inner left) op (map expr_view so_far) (drop at tokens.now)) }
-    ensures moves { IfOk result (λ r. (at ≤ r.1) × At tokens.now r.1) }
+    requires { StandsAtToken tokens.now at }
+    ensures gives { GivesReading (map expr_view) tokens.now result (onto.more_terms left (reading.inner left) op (map expr_view so_far) (drop at tokens.now)) }
+    ensures moves { IfOk result (λ r. (at ≤ r.1) × StandsAtToken tokens.now r.1) }
 {
     let mut terms = so_far;
     let mut to = at;
@@ -259,8 +259,8 @@ fn more_terms(
 #[cycle(rules)]
 #[tactic(auto, unfolding(pc_grammar::specs::Reading::term, pc_grammar::specs::Reading::peek))]
 fn term(alloc: Global, tokens: &[Token], at: usize, left: u16) -> Result<(Expr, usize), ParseStop>
-    requires { At tokens.now at }
-    ensures gives { Gives expr_view tokens.now result (reading.term left (reading.inner left) (drop at tokens.now)) }
+    requires { StandsAtToken tokens.now at }
+    ensures gives { GivesReading expr_view tokens.now result (reading.term left (reading.inner left) (drop at tokens.now)) }
     ensures moves { IfOk result (λ r. Moves tokens.now at r.1) }
 {
     let token = look(tokens, at);
@@ -282,8 +282,8 @@ fn negation(
     at: usize,
     left: u16,
 ) -> Result<(Expr, usize), ParseStop>
-    requires { At tokens.now at }
-    ensures gives { Gives expr_view tokens.now result (reading.negation left (reading.inner left).term (drop at tokens.now)) }
+    requires { StandsAtToken tokens.now at }
+    ensures gives { GivesReading expr_view tokens.now result (reading.negation left (reading.inner left).term (drop at tokens.now)) }
     ensures moves { IfOk result (λ r. Moves tokens.now at r.1) }
 {
     if left == 0 {
@@ -305,8 +305,8 @@ fn postfix(
     at: usize,
     left: u16,
 ) -> Result<(Expr, usize), ParseStop>
-    requires { At tokens.now at }
-    ensures gives { Gives expr_view tokens.now result (reading.postfix left (reading.inner left) (drop at tokens.now)) }
+    requires { StandsAtToken tokens.now at }
+    ensures gives { GivesReading expr_view tokens.now result (reading.postfix left (reading.inner left) (drop at tokens.now)) }
     ensures moves { IfOk result (λ r. Moves tokens.now at r.1) }
 {
     let (head, to) = atom(alloc, tokens, at, left)?;
@@ -346,9 +346,10 @@ fn more_suffixes(
     left: u16,
     so_far: List<Suffix>,
 ) -> Result<(List<Suffix>, usize), ParseStop>
-    requires { At tokens.now at }
-    ensures gives { Gives (map suffix_view) tokens.now result (onto.more_suffixes left (reading.inner left) (map suffix_view so_far) (drop at tokens.now)) }
-    ensures moves { IfOk result (λ r. (at ≤ r.1) × At tokens.now r.1) }
+    requires { StandsAtToken tokens.now at }
+    ensures gives { GivesReading (map suffix_view) tokens.now result
+        (onto.more_suffixes left (reading.inner left) (map suffix_view so_far) (drop at tokens.now)) }
+    ensures moves { IfOk result (λ r. (at ≤ r.1) × StandsAtToken tokens.now r.1) }
 {
     let mut suffixes = so_far;
     let mut to = at;
@@ -369,8 +370,8 @@ fn suffix(
     at: usize,
     left: u16,
 ) -> Result<(Suffix, usize), ParseStop>
-    requires { At tokens.now at }
-    ensures gives { Gives suffix_view tokens.now result (reading.suffix left (reading.inner left).expr (drop at tokens.now)) }
+    requires { StandsAtToken tokens.now at }
+    ensures gives { GivesReading suffix_view tokens.now result (reading.suffix left (reading.inner left).expr (drop at tokens.now)) }
     ensures moves { IfOk result (λ r. Moves tokens.now at r.1) }
 {
     if !is_sign(look(tokens, at), Sign::Dot) {
@@ -389,8 +390,8 @@ fn arguments(
     at: usize,
     left: u16,
 ) -> Result<(Suffix, usize), ParseStop>
-    requires { At tokens.now at }
-    ensures gives { Gives suffix_view tokens.now result (reading.args left (reading.inner left).expr (drop at tokens.now)) }
+    requires { StandsAtToken tokens.now at }
+    ensures gives { GivesReading suffix_view tokens.now result (reading.args left (reading.inner left).expr (drop at tokens.now)) }
     ensures moves { IfOk result (λ r. Moves tokens.now at r.1) }
 {
     if left == 0 {
@@ -412,9 +413,9 @@ fn arg_list(
     at: usize,
     left: u16,
 ) -> Result<(List<Expr>, usize), ParseStop>
-    requires { At tokens.now at }
-    ensures gives { Gives exprs_view tokens.now result (reading.arg_list (reading.expr_in left (reading.inner left)) (drop at tokens.now)) }
-    ensures moves { IfOk result (λ r. (at ≤ r.1) × At tokens.now r.1) }
+    requires { StandsAtToken tokens.now at }
+    ensures gives { GivesReading exprs_view tokens.now result (reading.arg_list (reading.expr_in left (reading.inner left)) (drop at tokens.now)) }
+    ensures moves { IfOk result (λ r. (at ≤ r.1) × StandsAtToken tokens.now r.1) }
 {
     if is_sign(look(tokens, at), Sign::CloseParen) {
         return Ok((List::new(alloc), at));
@@ -430,8 +431,8 @@ fn some_args(
     at: usize,
     left: u16,
 ) -> Result<(List<Expr>, usize), ParseStop>
-    requires { At tokens.now at }
-    ensures gives { Gives (map expr_view) tokens.now result (onto.some_args (reading.expr_in left (reading.inner left)) (drop at tokens.now)) }
+    requires { StandsAtToken tokens.now at }
+    ensures gives { GivesReading (map expr_view) tokens.now result (onto.some_args (reading.expr_in left (reading.inner left)) (drop at tokens.now)) }
     ensures moves { IfOk result (λ r. Moves tokens.now at r.1) }
 {
     let mut args = List::new(alloc);
@@ -450,8 +451,8 @@ fn some_args(
 #[cycle(rules)]
 #[tactic(auto, using(pc_tree::proofs::Views::view_number, pc_tree::proofs::Views::view_truth, pc_tree::proofs::Views::view_this), unfolding(pc_grammar::specs::Reading::atom, pc_grammar::specs::Reading::peek, pc_grammar::specs::Reading::take_if, crate::specs::Onto::named, crate::specs::Onto::type_named, crate::specs::Onto::text_at))]
 fn atom(alloc: Global, tokens: &[Token], at: usize, left: u16) -> Result<(Expr, usize), ParseStop>
-    requires { At tokens.now at }
-    ensures gives { Gives expr_view tokens.now result (reading.atom left (reading.inner left).seq (drop at tokens.now)) }
+    requires { StandsAtToken tokens.now at }
+    ensures gives { GivesReading expr_view tokens.now result (reading.atom left (reading.inner left).seq (drop at tokens.now)) }
     ensures moves { IfOk result (λ r. Moves tokens.now at r.1) }
 {
     let token = look(tokens, at);
@@ -484,8 +485,8 @@ fn atom(alloc: Global, tokens: &[Token], at: usize, left: u16) -> Result<(Expr, 
 #[cycle(rules)]
 #[tactic(auto, using(pc_tree::proofs::Views::view_group, pc_grammar::proofs::Levels::no_deeper, pc_grammar::proofs::Levels::one_deeper, pc_grammar::proofs::Levels::inner_seq), unfolding(pc_grammar::specs::Reading::group))]
 fn group(alloc: Global, tokens: &[Token], at: usize, left: u16) -> Result<(Expr, usize), ParseStop>
-    requires { At tokens.now at }
-    ensures gives { Gives expr_view tokens.now result (reading.group left (reading.inner left).seq (drop at tokens.now)) }
+    requires { StandsAtToken tokens.now at }
+    ensures gives { GivesReading expr_view tokens.now result (reading.group left (reading.inner left).seq (drop at tokens.now)) }
     ensures moves { IfOk result (λ r. Moves tokens.now at r.1) }
 {
     if left == 0 {
@@ -503,8 +504,8 @@ fn group(alloc: Global, tokens: &[Token], at: usize, left: u16) -> Result<(Expr,
 #[cycle(rules)]
 #[tactic(auto, using(pc_tree::proofs::Views::view_if, crate::proofs::Parts::if_by_parts, pc_grammar::proofs::Levels::no_deeper, pc_grammar::proofs::Levels::one_deeper, pc_grammar::proofs::Levels::inner_seq), unfolding(crate::specs::Onto::if_parts))]
 fn choice(alloc: Global, tokens: &[Token], at: usize, left: u16) -> Result<(Expr, usize), ParseStop>
-    requires { At tokens.now at }
-    ensures gives { Gives expr_view tokens.now result (reading.if_ left (reading.inner left).seq (drop at tokens.now)) }
+    requires { StandsAtToken tokens.now at }
+    ensures gives { GivesReading expr_view tokens.now result (reading.if_ left (reading.inner left).seq (drop at tokens.now)) }
     ensures moves { IfOk result (λ r. Moves tokens.now at r.1) }
 {
     if left == 0 {
@@ -526,8 +527,8 @@ fn arms(
     at: usize,
     left: u16,
 ) -> Result<(List<Arm>, usize), ParseStop>
-    requires { At tokens.now at }
-    ensures gives { Gives (map arm_view) tokens.now result (onto.arms (reading.seq_in left (reading.inner left)) (drop at tokens.now)) }
+    requires { StandsAtToken tokens.now at }
+    ensures gives { GivesReading (map arm_view) tokens.now result (onto.arms (reading.seq_in left (reading.inner left)) (drop at tokens.now)) }
     ensures moves { IfOk result (λ r. Moves tokens.now at r.1) }
 {
     let (first, to) = arm(alloc, tokens, at, left, Word::IfWord)?;
@@ -545,9 +546,9 @@ fn more_arms(
     left: u16,
     so_far: List<Arm>,
 ) -> Result<(List<Arm>, usize), ParseStop>
-    requires { At tokens.now at }
-    ensures gives { Gives (map arm_view) tokens.now result (onto.more_arms (reading.seq_in left (reading.inner left)) (map arm_view so_far) (drop at tokens.now)) }
-    ensures moves { IfOk result (λ r. (at ≤ r.1) × At tokens.now r.1) }
+    requires { StandsAtToken tokens.now at }
+    ensures gives { GivesReading (map arm_view) tokens.now result (onto.more_arms (reading.seq_in left (reading.inner left)) (map arm_view so_far) (drop at tokens.now)) }
+    ensures moves { IfOk result (λ r. (at ≤ r.1) × StandsAtToken tokens.now r.1) }
 {
     let mut arms = so_far;
     let mut to = at;
@@ -569,8 +570,8 @@ fn arm(
     left: u16,
     word: Word,
 ) -> Result<(Arm, usize), ParseStop>
-    requires { At tokens.now at }
-    ensures gives { Gives arm_view tokens.now result (reading.arm word (reading.seq_in left (reading.inner left)) (drop at tokens.now)) }
+    requires { StandsAtToken tokens.now at }
+    ensures gives { GivesReading arm_view tokens.now result (reading.arm word (reading.seq_in left (reading.inner left)) (drop at tokens.now)) }
     ensures moves { IfOk result (λ r. Moves tokens.now at r.1) }
 {
     let (opener, begin) = take_word(tokens, at, word)?;
@@ -597,8 +598,8 @@ fn closed(
     left: u16,
     word: Word,
 ) -> Result<((Seq, Span), usize), ParseStop>
-    requires { At tokens.now at }
-    ensures gives { Gives {Y = t.Seq × Place} (λ p. (seq_view p.0, p.1)) tokens.now result (reading.and_then (reading.seq_in left (reading.inner left) (drop at tokens.now)) (λ body ts. reading.and_then (reading.take_if (asking.is_word word) ts) (λ close. reading.pure (body, close.span)))) }
+    requires { StandsAtToken tokens.now at }
+    ensures gives { GivesReading {Y = t.Seq × Place} (λ p. (seq_view p.0, p.1)) tokens.now result (reading.and_then (reading.seq_in left (reading.inner left) (drop at tokens.now)) (λ body ts. reading.and_then (reading.take_if (asking.is_word word) ts) (λ close. reading.pure (body, close.span)))) }
     ensures moves { IfOk result (λ r. Moves tokens.now at r.1) }
 {
     let (body, end) = seq(alloc, tokens, at, left)?;
@@ -620,9 +621,9 @@ fn otherwise(
     at: usize,
     left: u16,
 ) -> Result<(Option<Box<Seq>>, usize), ParseStop>
-    requires { At tokens.now at }
-    ensures gives { Gives other_view tokens.now result (reading.other (reading.seq_in left (reading.inner left)) (drop at tokens.now)) }
-    ensures moves { IfOk result (λ r. (at ≤ r.1) × At tokens.now r.1) }
+    requires { StandsAtToken tokens.now at }
+    ensures gives { GivesReading other_view tokens.now result (reading.other (reading.seq_in left (reading.inner left)) (drop at tokens.now)) }
+    ensures moves { IfOk result (λ r. (at ≤ r.1) × StandsAtToken tokens.now r.1) }
 {
     if !is_word(look(tokens, at), Word::ElseWord) {
         return Ok((None, at));
@@ -640,8 +641,8 @@ fn repetition(
     at: usize,
     left: u16,
 ) -> Result<(Expr, usize), ParseStop>
-    requires { At tokens.now at }
-    ensures gives { Gives expr_view tokens.now result (reading.while_ left (reading.inner left).seq (drop at tokens.now)) }
+    requires { StandsAtToken tokens.now at }
+    ensures gives { GivesReading expr_view tokens.now result (reading.while_ left (reading.inner left).seq (drop at tokens.now)) }
     ensures moves { IfOk result (λ r. Moves tokens.now at r.1) }
 {
     if left == 0 {
@@ -681,8 +682,8 @@ fn recovery(
     at: usize,
     left: u16,
 ) -> Result<(Expr, usize), ParseStop>
-    requires { At tokens.now at }
-    ensures gives { Gives expr_view tokens.now result (reading.recover_ left (reading.inner left).seq (drop at tokens.now)) }
+    requires { StandsAtToken tokens.now at }
+    ensures gives { GivesReading expr_view tokens.now result (reading.recover_ left (reading.inner left).seq (drop at tokens.now)) }
     ensures moves { IfOk result (λ r. Moves tokens.now at r.1) }
 {
     if left == 0 {

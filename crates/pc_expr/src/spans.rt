@@ -32,7 +32,7 @@ fn suffix_span(suffix: &Suffix) -> Span
 /// From the first item to the last.
 #[tactic(auto, using(crate::proofs::Lasts::items_joined))]
 pub fn items_span(items: &[Item]) -> Span
-    ensures { result ≡ spells.join (reading.first_item (map item_view items.now)) (reading.last_item spells.no_span (map item_view items.now)) }
+    ensures { result ≡ spells.span_from_to (reading.first_item (map item_view items.now)) (reading.last_item spells.no_span (map item_view items.now)) }
 {
     match (items.first(), items.last()) {
         (Some(first), Some(last)) => join(item_span(first), item_span(last)),
@@ -43,7 +43,7 @@ pub fn items_span(items: &[Item]) -> Span
 /// From the first term to the last.
 #[tactic(auto, using(crate::proofs::Lasts::terms_joined))]
 pub fn terms_span(terms: &[Expr]) -> Span
-    ensures { result ≡ spells.join (reading.first_expr (map expr_view terms.now)) (reading.last_expr spells.no_span (map expr_view terms.now)) }
+    ensures { result ≡ spells.span_from_to (reading.first_expr (map expr_view terms.now)) (reading.last_expr spells.no_span (map expr_view terms.now)) }
 {
     match (terms.first(), terms.last()) {
         (Some(first), Some(last)) => join(span_of(first), span_of(last)),
@@ -54,7 +54,8 @@ pub fn terms_span(terms: &[Expr]) -> Span
 /// From an atom to its last suffix.
 #[tactic(auto, using(crate::proofs::Lasts::last_suffix_is))]
 pub fn chain_span(head: &Expr, suffixes: &[Suffix]) -> Span
-    ensures { result ≡ spells.join (t.span_of (expr_view head.now)) (reading.last_suffix (t.span_of (expr_view head.now)) (map suffix_view suffixes.now)) }
+    ensures { result ≡ spells.span_from_to (t.span_of (expr_view head.now))
+        (reading.last_suffix (t.span_of (expr_view head.now)) (map suffix_view suffixes.now)) }
 {
     let head = span_of(head);
     match suffixes.last() {

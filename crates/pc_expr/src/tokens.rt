@@ -6,7 +6,7 @@ ghost use Rattle.pc_token.specs.declared.words.Word.TheVariants.{ElseifWord};
 ghost use Rattle.pc_token.specs.Asking as asking;
 ghost use Rattle.pc_grammar.specs.Asking as grammar;
 ghost use Rattle.pc_grammar.specs.Reading as reading;
-ghost use Rattle.pc_expr.specs.Gives.{At, Moves, Gives};
+ghost use Rattle.pc_expr.specs.Gives.{StandsAtToken, Moves, GivesReading};
 
 use crate::stop::ParseStop;
 use pc_grammar::{begins_item, op_of};
@@ -15,9 +15,9 @@ use pc_tree::Op;
 
 /// The token at a place.
 pub fn look(tokens: &[Token], at: usize) -> &Token
-    requires { At tokens.now at }
+    requires { StandsAtToken tokens.now at }
     ensures here { drop at tokens.now ≡ result.now ∷ drop (at + 1) tokens.now }
-    ensures more { result.now.kind ≢ End → At tokens.now (at + 1) }
+    ensures more { result.now.kind ≢ End → StandsAtToken tokens.now (at + 1) }
 {
     &tokens[at]
 }
@@ -25,8 +25,8 @@ pub fn look(tokens: &[Token], at: usize) -> &Token
 /// The sign and the place after it, if it is there.
 #[tactic(auto, using(crate::proofs::Ends::is_sign_not_end), unfolding(pc_grammar::specs::Reading::take_if))]
 pub fn take_sign(tokens: &[Token], at: usize, sign: Sign) -> Result<(&Token, usize), ParseStop>
-    requires { At tokens.now at }
-    ensures gives { Gives (λ t. t.now) tokens.now result (reading.take_if (asking.is_sign sign) (drop at tokens.now)) }
+    requires { StandsAtToken tokens.now at }
+    ensures gives { GivesReading (λ t. t.now) tokens.now result (reading.take_if (asking.is_sign sign) (drop at tokens.now)) }
     ensures moves { IfOk result (λ r. Moves tokens.now at r.1) }
 {
     let token = look(tokens, at);
@@ -40,8 +40,8 @@ pub fn take_sign(tokens: &[Token], at: usize, sign: Sign) -> Result<(&Token, usi
 /// The word and the place after it, if it is there.
 #[tactic(auto, using(crate::proofs::Ends::is_word_not_end), unfolding(pc_grammar::specs::Reading::take_if))]
 pub fn take_word(tokens: &[Token], at: usize, word: Word) -> Result<(&Token, usize), ParseStop>
-    requires { At tokens.now at }
-    ensures gives { Gives (λ t. t.now) tokens.now result (reading.take_if (asking.is_word word) (drop at tokens.now)) }
+    requires { StandsAtToken tokens.now at }
+    ensures gives { GivesReading (λ t. t.now) tokens.now result (reading.take_if (asking.is_word word) (drop at tokens.now)) }
     ensures moves { IfOk result (λ r. Moves tokens.now at r.1) }
 {
     let token = look(tokens, at);
@@ -55,9 +55,9 @@ pub fn take_word(tokens: &[Token], at: usize, word: Word) -> Result<(&Token, usi
 /// Where the next item begins, if one follows.
 #[tactic(auto, using(crate::proofs::Ends::is_sign_not_end), unfolding(pc_grammar::specs::Reading::next_item))]
 pub fn next_item(tokens: &[Token], at: usize) -> Option<usize>
-    requires { At tokens.now at }
+    requires { StandsAtToken tokens.now at }
     ensures value { option_map (λ p. drop p tokens.now) result ≡ reading.next_item (drop at tokens.now) }
-    ensures there { IfSome result (λ p. (at ≤ p) × At tokens.now p) }
+    ensures there { IfSome result (λ p. (at ≤ p) × StandsAtToken tokens.now p) }
 {
     let token = look(tokens, at);
     if is_sign(token, Sign::Semicolon) {
@@ -72,9 +72,9 @@ pub fn next_item(tokens: &[Token], at: usize) -> Option<usize>
 /// The place after the comma, if there is one.
 #[tactic(auto, using(crate::proofs::Ends::is_sign_not_end), unfolding(pc_grammar::specs::Reading::after))]
 pub fn after_comma(tokens: &[Token], at: usize) -> Option<usize>
-    requires { At tokens.now at }
+    requires { StandsAtToken tokens.now at }
     ensures value { option_map (λ p. drop p tokens.now) result ≡ reading.after (asking.is_sign Comma) (drop at tokens.now) }
-    ensures there { IfSome result (λ p. (at ≤ p) × At tokens.now p) }
+    ensures there { IfSome result (λ p. (at ≤ p) × StandsAtToken tokens.now p) }
 {
     if is_sign(look(tokens, at), Sign::Comma) {
         Some(at + 1)
@@ -103,9 +103,9 @@ fn is_op(token: &Token, op: Op) -> bool
 /// The place after the operator, if it is there.
 #[tactic(auto, using(crate::proofs::Ends::is_op_not_end), unfolding(pc_grammar::specs::Reading::after))]
 pub fn after_op(tokens: &[Token], at: usize, op: Op) -> Option<usize>
-    requires { At tokens.now at }
+    requires { StandsAtToken tokens.now at }
     ensures value { option_map (λ p. drop p tokens.now) result ≡ reading.after (reading.is_op op) (drop at tokens.now) }
-    ensures there { IfSome result (λ p. (at ≤ p) × At tokens.now p) }
+    ensures there { IfSome result (λ p. (at ≤ p) × StandsAtToken tokens.now p) }
 {
     if is_op(look(tokens, at), op) {
         Some(at + 1)
@@ -124,9 +124,9 @@ fn begins_suffix(token: &Token) -> bool
 /// This place, if a suffix begins here.
 #[tactic(auto, unfolding(pc_grammar::specs::Reading::at))]
 pub fn at_suffix(tokens: &[Token], at: usize) -> Option<usize>
-    requires { At tokens.now at }
+    requires { StandsAtToken tokens.now at }
     ensures value { option_map (λ p. drop p tokens.now) result ≡ reading.at reading.begins_suffix (drop at tokens.now) }
-    ensures there { IfSome result (λ p. (at ≤ p) × At tokens.now p) }
+    ensures there { IfSome result (λ p. (at ≤ p) × StandsAtToken tokens.now p) }
 {
     if begins_suffix(look(tokens, at)) {
         Some(at)
@@ -138,9 +138,9 @@ pub fn at_suffix(tokens: &[Token], at: usize) -> Option<usize>
 /// This place, if there is an `elseif` here.
 #[tactic(auto, unfolding(pc_grammar::specs::Reading::at))]
 pub fn at_elseif(tokens: &[Token], at: usize) -> Option<usize>
-    requires { At tokens.now at }
+    requires { StandsAtToken tokens.now at }
     ensures value { option_map (λ p. drop p tokens.now) result ≡ reading.at (asking.is_word ElseifWord) (drop at tokens.now) }
-    ensures there { IfSome result (λ p. (at ≤ p) × At tokens.now p) }
+    ensures there { IfSome result (λ p. (at ≤ p) × StandsAtToken tokens.now p) }
 {
     if is_word(look(tokens, at), Word::ElseifWord) {
         Some(at)

@@ -9,7 +9,7 @@ use Rattle.pc_deriv.specs.declared.version.Version.{Version}
 use Rattle.pc_deriv.specs.declared.line.Line.{Line}
 use Rattle.pc_deriv.specs.declared.line.Line.TheVariants as line
 use Rattle.pc_deriv.specs.Names.{version_number}
-use Rattle.pc_deriv.specs.Lines.{slot_of, lines_of}
+use Rattle.pc_deriv.specs.Lines.{line_of_slot, lines_of}
 
 same_head : (x y : Line) (xs ys : List Line) → ◌≡◌ {A = List Line} (x ∷ xs) (y ∷ ys) → x ≡ y
 same_head x y xs ys e = cc
@@ -36,12 +36,12 @@ nodes_cut (s ∷ all) (t ∷ notes) more e =
 
 -- ---- slots
 
-same_slot : (a b : ℕ × Cap) → slot_of a ≡ slot_of b → a ≡ b
+same_slot : (a b : ℕ × Cap) → line_of_slot a ≡ line_of_slot b → a ≡ b
 same_slot (a, k) (b, j) e = let p : a ≡ b = cc in let q : k ≡ j = cc in ap (λ x. (x, k)) p ∙ ap (λ x. (b, x)) q
 
 -- If there are fewer slots than in the core, more follow.
-slots_cut : (all slots : Slots) (notes : List Note) (more : List Line) → map slot_of all ++ map line.Node notes ≡ map slot_of slots ++ more → length slots ≤ length all
-    → (rest : Slots) × (all ≡ slots ++ rest) × (map slot_of rest ++ map line.Node notes ≡ more)
+slots_cut : (all slots : Slots) (notes : List Note) (more : List Line) → map line_of_slot all ++ map line.Node notes ≡ map line_of_slot slots ++ more → length slots ≤ length all
+    → (rest : Slots) × (all ≡ slots ++ rest) × (map line_of_slot rest ++ map line.Node notes ≡ more)
 slots_cut all [] notes more e l = (all, refl, e)
 slots_cut [] (y ∷ slots) notes more e l = absurd (let size : length (y ∷ slots) ≡ suc (length slots) = refl in omega (arith, l, size))
 slots_cut (x ∷ all) (y ∷ slots) notes more e l =
@@ -52,7 +52,7 @@ slots_cut (x ∷ all) (y ∷ slots) notes more e l =
 
 -- ---- whole annotations
 
-pub head_of : (v : Version) (ann : Ann) (n a b : ℕ) (ls : List Line) → lines_of v ann ≡ line.Head n a b ∷ ls → (length ann.slots ≡ a) × (length ann.notes ≡ b) × (map slot_of ann.slots ++ map line.Node ann.notes ≡ ls)
+pub head_of : (v : Version) (ann : Ann) (n a b : ℕ) (ls : List Line) → lines_of v ann ≡ line.Head n a b ∷ ls → (length ann.slots ≡ a) × (length ann.notes ≡ b) × (map line_of_slot ann.slots ++ map line.Node ann.notes ≡ ls)
 head_of v ann n a b ls e =
     let h : line.Head (version_number v) (length ann.slots) (length ann.notes) ≡ line.Head n a b = same_head _ _ _ _ e in
     let p : length ann.slots ≡ a = cc in
@@ -65,17 +65,18 @@ no_rest [] (y ∷ ys) e = absurd (let size : length (y ∷ ys) ≡ suc (length y
 no_rest (x ∷ xs) rest e = let k : length (xs ++ rest) ≡ length xs = omega (arith, e) in no_rest xs rest k
 
 -- It begins with these slots.
-pub slots_begin : (ann : Ann) (slots : Slots) (more : List Line) → map slot_of ann.slots ++ map line.Node ann.notes ≡ map slot_of slots ++ more → length slots ≤ length ann.slots
+pub slots_begin : (ann : Ann) (slots : Slots) (more : List Line) → map line_of_slot ann.slots ++ map line.Node ann.notes ≡ map line_of_slot slots ++ more → length slots ≤ length ann.slots
     → (rest : Slots) × (ann.slots ≡ slots ++ rest)
 slots_begin ann slots more e l = let k = slots_cut ann.slots slots ann.notes more e l in (k.0, k.1)
 
 -- It has these slots, and begins with these nodes.
-pub notes_begin : (ann : Ann) (slots : Slots) (notes : List Note) (more : List Line) → map slot_of ann.slots ++ map line.Node ann.notes ≡ map slot_of slots ++ (map line.Node notes ++ more) → length slots ≡ length ann.slots
+pub notes_begin : (ann : Ann) (slots : Slots) (notes : List Note) (more : List Line) → map line_of_slot ann.slots ++ map line.Node ann.notes ≡ map line_of_slot slots ++ (map line.Node notes ++ more) → length slots ≡ length ann.slots
     → (rest : List Note) × (ann.slots ≡ slots) × (ann.notes ≡ notes ++ rest)
 notes_begin ann slots notes more e l =
     let k = slots_cut ann.slots slots ann.notes (map line.Node notes ++ more) e (omega (arith, l)) in
     let size : length (slots ++ k.0) ≡ length slots = ap (λ (xs : Slots). length xs) (sym k.1) ∙ sym l in
     let none = no_rest slots k.0 size in
-    let nodes : map line.Node ann.notes ≡ map line.Node notes ++ more = ap (λ (r : Slots). map slot_of r ++ map line.Node ann.notes) (sym none) ∙ k.2 in
+    let nodes : map line.Node ann.notes ≡ map line.Node notes ++ more =
+        ap (λ (r : Slots). map line_of_slot r ++ map line.Node ann.notes) (sym none) ∙ k.2 in
     let n = nodes_cut ann.notes notes more nodes in
     (n.0, k.1 ∙ ap (λ r. slots ++ r) none ∙ append-nil slots, n.1)

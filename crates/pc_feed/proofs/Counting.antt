@@ -11,11 +11,12 @@ use Rattle.pc_deriv.specs.declared.line.Line.{Line}
 use Rattle.pc_deriv.specs.declared.line.Line.TheVariants as line
 use Rattle.pc_deriv.specs.declared.line.LineFault.{LineFault}
 use Rattle.pc_deriv.specs.declared.line.LineFault.TheVariants as fault
-use Rattle.pc_deriv.specs.Limits.{slot_limit, node_limit}
-use Rattle.pc_deriv.specs.Reading.{head_at, slot_at, note_at}
-use Rattle.pc_deriv.specs.Lines.{Taken, nothing_taken, longest_line, slot_in, node_in, line_in, within_limits, checked, said, counts_with, behind, answered, kept, took_at, took, one_more, fed, slot_of}
+use Rattle.pc_deriv.specs.Limits.{derivation_slot_limit, derivation_node_limit}
+use Rattle.pc_deriv.specs.Reading.{head_at, read_slot, note_at}
+use Rattle.pc_deriv.specs.Lines.{Taken, nothing_taken, longest_line, slot_line_in, node_in, line_in, within_limits, checked, line_meaning, counts_with, behind}
+use Rattle.pc_deriv.specs.Lines.{answered, with_line_byte, took_at, took, with_first_line, fed, line_of_slot}
 use Rattle.pc_feed.specs.Lines.{lines_in}
-use Rattle.pc_feed.specs.Steps.{LineFits, Counted, Comes}
+use Rattle.pc_feed.specs.Steps.{LineFits, Counted, MayFollow}
 
 -- ---- one line
 
@@ -24,8 +25,8 @@ mapped f None y e = absurd (none_some e)
 mapped f (Some x) y e = (x, same_Some (f x) y e)
 
 module _ (v : Version) (c : ℕ × ℕ) (n : ℕ) (bytes : List ℕ) (l : Line) where
-  slot_fits : n ≤ c.0 → slot_in bytes ≡ Some l → LineFits (Some c) n l
-  slot_fits h e = let m = mapped _ (slot_at bytes) l e in subst (LineFits (Some c) n) m.1 h
+  slot_fits : n ≤ c.0 → slot_line_in bytes ≡ Some l → LineFits (Some c) n l
+  slot_fits h e = let m = mapped _ (read_slot bytes) l e in subst (LineFits (Some c) n) m.1 h
 
   node_fits : c.0 < n → n ≤ c.0 + c.1 → node_in v bytes ≡ Some l → LineFits (Some c) n l
   node_fits h k e = let m = mapped _ (note_at v bytes) l e in subst (LineFits (Some c) n) m.1 (h, k)
@@ -34,7 +35,7 @@ module _ (v : Version) (c : ℕ × ℕ) (n : ℕ) (bytes : List ℕ) (l : Line) 
   second_by true p h e = let k : n ≤ c.0 + c.1 = grind (arith, nat_tests) in node_fits h k e
   second_by false p h e = absurd (none_some e)
 
-  first_by : (b : Bool) → nat_le n c.0 ≡ b → cond b (slot_in bytes) (cond (nat_le n (c.0 + c.1)) (node_in v bytes) None) ≡ Some l → LineFits (Some c) n l
+  first_by : (b : Bool) → nat_le n c.0 ≡ b → cond b (slot_line_in bytes) (cond (nat_le n (c.0 + c.1)) (node_in v bytes) None) ≡ Some l → LineFits (Some c) n l
   first_by true p e = let h : n ≤ c.0 = grind (arith, nat_tests) in slot_fits h e
   first_by false p e = let h : c.0 < n = grind (arith, nat_tests) in second_by (nat_le n (c.0 + c.1)) refl h e
 
@@ -47,7 +48,7 @@ same_line v a b true l e = cc
 same_line v a b false l e = cc
 
 limits_keep : (k l : Line) → within_limits k ≡ Ok l → k ≡ l
-limits_keep (line.Head v a b) l e = same_line v a b (nat_le a slot_limit && nat_le b node_limit) l e
+limits_keep (line.Head v a b) l e = same_line v a b (nat_le a derivation_slot_limit && nat_le b derivation_node_limit) l e
 limits_keep (line.Slot e k) l q = cc
 limits_keep (line.Node t) l q = cc
 
@@ -70,20 +71,20 @@ closed_goes : (t : Taken) (r : Result Line LineFault) → ((l : Line) → r ≡ 
 closed_goes t (Ok l) h = (h l refl, refl, refl)
 closed_goes t (Err f) h = (refl, refl)
 
-kept_goes : (t : Taken) (b : ℕ) (long : Bool) → Goes t (kept t b long).0 (kept t b long).1
+kept_goes : (t : Taken) (b : ℕ) (long : Bool) → Goes t (with_line_byte t b long).0 (with_line_byte t b long).1
 kept_goes t b true = (refl, refl)
 kept_goes t b false = (refl, refl)
 
 module _ (t : Taken) (b : ℕ) where
   abbrev line_said : Result Line LineFault
-  line_said = said t.version t.counts t.ended (t.pending ++ b ∷ [])
+  line_said = line_meaning t.version t.counts t.ended (t.pending ++ b ∷ [])
 
   said_fits : (l : Line) → line_said ≡ Ok l → LineFits t.counts t.ended l
   said_fits l e =
       checked_fits t.counts t.ended (line_in t.version t.counts t.ended (t.pending ++ b ∷ [])) l (λ k h. line_fits t.version t.counts t.ended (t.pending ++ b ∷ []) k h) e
 
   abbrev step_of : Bool → Answer × Taken
-  step_of ends = cond ends (answered line_said, behind t line_said) (kept t b (length t.pending + 1 == longest_line))
+  step_of ends = cond ends (answered line_said, behind t line_said) (with_line_byte t b (length t.pending + 1 == longest_line))
 
   went_goes : (ends : Bool) → Goes t (step_of ends).0 (step_of ends).1
   went_goes true = closed_goes t line_said said_fits
@@ -101,7 +102,7 @@ module _ (t : Taken) (b : ℕ) where
 counted_from : (c d e : Option (ℕ × ℕ)) (n m k : ℕ) (ls : List Line) → c ≡ d → n ≡ m → Counted c n ls e k → Counted d m ls e k
 counted_from c d e n m k ls p q h = subst (λ x. Counted x m ls e k) p (subst (λ x. Counted c x ls e k) q h)
 
-more_counted : (t : Taken) (a : Answer) (u : Taken) (ls : List Line) (d : Option (ℕ × ℕ)) (m : ℕ) → Goes t a u → Counted u.counts u.ended ls d m → Counted t.counts t.ended (one_more a ls) d m
+more_counted : (t : Taken) (a : Answer) (u : Taken) (ls : List Line) (d : Option (ℕ × ℕ)) (m : ℕ) → Goes t a u → Counted u.counts u.ended ls d m → Counted t.counts t.ended (with_first_line a ls) d m
 more_counted t (Ok (Some l)) u ls d m h k = (h.0, counted_from u.counts (counts_with t.counts l) d u.ended (t.ended + 1) m ls h.1 h.2 k)
 more_counted t (Ok None) u ls d m h k = counted_from u.counts t.counts d u.ended t.ended m ls h.0 h.1 k
 more_counted t (Err f) u ls d m h k = counted_from u.counts t.counts d u.ended t.ended m ls h.0 h.1 k
@@ -122,7 +123,7 @@ last_comes c d n m (x ∷ ls) l h =
     let more = last_comes (counts_with c x) d (n + 1) m ls l h.1 in
     (more.0, more.1, (h.0, more.2), more.3)
 
-pub comes : (bytes : List ℕ) (ls : List Line) (l : Line) → lines_in bytes ≡ ls ++ l ∷ [] → Comes ls l
+pub comes : (bytes : List ℕ) (ls : List Line) (l : Line) → lines_in bytes ≡ ls ++ l ∷ [] → MayFollow ls l
 comes bytes ls l e =
     let all = fed_counted nothing_taken bytes in
     let u = (fed nothing_taken bytes).1 in
@@ -139,7 +140,7 @@ counted_nodes c d n m (t ∷ notes) h =
     let size : length (t ∷ notes) ≡ suc (length notes) = refl in
     (k.0, omega (arith, e, size))
 
-pub counted_slots : (c d : Option (ℕ × ℕ)) (n m : ℕ) (slots : Slots) (notes : List Note) → Counted c n (map slot_of slots ++ map line.Node notes) d m → (c ≡ d) × (n + length slots + length notes ≡ m)
+pub counted_slots : (c d : Option (ℕ × ℕ)) (n m : ℕ) (slots : Slots) (notes : List Note) → Counted c n (map line_of_slot slots ++ map line.Node notes) d m → (c ≡ d) × (n + length slots + length notes ≡ m)
 counted_slots c d n m [] notes h =
     let k = counted_nodes c d n m notes h in
     let e = k.1 in
@@ -154,7 +155,8 @@ counted_slots c d n m ((e, k) ∷ slots) notes h =
 
 -- after the first line, the counts are its own, and the number is one more than that of slots and nodes
 pub counted_behind : (v a b : ℕ) (d : Option (ℕ × ℕ)) (m : ℕ) (slots : Slots) (notes : List Note)
-    → Counted None 0 (line.Head v a b ∷ (map slot_of slots ++ map line.Node notes)) d m → (Some (a, b) ≡ d) × (1 + length slots + length notes ≡ m)
+    → Counted None 0 (line.Head v a b ∷ (map line_of_slot slots ++ map line.Node notes)) d m
+        → (Some (a, b) ≡ d) × (1 + length slots + length notes ≡ m)
 counted_behind v a b d m slots notes h =
     let k = counted_slots (Some (a, b)) d (0 + 1) m slots notes h.1 in
     let e = k.1 in

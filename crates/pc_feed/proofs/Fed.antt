@@ -15,8 +15,8 @@ use Rattle.pc_feed.specs.declared.fault.StreamFault.TheVariants as fault
 use Rattle.pc_feed.specs.declared.reading.Reading.{Reading}
 use Rattle.pc_feed.specs.Lines.{lines_in}
 use Rattle.pc_feed.specs.Asked.{Grew}
-use Rattle.pc_feed.specs.Feeding.{Answer, Feeds, EndsSo}
-use Rattle.pc_feed.specs.Streams.{no_line, NothingWrong, Judged, ReadSo}
+use Rattle.pc_feed.specs.Feeding.{FeedAnswer, Feeds, EndsSo}
+use Rattle.pc_feed.specs.Streams.{no_line, NothingWrong, JudgedSoFar, ReadSo}
 use Rattle.pc_feed.specs.Steps.{Went, PieceTaken, JudgedSo, nothing_judged, nothing_read}
 use Rattle.pc_feed.proofs.Told.{grew_of, grew_part_of}
 
@@ -42,7 +42,7 @@ nothing_fed core = record { enough = refl; taken = refl; judged = nothing_wrong 
 went_grew : (core : CoreData) (bytes piece : List ℕ) (old new : Reading) (a b : Option Pairs) → ReadSo core bytes old → Went core bytes piece old new a b → Grew core (lines_in bytes) (lines_in (bytes ++ piece)) a b
 went_grew core bytes piece old new a b read w = grew_of core (lines_in bytes) (lines_in (bytes ++ piece)) old.judging new.judging a b read.judged w.reads.judged w.grew
 
-pub feeds_by : (core k : CoreData) (bytes piece : List ℕ) (old new : Reading) (a b : Option Pairs) (r : Answer) → k ≡ core → ReadSo core bytes old → PieceTaken core bytes piece old new a b r
+pub feeds_by : (core k : CoreData) (bytes piece : List ℕ) (old new : Reading) (a b : Option Pairs) (r : FeedAnswer) → k ≡ core → ReadSo core bytes old → PieceTaken core bytes piece old new a b r
     → Feeds core bytes piece (record { core = k; reading = new }) a b r
 feeds_by core k bytes piece old new a b (Ok v) e read h = ((e, h.0.reads), h.1, went_grew core bytes piece old new a b read h.0)
 feeds_by core k bytes piece old new a b (Err (fault.Text f)) e read h = ((e, h.0.reads), h.1, went_grew core bytes piece old new a b read h.0)
@@ -51,7 +51,7 @@ feeds_by core k bytes piece old new a b (Err fault.Memory) e read h =
     (h.spent, grew_part_of core (lines_in bytes) (lines_in (bytes ++ piece)) h.taken h.rest old.judging h.right a b read.judged h.cut h.found h.grew)
 
 -- the same for the core of the stream
-pub feeds_at : (core k : CoreData) (bytes piece : List ℕ) (old new : Reading) (a b : Option Pairs) (r : Answer) → k ≡ core → ReadSo core bytes old → (ReadSo k bytes old → PieceTaken k bytes piece old new a b r)
+pub feeds_at : (core k : CoreData) (bytes piece : List ℕ) (old new : Reading) (a b : Option Pairs) (r : FeedAnswer) → k ≡ core → ReadSo core bytes old → (ReadSo k bytes old → PieceTaken k bytes piece old new a b r)
     → Feeds core bytes piece (record { core = k; reading = new }) a b r
 feeds_at core k bytes piece old new a b r e read take =
     feeds_by core k bytes piece old new a b r e read (subst (λ q. PieceTaken q bytes piece old new a b r) e (take (subst (λ q. ReadSo q bytes old) (sym e) read)))
@@ -64,13 +64,13 @@ text_fault bytes t f e h = subst (IsRead bytes (lines_in bytes)) (sym (h ∙ ap 
 pub text_ends : (bytes : List ℕ) (t : Taken) (v : Unit {0}) → t ≡ (fed nothing_taken bytes).1 → Ok v ≡ ended_so t → (ann : Ann) × (is : IsText bytes ann) × (lines_in bytes ≡ lines_of is.version ann)
 text_ends bytes t v e h = subst (IsRead bytes (lines_in bytes)) (sym (h ∙ ap ended_so e)) (read_whole bytes)
 
-ends_by : (core : CoreData) (bytes : List ℕ) (ann : Ann) (r : Answer) → IsText bytes ann → JudgedSo core ann r → EndsSo core bytes r
+ends_by : (core : CoreData) (bytes : List ℕ) (ann : Ann) (r : FeedAnswer) → IsText bytes ann → JudgedSo core ann r → EndsSo core bytes r
 ends_by core bytes ann (Ok v) t h = (ann, t, h)
 ends_by core bytes ann (Err (fault.Text f)) t h = absurd h
 ends_by core bytes ann (Err (fault.Invalid f)) t h = (ann, t, h)
 ends_by core bytes ann (Err fault.Memory) t h = h
 
-pub judged_ends : (core : CoreData) (bytes : List ℕ) (r : Reading) (v : Unit {0}) (answer : Answer) → ReadSo core bytes r → Ok v ≡ ended_so r.lines → ((w : Version) (ann : Ann) → Judged core (lines_of w ann) r.judging → JudgedSo core ann answer) → EndsSo core bytes answer
+pub judged_ends : (core : CoreData) (bytes : List ℕ) (r : Reading) (v : Unit {0}) (answer : FeedAnswer) → ReadSo core bytes r → Ok v ≡ ended_so r.lines → ((w : Version) (ann : Ann) → JudgedSoFar core (lines_of w ann) r.judging → JudgedSo core ann answer) → EndsSo core bytes answer
 judged_ends core bytes r v answer read h judge =
     let t = text_ends bytes r.lines v read.taken h in
-    ends_by core bytes t.0 answer t.1 (judge t.1.version t.0 (subst (λ l. Judged core l r.judging) t.2 read.judged))
+    ends_by core bytes t.0 answer t.1 (judge t.1.version t.0 (subst (λ l. JudgedSoFar core l r.judging) t.2 read.judged))

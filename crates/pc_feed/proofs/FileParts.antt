@@ -17,17 +17,17 @@ use Rattle.pc_feed.specs.Asked.{IsAsked, Grew}
 use Rattle.pc_feed.specs.Laws.{OneIsAsked}
 use Rattle.pc_feed.specs.Feeding.{Feeds, EndsSo}
 use Rattle.pc_feed.specs.Streams.{StreamData, IsFed}
-use Rattle.pc_feed.specs.Parts.{part_size, file_limit, Asks, FileJudged, PartsRead, AllRead, PartFed, IsPartAt, Size, PartTaken, PartsEnd}
+use Rattle.pc_feed.specs.Parts.{part_size, file_limit, AsksNodes, FileJudged, PartsRead, AllRead, PartFed, IsPartAt, Size, PartTaken, PartsEnd}
 
 -- ---- what the referee is asked about
 
 asks_on_told : OneIsAsked → (core : CoreData) (bytes part : List ℕ) (p more : Pairs) (after : Option Pairs) → IsAsked core (lines_in bytes) more → Grew core (lines_in bytes) (lines_in (bytes ++ part)) (Some (p ++ more)) after
-    → Asks core (bytes ++ part) (Some p) after
+    → AsksNodes core (bytes ++ part) (Some p) after
 asks_on_told law core bytes part p more after is g =
     let same : g.0 ≡ more = law core (lines_in bytes) g.0 more g.2 is in
     (more ++ g.1, subst (λ (k : Pairs). IsAsked core (lines_in (bytes ++ part)) (k ++ g.1)) same g.3, g.4 ∙ ap Some (append_assoc p more g.1))
 
-pub asks_on : OneIsAsked → (core : CoreData) (bytes part : List ℕ) (old after : Option Pairs) → Grew core (lines_in bytes) (lines_in (bytes ++ part)) old after → (before : Option Pairs) → Asks core bytes before old → Asks core (bytes ++ part) before after
+pub asks_on : OneIsAsked → (core : CoreData) (bytes part : List ℕ) (old after : Option Pairs) → Grew core (lines_in bytes) (lines_in (bytes ++ part)) old after → (before : Option Pairs) → AsksNodes core bytes before old → AsksNodes core (bytes ++ part) before after
 asks_on law core bytes part old after g None h = subst (λ (o : Option Pairs). Grew core (lines_in bytes) (lines_in (bytes ++ part)) o after) h g
 asks_on law core bytes part old after g (Some p) h = asks_on_told law core bytes part p h.0 after h.1 (subst (λ (o : Option Pairs). Grew core (lines_in bytes) (lines_in (bytes ++ part)) o after) h.2 g)
 
@@ -107,7 +107,7 @@ front_none None = tt
 front_none (Some []) = refl
 front_none (Some (x ∷ t)) = refl
 
-asks_none : (core : CoreData) (a : Option Pairs) → IsAsked core [] [] → Asks core [] a a
+asks_none : (core : CoreData) (a : Option Pairs) → IsAsked core [] [] → AsksNodes core [] a a
 asks_none core None is = refl
 asks_none core (Some p) is = ([], is, ap Some (sym (append-nil p)))
 

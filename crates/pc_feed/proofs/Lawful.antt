@@ -21,12 +21,12 @@ use Rattle.pc_deriv.specs.Laws.{as_read}
 use Rattle.pc_deriv.proofs.Outcome.{one_annotation, one_fault, no_fault}
 use Rattle.pc_deriv.proofs.Whole.{texts_are_taken}
 use Rattle.pc_judge.specs.declared.faults.JudgeFault.{JudgeFault}
-use Rattle.pc_judge.specs.Faults.{FirstFault, KeepsType, Passes}
+use Rattle.pc_judge.specs.Faults.{FirstAnnotationFault, KeepsType, NodePasses}
 use Rattle.pc_judge.proofs.Exact.{not_valid, one_first}
 use Rattle.pc_feed.specs.declared.fault.StreamFault.TheVariants as fault
 use Rattle.pc_feed.specs.Lines.{slots_in, notes_in, so_far}
 use Rattle.pc_feed.specs.Asked.{IsFoundRight, IsAsked}
-use Rattle.pc_feed.specs.Numbered.{numbered}
+use Rattle.pc_feed.specs.Numbered.{numbered_notes}
 use Rattle.pc_feed.specs.Laws.{OneIsAsked, OneEnd, ValidAsksAll}
 use Rattle.pc_feed.proofs.Sayings.{notes_of_nodes, notes_of_slots, slots_app, numbered_length, take_all}
 
@@ -43,7 +43,7 @@ one_list core ls a b x y =
       | inl l ↦ absurd (not_more core ls a b x y l)
       | inr m ↦ elim (cases_lt y.count x.count) [ inl l ↦ absurd (not_more core ls b a y x l) | inr k ↦ omega (arith, m, k) ]
     ] in
-    x.are ∙ ap (λ n. take n (numbered 0 (notes_in ls))) same ∙ sym y.are
+    x.are ∙ ap (λ n. take n (numbered_notes 0 (notes_in ls))) same ∙ sym y.are
 
 -- ---- only one end
 
@@ -54,7 +54,7 @@ same_fault line_fault.TooMany (line_fault.BadLine m) e = cc
 same_fault line_fault.TooMany line_fault.TooMany e = refl
 
 -- a text of a valid annotation, and of one that is not
-valid_and_not : (core : CoreData) (bytes : List ℕ) (a b : Ann) (f : JudgeFault) → Formed core → IsText bytes a → Valid core a → IsText bytes b → FirstFault core b f → ⊥
+valid_and_not : (core : CoreData) (bytes : List ℕ) (a b : Ann) (f : JudgeFault) → Formed core → IsText bytes a → Valid core a → IsText bytes b → FirstAnnotationFault core b f → ⊥
 valid_and_not core bytes a b f formed s v t w = not_valid core b f formed w (subst (Valid core) (one_annotation bytes a b s t) v)
 
 pub one_end : OneEnd
@@ -69,7 +69,8 @@ one_end core bytes (Err (fault.Text f)) (Err fault.Memory) formed x y = absurd y
 one_end core bytes (Err (fault.Invalid f)) (Ok u) formed x y = absurd (valid_and_not core bytes y.0 x.0 f formed y.1 y.2 x.1 x.2)
 one_end core bytes (Err (fault.Invalid f)) (Err (fault.Text g)) formed x y = absurd (no_fault bytes x.0 (as_read g) x.1 y)
 one_end core bytes (Err (fault.Invalid f)) (Err (fault.Invalid g)) formed x y =
-    ap (λ h. Err (fault.Invalid h)) (one_first core x.0 f g formed x.2 (subst (λ a. FirstFault core a g) (one_annotation bytes y.0 x.0 y.1 x.1) y.2))
+    ap (λ h. Err (fault.Invalid h))
+        (one_first core x.0 f g formed x.2 (subst (λ a. FirstAnnotationFault core a g) (one_annotation bytes y.0 x.0 y.1 x.1) y.2))
 one_end core bytes (Err (fault.Invalid f)) (Err fault.Memory) formed x y = absurd y
 one_end core bytes (Err fault.Memory) b formed x y = absurd x
 
@@ -93,7 +94,7 @@ valid_found core w ann v k l =
         counts = λ c e. sym (same_Some (length ann.slots, length ann.notes) c e) ∙ ap₂ (λ (a : ℕ) (b : ℕ). (a, b)) v.slots v.notes;
         written = λ i y m g. subst (λ (a : Ann). KeepsType a i y) same (v.written i y g);
       };
-      before = λ i m. subst (λ (a : Ann). Passes core a i) same (v.rules i (omega (arith, l, m)), λ n x g body. v.sets n x g);
+      before = λ i m. subst (λ (a : Ann). NodePasses core a i) same (v.rules i (omega (arith, l, m)), λ n x g body. v.sets n x g);
       meets = subst (λ (a : Ann). MeetsRule core a k) same (v.rules k l);
     }
 
@@ -110,4 +111,4 @@ valid_asks_all core bytes ann pairs formed text v asked =
       | inr m ↦ m
     ] in
     let long = numbered_length 0 (notes_in (lines_of w ann)) in
-    x.are ∙ take_all (numbered 0 (notes_in (lines_of w ann))) x.count (omega (arith, long, size, count)) ∙ ap (numbered 0) notes
+    x.are ∙ take_all (numbered_notes 0 (notes_in (lines_of w ann))) x.count (omega (arith, long, size, count)) ∙ ap (numbered_notes 0) notes

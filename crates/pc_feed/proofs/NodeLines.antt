@@ -15,17 +15,17 @@ use Rattle.pc_valid.specs.Valid.{Holds, MeetsRule}
 use Rattle.pc_deriv.specs.declared.version.Version.{Version}
 use Rattle.pc_deriv.specs.declared.line.Line.{Line}
 use Rattle.pc_deriv.specs.declared.line.Line.TheVariants as line
-use Rattle.pc_deriv.specs.Lines.{slot_of, lines_of}
+use Rattle.pc_deriv.specs.Lines.{line_of_slot, lines_of}
 use Rattle.pc_judge.specs.declared.faults.JudgeFault.TheVariants as fault
 use Rattle.pc_judge.specs.Computed.{unset_of}
-use Rattle.pc_judge.specs.Faults.{Before, FailsAt, FirstFault, Passes}
+use Rattle.pc_judge.specs.Faults.{NothingWrongBefore, FailsAt, FirstAnnotationFault, NodePasses}
 use Rattle.pc_judge.proofs.AtNode.{passes, fails_set}
-use Rattle.pc_feed.specs.Waiting.{Begins}
+use Rattle.pc_feed.specs.Waiting.{BeginsAnnotation}
 use Rattle.pc_feed.proofs.Noted.{waiting_tells}
 use Rattle.pc_feed.specs.declared.judging.Judging.{Judging}
 use Rattle.pc_feed.specs.Lines.{notes_in, so_far}
-use Rattle.pc_feed.specs.Asked.{Opens, IsFoundRight}
-use Rattle.pc_feed.specs.Streams.{behind_head, NothingWrong, Found, Wrong, JudgedBy, Judged}
+use Rattle.pc_feed.specs.Asked.{OpeningFits, IsFoundRight}
+use Rattle.pc_feed.specs.Streams.{behind_head, NothingWrong, FoundRightUpTo, Wrong, JudgedBy, JudgedSoFar}
 use Rattle.pc_feed.specs.Steps.{last_of, waits_behind, OneFound}
 use Rattle.pc_feed.proofs.Sayings.{map_push, count_push, notes_behind, slots_behind}
 use Rattle.pc_feed.proofs.Beginnings.{head_of, notes_begin}
@@ -38,11 +38,11 @@ abbrev pub top_of : CoreData → ℕ → Line
 top_of core v = line.Head v (length core.slots) (length core.nodes)
 
 abbrev pub lines_with : CoreData → ℕ → List (ℕ × Cap) → List Note → List Line
-lines_with core v slots notes = top_of core v ∷ (map slot_of slots ++ map line.Node notes)
+lines_with core v slots notes = top_of core v ∷ (map line_of_slot slots ++ map line.Node notes)
 
 -- the annotation given by lines with a node among them
 module _ (core : CoreData) (v : ℕ) (slots : List (ℕ × Cap)) (t : Note) (notes : List Note) (more : List Line) where
-  pub so_far_begins : Begins (so_far (lines_with core v slots (t ∷ notes) ++ more)) slots (t ∷ notes)
+  pub so_far_begins : BeginsAnnotation (so_far (lines_with core v slots (t ∷ notes) ++ more)) slots (t ∷ notes)
   so_far_begins = (notes_in more, slots_behind v (length core.slots) (length core.nodes) slots t notes more, notes_behind v (length core.slots) (length core.nodes) slots (t ∷ notes) more)
 
 push_is_some : (notes : List Note) (own : Note) → (t : Note) × (rest : List Note) × (notes ++ own ∷ [] ≡ t ∷ rest)
@@ -50,16 +50,17 @@ push_is_some [] own = (own, [], refl)
 push_is_some (t ∷ notes) own = (t, notes ++ own ∷ [], refl)
 
 -- the same where the last node is named
-begins_push : (core : CoreData) (v : ℕ) (slots : List (ℕ × Cap)) (notes : List Note) (own : Note) (more : List Line) → Begins (so_far (lines_with core v slots (notes ++ own ∷ []) ++ more)) slots (notes ++ own ∷ [])
+begins_push : (core : CoreData) (v : ℕ) (slots : List (ℕ × Cap)) (notes : List Note) (own : Note) (more : List Line) → BeginsAnnotation (so_far (lines_with core v slots (notes ++ own ∷ []) ++ more)) slots (notes ++ own ∷ [])
 begins_push core v slots notes own more =
     let s = push_is_some notes own in
-    subst (λ (ts : List Note). Begins (so_far (lines_with core v slots ts ++ more)) slots ts) (sym s.2) (so_far_begins core v slots s.0 s.1 more)
+    subst (λ (ts : List Note). BeginsAnnotation (so_far (lines_with core v slots ts ++ more)) slots ts) (sym s.2) (so_far_begins core v slots s.0 s.1 more)
 
 -- An annotation that begins with one more note begins with those before it.
-pub begins_less : (ann : Ann) (slots : List (ℕ × Cap)) (notes : List Note) (own : Note) → Begins ann slots (notes ++ own ∷ []) → Begins ann slots notes
+pub begins_less : (ann : Ann) (slots : List (ℕ × Cap)) (notes : List Note) (own : Note) → BeginsAnnotation ann slots (notes ++ own ∷ [])
+    → BeginsAnnotation ann slots notes
 begins_less ann slots notes own b = (own ∷ b.0, b.1, b.2 ∙ append_assoc notes (own ∷ []) b.0)
 
-own_at : (ann : Ann) (slots : List (ℕ × Cap)) (notes : List Note) (own : Note) → Begins ann slots (notes ++ own ∷ []) → slice_get ann.notes (length notes) ≡ Some own
+own_at : (ann : Ann) (slots : List (ℕ × Cap)) (notes : List Note) (own : Note) → BeginsAnnotation ann slots (notes ++ own ∷ []) → slice_get ann.notes (length notes) ≡ Some own
 own_at ann slots notes own b = ap (λ (ts : List Note). slice_get ts (length notes)) (b.2 ∙ append_assoc notes (own ∷ []) b.0) ∙ get_behind notes own b.0
 
 -- ---- a node's line
@@ -77,7 +78,7 @@ module _ (core : CoreData) (formed : Formed core) (ls : List Line) (j : Judging)
   longer : ls ++ line.Node own ∷ [] ≡ after
   longer =
       ap (λ (l : List Line). l ++ line.Node own ∷ []) at.lines
-      ∙ ap (λ (l : List Line). top_of core at.version ∷ l) (append_assoc (map slot_of j.slots) (map line.Node so.notes) (line.Node own ∷ []) ∙ ap (λ (l : List Line). map slot_of j.slots ++ l) (sym (map_push line.Node so.notes own)))
+      ∙ ap (λ (l : List Line). top_of core at.version ∷ l) (append_assoc (map line_of_slot j.slots) (map line.Node so.notes) (line.Node own ∷ []) ∙ ap (λ (l : List Line). map line_of_slot j.slots ++ l) (sym (map_push line.Node so.notes own)))
 
   is_here : slice_get core.nodes n ≡ Some x
   is_here = ap (slice_get core.nodes) (sym so.count) ∙ g
@@ -86,7 +87,7 @@ module _ (core : CoreData) (formed : Formed core) (ls : List Line) (j : Judging)
   children = last_of j.waiting (length x.children)
 
   -- The referee's answer holds for every annotation that begins like this.
-  tells : (ann : Ann) → Begins ann j.slots notes → (Holds core j.slots own children j.right) ↔ (MeetsRule core ann n)
+  tells : (ann : Ann) → BeginsAnnotation ann j.slots notes → (Holds core j.slots own children j.right) ↔ (MeetsRule core ann n)
   tells ann b =
       let t = waiting_tells core j.slots so.notes j.waiting so.numbers own x formed so.waits so.waiting is_here in
       let same : children ≡ t.1 = back_is j.waiting t.0 t.1 (length x.children) t.2 t.3 in
@@ -95,18 +96,18 @@ module _ (core : CoreData) (formed : Formed core) (ls : List Line) (j : Judging)
       subst (λ k. (Holds core j.slots own children k) ↔ (MeetsRule core ann n)) (sym so.count)
       (subst (λ (cs : List Note). (Holds core j.slots own cs n) ↔ (MeetsRule core ann n)) (sym same) asked)
 
-  passed_before : (ann : Ann) → Begins ann j.slots notes → (k : ℕ) → k < n → Passes core ann k
+  passed_before : (ann : Ann) → BeginsAnnotation ann j.slots notes → (k : ℕ) → k < n → NodePasses core ann k
   passed_before ann b k l = so.passed ann (begins_less ann j.slots so.notes own b) k l
 
   -- for an annotation whose lines begin like this
-  ann_begins : (v : Version) (ann : Ann) (more : List Line) → lines_of v ann ≡ after ++ more → (Begins ann j.slots notes) × (length ann.slots ≡ length core.slots) × (length ann.notes ≡ length core.nodes)
+  ann_begins : (v : Version) (ann : Ann) (more : List Line) → lines_of v ann ≡ after ++ more → (BeginsAnnotation ann j.slots notes) × (length ann.slots ≡ length core.slots) × (length ann.notes ≡ length core.nodes)
   ann_begins v ann more e =
-      let h = head_of v ann at.version (length core.slots) (length core.nodes) ((map slot_of j.slots ++ map line.Node notes) ++ more) e in
-      let cut = h.2 ∙ append_assoc (map slot_of j.slots) (map line.Node notes) more in
+      let h = head_of v ann at.version (length core.slots) (length core.nodes) ((map line_of_slot j.slots ++ map line.Node notes) ++ more) e in
+      let cut = h.2 ∙ append_assoc (map line_of_slot j.slots) (map line.Node notes) more in
       let b = notes_begin ann j.slots notes more cut (at.full ∙ sym h.0) in
       (b, h.0, h.1)
 
-  before_here : (v : Version) (ann : Ann) (more : List Line) → lines_of v ann ≡ after ++ more → DeclOk core → Before core ann n
+  before_here : (v : Version) (ann : Ann) (more : List Line) → lines_of v ann ≡ after ++ more → DeclOk core → NothingWrongBefore core ann n
   before_here v ann more e ok =
       let b = ann_begins v ann more e in
       record {
@@ -120,7 +121,7 @@ module _ (core : CoreData) (formed : Formed core) (ls : List Line) (j : Judging)
         sets = λ k l. (passed_before ann b.0 k l).1;
       }
 
-  opens : (more : List Line) → Opens core (after ++ more)
+  opens : (more : List Line) → OpeningFits core (after ++ more)
   opens more =
       let b = begins_push core at.version j.slots so.notes own more in
       record {
@@ -147,10 +148,10 @@ module _ (core : CoreData) (formed : Formed core) (ls : List Line) (j : Judging)
   -- ---- it does not satisfy its rule
 
   -- As far as nodes were found right before it.
-  pub found_so_far : Found core (ls ++ line.Node own ∷ []) j.right
+  pub found_so_far : FoundRightUpTo core (ls ++ line.Node own ∷ []) j.right
   found_so_far =
       let count = so.count in
-      subst (λ l. Found core l j.right) (sym longer)
+      subst (λ l. FoundRightUpTo core l j.right) (sym longer)
       (record { few = omega (arith, count, size); each = λ more k l. found_before more k (omega (arith, l, count)) })
 
   pub node_wrong : (Holds core j.slots own children j.right → ⊥) → Wrong core (ls ++ line.Node own ∷ []) j.right (fault.Node j.right)
@@ -158,14 +159,14 @@ module _ (core : CoreData) (formed : Formed core) (ls : List Line) (j : Judging)
       let count = so.count in
       subst (λ l. Wrong core l j.right (fault.Node j.right)) (sym longer)
       (record {
-        found = subst (λ l. Found core l j.right) longer found_so_far;
+        found = subst (λ l. FoundRightUpTo core l j.right) longer found_so_far;
         stops = λ more k l r.
             let b = begins_push core at.version j.slots so.notes own more in
             not ((tells (so_far (after ++ more)) b).1 (meets_here more k (omega (arith, l, count)) r));
         first = λ v ann more e ok.
             let b = ann_begins v ann more e in
             let low : n < length core.nodes = at.below in
-            subst (λ i. FirstFault core ann (fault.Node i)) (sym count) (low, before_here v ann more e ok, λ m. not ((tells ann b.0).1 m));
+            subst (λ i. FirstAnnotationFault core ann (fault.Node i)) (sym count) (low, before_here v ann more e ok, λ m. not ((tells ann b.0).1 m));
       })
     where
       meets_here : (more : List Line) (k : ℕ) → n ≤ k → IsFoundRight core (after ++ more) k → MeetsRule core (so_far (after ++ more)) n
@@ -177,7 +178,7 @@ module _ (core : CoreData) (formed : Formed core) (ls : List Line) (j : Judging)
   -- ---- it satisfies its rule
 
   module _ (right : Holds core j.slots own children j.right) where
-    meets : (ann : Ann) → Begins ann j.slots notes → MeetsRule core ann n
+    meets : (ann : Ann) → BeginsAnnotation ann j.slots notes → MeetsRule core ann n
     meets ann b = (tells ann b).0 right
 
     found_here : (more : List Line) (k : ℕ) → k < n + 1 → IsFoundRight core (after ++ more) k
@@ -190,22 +191,22 @@ module _ (core : CoreData) (formed : Formed core) (ls : List Line) (j : Judging)
           (record { opens = opens more; before = λ i h. passed_before (so_far (after ++ more)) b i h; meets = meets (so_far (after ++ more)) b })
     ]
 
-    found_after : (r : ℕ) → r ≡ j.right + 1 → Found core after r
+    found_after : (r : ℕ) → r ≡ j.right + 1 → FoundRightUpTo core after r
     found_after r e =
         let count = so.count in
         record { few = omega (arith, e, count, size); each = λ more k l. found_here more k (omega (arith, l, e, count)) }
 
-    pub found_one : (r : ℕ) → r ≡ j.right + 1 → Found core (ls ++ line.Node own ∷ []) r
-    found_one r e = subst (λ l. Found core l r) (sym longer) (found_after r e)
+    pub found_one : (r : ℕ) → r ≡ j.right + 1 → FoundRightUpTo core (ls ++ line.Node own ∷ []) r
+    found_one r e = subst (λ l. FoundRightUpTo core l r) (sym longer) (found_after r e)
 
     -- what is computed about the fields after it, in every annotation
-    unset_in : (ann : Ann) → Begins ann j.slots notes → unset_of core n (slice_get core.methods x.method) (slice_get ann.notes n) ≡ unset_of core j.right (slice_get core.methods x.method) (Some own)
+    unset_in : (ann : Ann) → BeginsAnnotation ann j.slots notes → unset_of core n (slice_get core.methods x.method) (slice_get ann.notes n) ≡ unset_of core j.right (slice_get core.methods x.method) (Some own)
     unset_in ann b =
         ap (λ (o : Option Note). unset_of core n (slice_get core.methods x.method) o) (own_at ann j.slots so.notes own b)
         ∙ ap (λ k. unset_of core k (slice_get core.methods x.method) (Some own)) (sym so.count)
 
     module _ (unset : unset_of core j.right (slice_get core.methods x.method) (Some own) ≡ true) where
-      fails_here : (ann : Ann) → Begins ann j.slots notes → FailsAt core ann n (fault.Unset x.method)
+      fails_here : (ann : Ann) → BeginsAnnotation ann j.slots notes → FailsAt core ann n (fault.Unset x.method)
       fails_here ann b = fails_set core ann n x.method formed (meets ann b) (unset_in ann b ∙ unset)
 
       pub node_unset : (r : ℕ) → r ≡ j.right + 1 → Wrong core (ls ++ line.Node own ∷ []) r (fault.Unset x.method)
@@ -226,7 +227,7 @@ module _ (core : CoreData) (formed : Formed core) (ls : List Line) (j : Judging)
           })
 
     module _ (all_set : unset_of core j.right (slice_get core.methods x.method) (Some own) ≡ false) where
-      passes_here : (ann : Ann) → Begins ann j.slots notes → Passes core ann n
+      passes_here : (ann : Ann) → BeginsAnnotation ann j.slots notes → NodePasses core ann n
       passes_here ann b = passes core ann n x formed is_here (meets ann b) (unset_in ann b ∙ all_set)
 
       pub node_right : (r : ℕ) → r ≡ j.right + 1 → NothingWrong core (ls ++ line.Node own ∷ []) (record { slots = j.slots; waiting = waits_behind j.waiting x own; right = r; fault = j.fault })
@@ -246,7 +247,7 @@ module _ (core : CoreData) (formed : Formed core) (ls : List Line) (j : Judging)
             written = so.written;
             passed = λ ann q k l. elim (cases_lt k n) [
               | inl m ↦ passed_before ann q k m
-              | inr m ↦ let same : n ≡ k = omega (arith, l, m, pushed) in subst (Passes core ann) same (passes_here ann q)
+              | inr m ↦ let same : n ≡ k = omega (arith, l, m, pushed) in subst (NodePasses core ann) same (passes_here ann q)
             ];
           }
 
@@ -255,9 +256,9 @@ module _ (core : CoreData) (formed : Formed core) (ls : List Line) (j : Judging)
           → OnOk r (new ≡ record old { waiting = waits_behind old.waiting x own }) → OnErr r (new.right ≡ old.right) → OneFound core ls own j new r
       node_kept none old new (Ok u) e ok err =
           let after_all : Judging = record { slots = j.slots; waiting = waits_behind j.waiting x own; right = j.right + 1; fault = j.fault } in
-          let judged : Judged core (ls ++ line.Node own ∷ []) after_all = subst (λ o. JudgedBy core (ls ++ line.Node own ∷ []) after_all o) (sym none) (node_right (j.right + 1) refl) in
+          let judged : JudgedSoFar core (ls ++ line.Node own ∷ []) after_all = subst (λ o. JudgedBy core (ls ++ line.Node own ∷ []) after_all o) (sym none) (node_right (j.right + 1) refl) in
           let same : new ≡ after_all = ok ∙ ap (λ (q : Judging). record q { waiting = waits_behind q.waiting x own }) e in
-          (subst (Judged core (ls ++ line.Node own ∷ [])) (sym same) judged, ap (λ (q : Judging). q.right) same)
+          (subst (JudgedSoFar core (ls ++ line.Node own ∷ [])) (sym same) judged, ap (λ (q : Judging). q.right) same)
       node_kept none old new (Err f) e ok err =
           let count : new.right ≡ j.right + 1 = err ∙ ap (λ (q : Judging). q.right) e in
           (found_one new.right count, count)

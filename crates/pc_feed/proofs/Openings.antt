@@ -11,18 +11,18 @@ use Rattle.pc_ann.specs.declared.annotation.Note.{Note}
 use Rattle.pc_ann.specs.declared.annotation.Ann.{Ann}
 use Rattle.pc_deriv.specs.declared.line.Line.{Line}
 use Rattle.pc_deriv.specs.declared.line.Line.TheVariants as line
-use Rattle.pc_deriv.specs.Lines.{slot_of}
+use Rattle.pc_deriv.specs.Lines.{line_of_slot}
 use Rattle.pc_judge.specs.declared.faults.JudgeFault.TheVariants as fault
 use Rattle.pc_judge.specs.Faults.{KeepsType, HasShape}
 use Rattle.pc_feed.specs.declared.judging.Judging.{Judging}
 use Rattle.pc_feed.specs.Lines.{slots_in, so_far}
-use Rattle.pc_feed.specs.Streams.{behind_head, NothingWrong, Found, Wrong, JudgedBy, Judged}
-use Rattle.pc_feed.specs.Steps.{Comes, MayHave, SameFound}
+use Rattle.pc_feed.specs.Streams.{behind_head, NothingWrong, FoundRightUpTo, Wrong, JudgedBy, JudgedSoFar}
+use Rattle.pc_feed.specs.Steps.{MayFollow, MayHave, SameFound}
 use Rattle.pc_feed.proofs.Sayings.{map_push, count_push, slots_app}
 use Rattle.pc_feed.proofs.Beginnings.{head_of, slots_begin}
 use Rattle.pc_feed.proofs.Places.{head_at, SlotAt}
 
-none_found : (core : CoreData) (ls : List Line) (right : ℕ) → right ≡ 0 → Found core ls right
+none_found : (core : CoreData) (ls : List Line) (right : ℕ) → right ≡ 0 → FoundRightUpTo core ls right
 none_found core ls right e = record { few = omega (arith, e); each = λ more k l. absurd (omega (arith, l, e)) }
 
 no_notes : (core : CoreData) (ls : List Line) (j : Judging) (so : NothingWrong core ls j) → so.notes ≡ [] → j.right ≡ 0
@@ -30,15 +30,15 @@ no_notes core ls j so e = so.count ∙ ap (λ (ts : List Note). length ts) e
 
 -- ---- the first line
 
-module _ (core : CoreData) (ls : List Line) (j : Judging) (so : NothingWrong core ls j) (v a b : ℕ) (c : Comes ls (line.Head v a b)) where
+module _ (core : CoreData) (ls : List Line) (j : Judging) (so : NothingWrong core ls j) (v a b : ℕ) (c : MayFollow ls (line.Head v a b)) where
   pub head_right : a ≡ length core.slots → b ≡ length core.nodes → NothingWrong core (ls ++ line.Head v a b ∷ []) j
   head_right p q =
       let h = head_at core ls j so v a b c in
       let slots : length j.slots ≡ 0 = ap (λ (xs : List (ℕ × Cap)). length xs) h.1 in
       let notes : length so.notes ≡ 0 = ap (λ (ts : List Note). length ts) h.2 in
       let left : ls ++ line.Head v a b ∷ [] ≡ line.Head v a b ∷ [] = ap (λ (x : List Line). x ++ line.Head v a b ∷ []) h.0 in
-      let right : line.Head v (length core.slots) (length core.nodes) ∷ (map slot_of j.slots ++ map line.Node so.notes) ≡ line.Head v (length core.slots) (length core.nodes) ∷ [] =
-      ap (λ (xs : List (ℕ × Cap)). line.Head v (length core.slots) (length core.nodes) ∷ (map slot_of xs ++ map line.Node so.notes)) h.1
+      let right : line.Head v (length core.slots) (length core.nodes) ∷ (map line_of_slot j.slots ++ map line.Node so.notes) ≡ line.Head v (length core.slots) (length core.nodes) ∷ [] =
+      ap (λ (xs : List (ℕ × Cap)). line.Head v (length core.slots) (length core.nodes) ∷ (map line_of_slot xs ++ map line.Node so.notes)) h.1
       ∙ ap (λ (ts : List Note). line.Head v (length core.slots) (length core.nodes) ∷ map line.Node ts) h.2 in
       record {
         notes = so.notes;
@@ -80,8 +80,8 @@ module _ (core : CoreData) (ls : List Line) (j : Judging) (so : NothingWrong cor
   abbrev top : Line
   top = line.Head at.version (length core.slots) (length core.nodes)
 
-  longer : ls ++ slot_of ty ∷ [] ≡ top ∷ map slot_of slots
-  longer = ap (λ (x : List Line). x ++ slot_of ty ∷ []) at.lines ∙ ap (λ (x : List Line). top ∷ x) (sym (map_push slot_of j.slots ty))
+  longer : ls ++ line_of_slot ty ∷ [] ≡ top ∷ map line_of_slot slots
+  longer = ap (λ (x : List Line). x ++ line_of_slot ty ∷ []) at.lines ∙ ap (λ (x : List Line). top ∷ x) (sym (map_push line_of_slot j.slots ty))
 
   kept_at : (k : ℕ) (y : Slot) → MayHave core (length j.slots) ty → k < length slots → slice_get core.slots k ≡ Some y → KeepsType (record { slots = slots; notes = so.notes }) k y
   kept_at k y may l g = elim (cases_lt k (length j.slots)) [
@@ -94,14 +94,14 @@ module _ (core : CoreData) (ls : List Line) (j : Judging) (so : NothingWrong cor
         ap (slice_get slots) (sym here) ∙ get_behind j.slots ty [] ∙ ap Some (sym same)
   ]
 
-  pub slot_right : MayHave core (length j.slots) ty → NothingWrong core (ls ++ slot_of ty ∷ []) (record { slots = slots; waiting = j.waiting; right = j.right; fault = j.fault })
+  pub slot_right : MayHave core (length j.slots) ty → NothingWrong core (ls ++ line_of_slot ty ∷ []) (record { slots = slots; waiting = j.waiting; right = j.right; fault = j.fault })
   slot_right may =
       let size = count_push j.slots ty in
       let less = at.fewer in
       let none : length so.notes ≡ 0 = ap (λ (ts : List Note). length ts) at.none in
       record {
         notes = so.notes;
-        lines = behind_head at.version (longer ∙ ap (λ x. top ∷ x) (sym (append-nil (map slot_of slots)) ∙ ap (λ (ts : List Note). map slot_of slots ++ map line.Node ts) (sym at.none)))
+        lines = behind_head at.version (longer ∙ ap (λ x. top ∷ x) (sym (append-nil (map line_of_slot slots)) ∙ ap (λ (ts : List Note). map line_of_slot slots ++ map line.Node ts) (sym at.none)))
             (omega (arith, size, less)) (omega (arith, none)) (inl at.none);
         count = so.count;
         numbers = so.numbers;
@@ -121,22 +121,22 @@ module _ (core : CoreData) (ls : List Line) (j : Judging) (so : NothingWrong cor
       let there : slice_get ann.slots wrong_at ≡ Some w = keeps w (ap (λ (x : Slot). x.written) one ∙ e) in
       same_Some w ty (sym there ∙ has)
 
-  wrong_slot : (MayHave core (length j.slots) ty → ⊥) → Wrong core (top ∷ map slot_of slots) j.right (fault.Slot (length j.slots))
+  wrong_slot : (MayHave core (length j.slots) ty → ⊥) → Wrong core (top ∷ map line_of_slot slots) j.right (fault.Slot (length j.slots))
   wrong_slot not =
       let size = count_push j.slots ty in
       let less = at.fewer in
       let y = get_within core.slots wrong_at less in
       let here : (rest : List (ℕ × Cap)) → slice_get (slots ++ rest) wrong_at ≡ Some ty = λ rest. get_front slots rest wrong_at ty (get_behind j.slots ty []) in
       record {
-        found = none_found core (top ∷ map slot_of slots) j.right (no_notes core ls j so at.none);
+        found = none_found core (top ∷ map line_of_slot slots) j.right (no_notes core ls j so at.none);
         stops = λ more k l r.
-            let said : slots_in ((top ∷ map slot_of slots) ++ more) ≡ slots ++ slots_in more = slots_app slots more in
+            let said : slots_in ((top ∷ map line_of_slot slots) ++ more) ≡ slots ++ slots_in more = slots_app slots more in
             let both = length-append slots (slots_in more) in
-            let count : length (slots_in ((top ∷ map slot_of slots) ++ more)) ≡ length (slots ++ slots_in more) = ap (λ (xs : List (ℕ × Cap)). length xs) said in
-            let within : wrong_at < length (slots_in ((top ∷ map slot_of slots) ++ more)) = omega (arith, size, both, count) in
-            not (not_kept (so_far ((top ∷ map slot_of slots) ++ more)) (ap (λ (xs : List (ℕ × Cap)). slice_get xs wrong_at) said ∙ here (slots_in more)) y.0 y.1 (r.opens.written wrong_at y.0 within y.1));
+            let count : length (slots_in ((top ∷ map line_of_slot slots) ++ more)) ≡ length (slots ++ slots_in more) = ap (λ (xs : List (ℕ × Cap)). length xs) said in
+            let within : wrong_at < length (slots_in ((top ∷ map line_of_slot slots) ++ more)) = omega (arith, size, both, count) in
+            not (not_kept (so_far ((top ∷ map line_of_slot slots) ++ more)) (ap (λ (xs : List (ℕ × Cap)). slice_get xs wrong_at) said ∙ here (slots_in more)) y.0 y.1 (r.opens.written wrong_at y.0 within y.1));
         first = λ w ann more e ok.
-            let g = head_of w ann at.version (length core.slots) (length core.nodes) (map slot_of slots ++ more) e in
+            let g = head_of w ann at.version (length core.slots) (length core.nodes) (map line_of_slot slots ++ more) e in
             let shape = g.0 in
             let b = slots_begin ann slots more g.2 (omega (arith, size, less, shape)) in (
               ok,
@@ -148,21 +148,22 @@ module _ (core : CoreData) (ls : List Line) (j : Judging) (so : NothingWrong cor
             );
       }
 
-  pub slot_wrong : (n : ℕ) → n ≡ length j.slots → (MayHave core n ty → ⊥) → Wrong core (ls ++ slot_of ty ∷ []) j.right (fault.Slot n)
+  pub slot_wrong : (n : ℕ) → n ≡ length j.slots → (MayHave core n ty → ⊥) → Wrong core (ls ++ line_of_slot ty ∷ []) j.right (fault.Slot n)
   slot_wrong n e not =
-      subst (λ i. Wrong core (ls ++ slot_of ty ∷ []) j.right (fault.Slot i)) (sym e)
+      subst (λ i. Wrong core (ls ++ line_of_slot ty ∷ []) j.right (fault.Slot i)) (sym e)
       (subst (λ x. Wrong core x j.right (fault.Slot (length j.slots))) (sym longer) (wrong_slot (λ may. not (subst (λ i. MayHave core i ty) (sym e) may))))
 
   -- If memory runs out, no node has been asked about.
-  pub slot_lost : Found core (ls ++ slot_of ty ∷ []) j.right
-  slot_lost = none_found core (ls ++ slot_of ty ∷ []) j.right (no_notes core ls j so at.none)
+  pub slot_lost : FoundRightUpTo core (ls ++ line_of_slot ty ∷ []) j.right
+  slot_lost = none_found core (ls ++ line_of_slot ty ∷ []) j.right (no_notes core ls j so at.none)
 
   -- How the push of its type ended.
   pub slot_pushed : {E : Type 0} → (n : ℕ) → n ≡ length j.slots → MayHave core n ty → j.fault ≡ None → (s : List (ℕ × Cap)) (r : Result (Unit {0}) E) → OnOk r (s ≡ slots)
-      → SameFound core ls (slot_of ty) j (record { slots = s; waiting = j.waiting; right = j.right; fault = j.fault }) r
+      → SameFound core ls (line_of_slot ty) j (record { slots = s; waiting = j.waiting; right = j.right; fault = j.fault }) r
   slot_pushed n e may none s (Ok u) same =
       let right = slot_right (subst (λ i. MayHave core i ty) e may) in
       let pushed : Judging = record { slots = slots; waiting = j.waiting; right = j.right; fault = j.fault } in
-      let judged : Judged core (ls ++ slot_of ty ∷ []) pushed = subst (λ o. JudgedBy core (ls ++ slot_of ty ∷ []) pushed o) (sym none) right in
-      (subst (λ (q : List (ℕ × Cap)). Judged core (ls ++ slot_of ty ∷ []) (record { slots = q; waiting = j.waiting; right = j.right; fault = j.fault })) (sym same) judged, refl)
+      let judged : JudgedSoFar core (ls ++ line_of_slot ty ∷ []) pushed =
+          subst (λ o. JudgedBy core (ls ++ line_of_slot ty ∷ []) pushed o) (sym none) right in
+      (subst (λ (q : List (ℕ × Cap)). JudgedSoFar core (ls ++ line_of_slot ty ∷ []) (record { slots = q; waiting = j.waiting; right = j.right; fault = j.fault })) (sym same) judged, refl)
   slot_pushed n e may none s (Err f) same = (slot_lost, refl)

@@ -16,9 +16,9 @@ use Rattle.pc_feed.specs.declared.fault.StreamFault.{StreamFault}
 use Rattle.pc_feed.specs.declared.fault.StreamFault.TheVariants as fault
 use Rattle.pc_feed.specs.declared.reading.Reading.{Reading}
 use Rattle.pc_feed.specs.Lines.{lines_in, fault_in}
-use Rattle.pc_feed.specs.Feeding.{Answer}
-use Rattle.pc_feed.specs.Streams.{Judged, JudgedBy, ReadSo}
-use Rattle.pc_feed.specs.Steps.{Comes, HasRoom, LineJudged, Went, RanOut, NextTaken, PieceTaken, GrewBy, first_nodes}
+use Rattle.pc_feed.specs.Feeding.{FeedAnswer}
+use Rattle.pc_feed.specs.Streams.{JudgedSoFar, JudgedBy, ReadSo}
+use Rattle.pc_feed.specs.Steps.{MayFollow, HasRoom, LineJudged, Went, RanOut, NextTaken, PieceTaken, GrewBy, first_nodes}
 use Rattle.pc_feed.proofs.Growing.{grew_none, grew_on}
 use Rattle.pc_feed.proofs.Counting.{comes}
 use Rattle.pc_feed.proofs.Places.{has_room}
@@ -50,14 +50,14 @@ module _ (core : CoreData) (bytes : List ℕ) (old : Reading) (read : ReadSo cor
         reads = record {
           enough = read.enough;
           taken = sym (known_is core bytes old read part [] u taken);
-          judged = subst (λ l. Judged core l old.judging) (sym same) read.judged;
+          judged = subst (λ l. JudgedSoFar core l old.judging) (sym same) read.judged;
         };
         grew = grew_none (first_nodes (lines_in bytes) old.judging.right) (first_nodes (lines_in (bytes ++ part)) old.judging.right) a a (ap (λ l. first_nodes l old.judging.right) same) refl;
       }
 
 -- A line ended in it.
 module _ (core : CoreData) (bytes : List ℕ) (old : Reading) (read : ReadSo core bytes old) (part : List ℕ) (l : Line) (u : Taken) (taken : fed old.lines part ≡ (l ∷ [], u)) where
-  pub line_comes : Comes (lines_in bytes) l
+  pub line_comes : MayFollow (lines_in bytes) l
   line_comes = comes (bytes ++ part) (lines_in bytes) l (lines_are core bytes old read part (l ∷ []) u taken)
 
   pub line_room : old.judging.fault ≡ None → HasRoom core old.judging l
@@ -73,7 +73,7 @@ module _ (core : CoreData) (bytes : List ℕ) (old : Reading) (read : ReadSo cor
         reads = record {
           enough = h.0;
           taken = h.1 ∙ sym (known_is core bytes old read part (l ∷ []) u taken);
-          judged = subst (λ x. Judged core x new.judging) (sym same) h.2;
+          judged = subst (λ x. JudgedSoFar core x new.judging) (sym same) h.2;
         };
         grew = subst (λ x. GrewBy (first_nodes (lines_in bytes) old.judging.right) (first_nodes x new.judging.right) a b) (sym same) h.3;
       }
@@ -130,7 +130,7 @@ module _ (core : CoreData) (bytes : List ℕ) (old : Reading) (read : ReadSo cor
     pub next_room : old.judging.fault ≡ None → HasRoom core old.judging l
     next_room = line_room core bytes old read part l u is_line.3
 
-    pub next_comes : Comes (lines_in bytes) l
+    pub next_comes : MayFollow (lines_in bytes) l
     next_comes = line_comes core bytes old read part l u is_line.3
 
     pub next_line : (new : Reading) (a b : Option Pairs) (v : Unit {0}) → LineJudged core (lines_in bytes) l between new a b (Ok v) → NextTaken core bytes piece at old new a b (Ok (Some stop))
@@ -167,7 +167,8 @@ Next = Result (Option ℕ) StreamFault
 pub not_both : (o : Option ℕ) (f : LineFault) → ◌≡◌ {A = Next} (Ok o) (Err (fault.Text f)) → ⊥
 not_both o f e = cc
 
-pub same_err : (g : StreamFault) (f : LineFault) → ◌≡◌ {A = Next} (Err g) (Err (fault.Text f)) → ◌≡◌ {A = Answer} (Err g) (Err (fault.Text f))
+pub same_err : (g : StreamFault) (f : LineFault) → ◌≡◌ {A = Next} (Err g) (Err (fault.Text f))
+    → ◌≡◌ {A = FeedAnswer} (Err g) (Err (fault.Text f))
 same_err g f e = let same : g ≡ fault.Text f = cc in ap Err same
 
 -- ---- a whole piece

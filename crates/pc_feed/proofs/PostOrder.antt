@@ -13,7 +13,7 @@ use Rattle.pc_core.specs.Methods.{PostOrder}
 use Rattle.pc_core.specs.Formed.{Formed}
 use Rattle.pc_core.proofs.Homes.{Home, home}
 use Rattle.pc_rules.proofs.Homes.{home_body}
-use Rattle.pc_feed.specs.Waiting.{Waits, start, next, body}
+use Rattle.pc_feed.specs.Waiting.{WaitingNodes, start, next, body}
 use Rattle.pc_feed.specs.WaitingLaws.{ChildrenWaitLast}
 
 drop_suc : {A : Type 0} → (xs : List A) (i : ℕ) (x : A) → slice_get xs i ≡ Some x → drop i xs ≡ x ∷ drop (suc i) xs
@@ -82,7 +82,7 @@ first_behind core n x h g k =
           absurd (omega (arith, e, to))
     ]
 
-at_waits : (core : CoreData) → Formed core → (n : ℕ) (ws : List ℕ) → Waits core n ws → n < length core.nodes → At core n ws
+at_waits : (core : CoreData) → Formed core → (n : ℕ) (ws : List ℕ) → WaitingNodes core n ws → n < length core.nodes → At core n ws
 at_waits core f zero [] start l = let h = home core 0 f l in let from = h.from in at_first core 0 h (omega (arith, from))
 at_waits core f n ws (next {n = k} rest x g other w) l = at_next core k rest x (at_waits core f k (rest ++ x.children) w (get_below core.nodes k x g)) g other
 at_waits core f n ws (body {n = k} x g is w) l = let h = home core (k + 1) f l in at_first core (k + 1) h (first_behind core k x h g is)

@@ -7,9 +7,9 @@ use Rattle.pc_valid.specs.Words.{Slots}
 use Rattle.pc_referee.specs.Asked.{Pairs}
 use Rattle.pc_deriv.specs.declared.line.Line.{Line}
 use Rattle.pc_deriv.specs.declared.line.Line.TheVariants as line
-use Rattle.pc_deriv.specs.Lines.{slot_of}
+use Rattle.pc_deriv.specs.Lines.{line_of_slot}
 use Rattle.pc_feed.specs.Lines.{slots_in, notes_in}
-use Rattle.pc_feed.specs.Numbered.{numbered}
+use Rattle.pc_feed.specs.Numbered.{numbered_notes}
 use Rattle.pc_feed.specs.Steps.{first_nodes}
 
 -- ---- notes
@@ -24,28 +24,28 @@ pub notes_of_nodes : (notes : List Note) → notes_in (map line.Node notes) ≡ 
 notes_of_nodes [] = refl
 notes_of_nodes (t ∷ ts) = ap (λ us. t ∷ us) (notes_of_nodes ts)
 
-pub notes_of_slots : (slots : Slots) (ls : List Line) → notes_in (map slot_of slots ++ ls) ≡ notes_in ls
+pub notes_of_slots : (slots : Slots) (ls : List Line) → notes_in (map line_of_slot slots ++ ls) ≡ notes_in ls
 notes_of_slots [] ls = refl
 notes_of_slots ((e, k) ∷ slots) ls = notes_of_slots slots ls
 
 -- the notes after the first line, slots and nodes
 pub notes_behind : (v a b : ℕ) (slots : Slots) (notes : List Note) (more : List Line)
-    → notes_in ((line.Head v a b ∷ (map slot_of slots ++ map line.Node notes)) ++ more) ≡ notes ++ notes_in more
+    → notes_in ((line.Head v a b ∷ (map line_of_slot slots ++ map line.Node notes)) ++ more) ≡ notes ++ notes_in more
 notes_behind v a b slots notes more =
-    notes_app (map slot_of slots ++ map line.Node notes) more
+    notes_app (map line_of_slot slots ++ map line.Node notes) more
     ∙ ap (λ ts. ts ++ notes_in more) (notes_of_slots slots (map line.Node notes) ∙ notes_of_nodes notes)
 
 -- ---- slots
 
-pub slots_app : (slots : Slots) (ls : List Line) → slots_in (map slot_of slots ++ ls) ≡ slots ++ slots_in ls
+pub slots_app : (slots : Slots) (ls : List Line) → slots_in (map line_of_slot slots ++ ls) ≡ slots ++ slots_in ls
 slots_app [] ls = refl
 slots_app ((e, k) ∷ slots) ls = ap (λ ts. (e, k) ∷ ts) (slots_app slots ls)
 
 -- After a node no further slot counts.
 pub slots_behind : (v a b : ℕ) (slots : Slots) (t : Note) (notes : List Note) (more : List Line)
-    → slots_in ((line.Head v a b ∷ (map slot_of slots ++ map line.Node (t ∷ notes))) ++ more) ≡ slots
+    → slots_in ((line.Head v a b ∷ (map line_of_slot slots ++ map line.Node (t ∷ notes))) ++ more) ≡ slots
 slots_behind v a b slots t notes more =
-    ap slots_in (append_assoc (map slot_of slots) (map line.Node (t ∷ notes)) more)
+    ap slots_in (append_assoc (map line_of_slot slots) (map line.Node (t ∷ notes)) more)
     ∙ slots_app slots (map line.Node (t ∷ notes) ++ more) ∙ append-nil slots
 
 -- ---- pushes
@@ -59,13 +59,13 @@ count_push xs x = length-append xs (x ∷ [])
 
 -- ---- numbered notes
 
-pub numbered_app : (n : ℕ) (a b : List Note) → numbered n (a ++ b) ≡ numbered n a ++ numbered (n + length a) b
-numbered_app n [] b = let e : n ≡ n + 0 = omega arith in ap (λ k. numbered k b) e
+pub numbered_app : (n : ℕ) (a b : List Note) → numbered_notes n (a ++ b) ≡ numbered_notes n a ++ numbered_notes (n + length a) b
+numbered_app n [] b = let e : n ≡ n + 0 = omega arith in ap (λ k. numbered_notes k b) e
 numbered_app n (t ∷ a) b =
     let e : n + 1 + length a ≡ n + suc (length a) = omega arith in
-    ap (λ ps. (n, t) ∷ ps) (numbered_app (n + 1) a b ∙ ap (λ k. numbered (n + 1) a ++ numbered k b) e)
+    ap (λ ps. (n, t) ∷ ps) (numbered_app (n + 1) a b ∙ ap (λ k. numbered_notes (n + 1) a ++ numbered_notes k b) e)
 
-pub numbered_length : (n : ℕ) (a : List Note) → length (numbered n a) ≡ length a
+pub numbered_length : (n : ℕ) (a : List Note) → length (numbered_notes n a) ≡ length a
 numbered_length n [] = refl
 numbered_length n (t ∷ a) = ap suc (numbered_length (n + 1) a)
 
@@ -73,10 +73,10 @@ numbered_length n (t ∷ a) = ap suc (numbered_length (n + 1) a)
 pub first_nodes_more : (ls more : List Line) (n : ℕ) → n ≤ length (notes_in ls) → first_nodes (ls ++ more) n ≡ first_nodes ls n
 first_nodes_more ls more n l =
     let size = numbered_length 0 (notes_in ls) in
-    let few : n ≤ length (numbered 0 (notes_in ls)) = omega (arith, size, l) in
-    ap (λ ts. take n (numbered 0 ts)) (notes_app ls more)
+    let few : n ≤ length (numbered_notes 0 (notes_in ls)) = omega (arith, size, l) in
+    ap (λ ts. take n (numbered_notes 0 ts)) (notes_app ls more)
     ∙ ap (take n) (numbered_app 0 (notes_in ls) (notes_in more))
-    ∙ take-append-le n (numbered 0 (notes_in ls)) (numbered (0 + length (notes_in ls)) (notes_in more)) few
+    ∙ take-append-le n (numbered_notes 0 (notes_in ls)) (numbered_notes (0 + length (notes_in ls)) (notes_in more)) few
 
 pub take_all : {A : Type 0} → (xs : List A) (n : ℕ) → length xs ≤ n → take n xs ≡ xs
 take_all [] zero l = refl
@@ -91,12 +91,12 @@ first_nodes_push ls t n e =
     let notes = notes_in ls in
     let size = numbered_length 0 notes in
     let last : Pairs = (n, t) ∷ [] in
-    let both = length-append (numbered 0 notes) last in
+    let both = length-append (numbered_notes 0 notes) last in
     let one : length last ≡ 1 = refl in
     let at : 0 + length notes ≡ n = omega (arith, e) in
-    let all : numbered 0 (notes ++ t ∷ []) ≡ numbered 0 notes ++ last =
-    numbered_app 0 notes (t ∷ []) ∙ ap (λ k. numbered 0 notes ++ (k, t) ∷ []) at in
-    ap (λ ts. take (n + 1) (numbered 0 ts)) (notes_app ls (line.Node t ∷ []))
+    let all : numbered_notes 0 (notes ++ t ∷ []) ≡ numbered_notes 0 notes ++ last =
+    numbered_app 0 notes (t ∷ []) ∙ ap (λ k. numbered_notes 0 notes ++ (k, t) ∷ []) at in
+    ap (λ ts. take (n + 1) (numbered_notes 0 ts)) (notes_app ls (line.Node t ∷ []))
     ∙ ap (take (n + 1)) all
-    ∙ take_all (numbered 0 notes ++ last) (n + 1) (omega (arith, both, one, size, e))
-    ∙ ap (λ ps. ps ++ last) (sym (take_all (numbered 0 notes) n (omega (arith, size, e))))
+    ∙ take_all (numbered_notes 0 notes ++ last) (n + 1) (omega (arith, both, one, size, e))
+    ∙ ap (λ ps. ps ++ last) (sym (take_all (numbered_notes 0 notes) n (omega (arith, size, e))))

@@ -10,17 +10,17 @@ use Rattle.pc_referee.specs.Asked.{Pairs, asked_after}
 use Rattle.pc_feed.specs.declared.judging.Judging.{Judging}
 use Rattle.pc_feed.specs.Lines.{notes_in}
 use Rattle.pc_feed.specs.Asked.{IsFoundRight}
-use Rattle.pc_feed.specs.Streams.{NothingWrong, Found, Wrong, JudgedBy, Judged}
-use Rattle.pc_feed.specs.Steps.{Comes, first_nodes, GrewBy, LineTaken, SameFound, OneFound}
+use Rattle.pc_feed.specs.Streams.{NothingWrong, FoundRightUpTo, Wrong, JudgedBy, JudgedSoFar}
+use Rattle.pc_feed.specs.Steps.{MayFollow, first_nodes, GrewBy, LineTaken, SameFound, OneFound}
 use Rattle.pc_feed.proofs.Sayings.{notes_app, first_nodes_more, first_nodes_push}
 use Rattle.pc_feed.proofs.Growing.{grew_none, grew_one}
 use Rattle.pc_feed.proofs.Places.{notes_are, right_within}
 
 -- If no fault is kept, there is none.
-pub nothing : (core : CoreData) (ls : List Line) (j : Judging) → j.fault ≡ None → Judged core ls j → NothingWrong core ls j
+pub nothing : (core : CoreData) (ls : List Line) (j : Judging) → j.fault ≡ None → JudgedSoFar core ls j → NothingWrong core ls j
 nothing core ls j e h = subst (JudgedBy core ls j) e h
 
-pub still_nothing : (core : CoreData) (ls : List Line) (j : Judging) → j.fault ≡ None → NothingWrong core ls j → Judged core ls j
+pub still_nothing : (core : CoreData) (ls : List Line) (j : Judging) → j.fault ≡ None → NothingWrong core ls j → JudgedSoFar core ls j
 still_nothing core ls j e h = subst (JudgedBy core ls j) (sym e) h
 
 few_more : (ls : List Line) (l : Line) (right : ℕ) → right ≤ length (notes_in ls) → right ≤ length (notes_in (ls ++ l ∷ []))
@@ -53,7 +53,7 @@ one_node ls own old new a b all e same =
     grew_one (first_nodes ls old) (first_nodes (ls ++ line.Node own ∷ []) new) old own a b
     (ap (first_nodes (ls ++ line.Node own ∷ [])) e ∙ first_nodes_push ls own old all) same
 
-pub taken_same : {E : Type 0} → (core : CoreData) (ls : List Line) (l : Line) (old new : Judging) (a b : Option Pairs) (r : Result (Unit {0}) E) → Judged core ls old → b ≡ a → SameFound core ls l old new r → LineTaken core ls l old new a b r
+pub taken_same : {E : Type 0} → (core : CoreData) (ls : List Line) (l : Line) (old new : Judging) (a b : Option Pairs) (r : Result (Unit {0}) E) → JudgedSoFar core ls old → b ≡ a → SameFound core ls l old new r → LineTaken core ls l old new a b r
 taken_same core ls l old new a b (Ok u) j same h = (h.0, same_nodes ls l old.right new.right a b (right_within core ls old old.fault j) h.1 same)
 taken_same core ls l old new a b (Err e) j same h = (h.0, same_nodes ls l old.right new.right a b (right_within core ls old old.fault j) h.1 same)
 
@@ -66,14 +66,14 @@ taken_one core ls own old new a b (Ok u) so same h = (h.0, one_node ls own old.r
 taken_one core ls own old new a b (Err e) so same h = (h.0, one_node ls own old.right new.right a b (all_right core ls old so) h.1 same)
 
 -- After a fault a line is skipped.
-pub passed_over : (core : CoreData) (ls : List Line) (l : Line) (j : Judging) (f : JudgeFault) → j.fault ≡ Some f → Judged core ls j → Judged core (ls ++ l ∷ []) j
+pub passed_over : (core : CoreData) (ls : List Line) (l : Line) (j : Judging) (f : JudgeFault) → j.fault ≡ Some f → JudgedSoFar core ls j → JudgedSoFar core (ls ++ l ∷ []) j
 passed_over core ls l j f e h = subst (JudgedBy core (ls ++ l ∷ []) j) (sym e) (wrong_stays core ls l j.right f (subst (JudgedBy core ls j) e h))
 
 -- the same for a line equal to this one
-pub taken_as : {E : Type 0} → (core : CoreData) (ls : List Line) (l k : Line) (old new : Judging) (a b : Option Pairs) (r : Result (Unit {0}) E) → l ≡ k → (Comes ls k → Judged core ls old → SameFound core ls k old new r)
-    → Comes ls l → Judged core ls old → b ≡ a → LineTaken core ls l old new a b r
+pub taken_as : {E : Type 0} → (core : CoreData) (ls : List Line) (l k : Line) (old new : Judging) (a b : Option Pairs) (r : Result (Unit {0}) E) → l ≡ k → (MayFollow ls k → JudgedSoFar core ls old → SameFound core ls k old new r)
+    → MayFollow ls l → JudgedSoFar core ls old → b ≡ a → LineTaken core ls l old new a b r
 taken_as {E = E} core ls l k old new a b r e h m j same =
-    subst (λ x. Comes ls x → LineTaken {E = E} core ls x old new a b r) (sym e) (λ n. taken_same core ls k old new a b r j same (h n j)) m
+    subst (λ x. MayFollow ls x → LineTaken {E = E} core ls x old new a b r) (sym e) (λ n. taken_same core ls k old new a b r j same (h n j)) m
 
 -- ---- the referee's answer
 
@@ -90,11 +90,11 @@ asked_yes E None n t = refl
 asked_yes E (Some p) n t = refl
 
 -- The node's line, by the answer: none, that it is not right, and that it is.
-pub node_lost : {E F : Type 0} → (core : CoreData) (ls : List Line) (own : Note) (j : Judging) (a b : Option Pairs) (e : E) (f : F) → Judged core ls j → b ≡ asked_after a j.right own (Err e) → Found core (ls ++ line.Node own ∷ []) j.right
+pub node_lost : {E F : Type 0} → (core : CoreData) (ls : List Line) (own : Note) (j : Judging) (a b : Option Pairs) (e : E) (f : F) → JudgedSoFar core ls j → b ≡ asked_after a j.right own (Err e) → FoundRightUpTo core (ls ++ line.Node own ∷ []) j.right
     → LineTaken core ls (line.Node own) j j a b (Err f)
 node_lost core ls own j a b e f h list found = (found, same_nodes ls (line.Node own) j.right j.right a b (right_within core ls j j.fault h) refl (list ∙ asked_same a j.right own e))
 
-pub node_not : (E : Type 0) (core : CoreData) (ls : List Line) (own : Note) (j : Judging) (a b : Option Pairs) (is : Bool) → is ≡ false → Judged core ls j → b ≡ asked_after {E = E} a j.right own (Ok is)
+pub node_not : (E : Type 0) (core : CoreData) (ls : List Line) (own : Note) (j : Judging) (a b : Option Pairs) (is : Bool) → is ≡ false → JudgedSoFar core ls j → b ≡ asked_after {E = E} a j.right own (Ok is)
     → GrewBy (first_nodes ls j.right) (first_nodes (ls ++ line.Node own ∷ []) j.right) a b
 node_not E core ls own j a b is no_right h list =
     same_nodes ls (line.Node own) j.right j.right a b (right_within core ls j j.fault h) refl

@@ -11,12 +11,12 @@ use Rattle.pc_ann.specs.declared.annotation.Note.{Note}
 use Rattle.pc_deriv.specs.declared.line.Line.{Line}
 use Rattle.pc_judge.specs.declared.faults.JudgeFault.{JudgeFault}
 use Rattle.pc_referee.specs.Asked.{Pairs}
-use Rattle.pc_feed.specs.Waiting.{Begins}
+use Rattle.pc_feed.specs.Waiting.{BeginsAnnotation}
 use Rattle.pc_feed.specs.declared.judging.Judging.{Judging}
 use Rattle.pc_feed.specs.Lines.{counts_in, notes_in, so_far}
 use Rattle.pc_feed.specs.Asked.{IsFoundRight, IsAsked, Grew, GrewPart}
-use Rattle.pc_feed.specs.Numbered.{numbered}
-use Rattle.pc_feed.specs.Streams.{Stands, no_line, behind_head, NothingWrong, Found, JudgedBy, Judged}
+use Rattle.pc_feed.specs.Numbered.{numbered_notes}
+use Rattle.pc_feed.specs.Streams.{StandsForLines, no_line, behind_head, NothingWrong, FoundRightUpTo, JudgedBy, JudgedSoFar}
 use Rattle.pc_feed.specs.Steps.{GrewBy, first_nodes}
 use Rattle.pc_feed.proofs.Sayings.{notes_app, first_nodes_more}
 use Rattle.pc_feed.proofs.Places.{notes_are, right_within}
@@ -32,14 +32,15 @@ full_of : (core : CoreData) (slots : List (ℕ × Cap)) (notes : List Note) (k :
 full_of core slots notes k l (inl e) = let none : length notes ≡ 0 = ap (λ (ts : List Note). length ts) e in absurd (omega (arith, l, none))
 full_of core slots notes k l (inr e) = e
 
-all_found : (core : CoreData) (ls : List Line) (j : Judging) (so : NothingWrong core ls j) → Stands core ls j.slots so.notes → (k : ℕ) → k < length so.notes → IsFoundRight core ls k
+all_found : (core : CoreData) (ls : List Line) (j : Judging) (so : NothingWrong core ls j) → StandsForLines core ls j.slots so.notes → (k : ℕ) → k < length so.notes → IsFoundRight core ls k
 all_found core ls j so (no_line p q r) k l = let none : length so.notes ≡ 0 = ap (λ (ts : List Note). length ts) r in absurd (omega (arith, l, none))
 all_found core ls j so (behind_head v p m n o) k l =
     let f = first_of so.notes k l in
     let whole : lines_with core v j.slots so.notes ++ [] ≡ ls = append-nil (lines_with core v j.slots so.notes) ∙ sym p in
-    let b : Begins (so_far ls) j.slots so.notes =
-    subst (λ x. Begins (so_far x) j.slots so.notes) whole
-    (subst (λ (ts : List Note). Begins (so_far (lines_with core v j.slots ts ++ [])) j.slots ts) (sym f.2) (so_far_begins core v j.slots f.0 f.1 [])) in
+    let b : BeginsAnnotation (so_far ls) j.slots so.notes =
+    subst (λ x. BeginsAnnotation (so_far x) j.slots so.notes) whole
+    (subst (λ (ts : List Note). BeginsAnnotation (so_far (lines_with core v j.slots ts ++ [])) j.slots ts) (sym f.2)
+        (so_far_begins core v j.slots f.0 f.1 [])) in
     let full = full_of core j.slots so.notes k l o in
     record {
       opens = record {
@@ -64,22 +65,22 @@ found_by core ls j (Some f) w k l = (
   λ r. elim (cases_lt k j.right) [ inl m ↦ m | inr m ↦ absurd (w.stops [] k m (subst (λ x. IsFoundRight core x k) (sym (append-nil ls)) r)) ],
 )
 
-pub asked_of : (core : CoreData) (ls : List Line) (j : Judging) → Judged core ls j → IsAsked core ls (first_nodes ls j.right)
+pub asked_of : (core : CoreData) (ls : List Line) (j : Judging) → JudgedSoFar core ls j → IsAsked core ls (first_nodes ls j.right)
 asked_of core ls j h = record { count = j.right; within = right_within core ls j j.fault h; exact = found_by core ls j j.fault h; are = refl }
 
 -- ---- the growth of a list
 
-pub grew_of : (core : CoreData) (old new : List Line) (j k : Judging) (a b : Option Pairs) → Judged core old j → Judged core new k → GrewBy (first_nodes old j.right) (first_nodes new k.right) a b → Grew core old new a b
+pub grew_of : (core : CoreData) (old new : List Line) (j k : Judging) (a b : Option Pairs) → JudgedSoFar core old j → JudgedSoFar core new k → GrewBy (first_nodes old j.right) (first_nodes new k.right) a b → Grew core old new a b
 grew_of core old new j k None b h i g = g
 grew_of core old new j k (Some p) b h i g = (first_nodes old j.right, g.0, asked_of core old j h, subst (IsAsked core new) g.1 (asked_of core new k i), g.2)
 
 -- What was found right first is asked about, whatever follows.
-asked_front : (core : CoreData) (taken rest : List Line) (right : ℕ) (all : Pairs) → Found core taken right → IsAsked core (taken ++ rest) all → (more : Pairs) × (all ≡ first_nodes taken right ++ more)
+asked_front : (core : CoreData) (taken rest : List Line) (right : ℕ) (all : Pairs) → FoundRightUpTo core taken right → IsAsked core (taken ++ rest) all → (more : Pairs) × (all ≡ first_nodes taken right ++ more)
 asked_front core taken rest right all found asked =
     let app : length (notes_in (taken ++ rest)) ≡ length (notes_in taken ++ notes_in rest) = ap (λ (ts : List Note). length ts) (notes_app taken rest) in
     let both = length-append (notes_in taken) (notes_in rest) in
     let few = found.few in
-    let xs = numbered 0 (notes_in (taken ++ rest)) in
+    let xs = numbered_notes 0 (notes_in (taken ++ rest)) in
     let enough : right ≤ asked.count = elim (cases_lt asked.count right) [
       | inl m ↦
           let again = (asked.exact asked.count (omega (arith, m, few, app, both))).1 (found.each rest asked.count m) in
@@ -91,7 +92,7 @@ asked_front core taken rest right all found asked =
       asked.are ∙ ap (λ n. take n xs) (sym cut) ∙ take-add right (asked.count - right) xs ∙ ap (λ ps. ps ++ take (asked.count - right) (drop right xs)) (first_nodes_more taken rest right few),
     )
 
-pub grew_part_of : (core : CoreData) (old new taken rest : List Line) (j : Judging) (right : ℕ) (a b : Option Pairs) → Judged core old j → new ≡ taken ++ rest → Found core taken right
+pub grew_part_of : (core : CoreData) (old new taken rest : List Line) (j : Judging) (right : ℕ) (a b : Option Pairs) → JudgedSoFar core old j → new ≡ taken ++ rest → FoundRightUpTo core taken right
     → GrewBy (first_nodes old j.right) (first_nodes taken right) a b → GrewPart core old new a b
 grew_part_of core old new taken rest j right None b h e f g = g
 grew_part_of core old new taken rest j right (Some p) b h e f g = (

@@ -12,7 +12,7 @@ use Rattle.pc_core.specs.CoreData.{CoreData}
 use Rattle.pc_core.specs.Formed.{Formed}
 use Rattle.pc_ann.specs.declared.annotation.Note.{Note}
 use Rattle.pc_rules.specs.Parts.{notes_of}
-use Rattle.pc_feed.specs.Waiting.{Waits, next, body}
+use Rattle.pc_feed.specs.Waiting.{WaitingNodes, next, body}
 use Rattle.pc_feed.proofs.PostOrder.{children_wait_last}
 use Rattle.pc_feed.proofs.Noted.{noted_more, noted_cut}
 use Rattle.pc_feed.specs.Steps.{last_of, all_but_last, put_behind, waits_behind}
@@ -76,11 +76,11 @@ count_of notes (c ∷ cs) ts e =
 -- The nodes without a parent after a node with this note.
 pub record Behind (core : CoreData) (notes : List Note) (waiting : List Note) (own : Note) : Type 0 where
   pub numbers : List ℕ
-  pub waits : Waits core (length (notes ++ own ∷ [])) numbers
+  pub waits : WaitingNodes core (length (notes ++ own ∷ [])) numbers
   pub kept : notes_of (notes ++ own ∷ []) numbers ≡ Some waiting
 
 module _ (core : CoreData) (formed : Formed core) (notes waiting : List Note) (numbers : List ℕ) (own : Note) (x : Node)
-    (w : Waits core (length notes) numbers) (kept : notes_of notes numbers ≡ Some waiting) (g : slice_get core.nodes (length notes) ≡ Some x) where
+    (w : WaitingNodes core (length notes) numbers) (kept : notes_of notes numbers ≡ Some waiting) (g : slice_get core.nodes (length notes) ≡ Some x) where
   abbrev front : List Note
   front = all_but_last waiting (length x.children)
 
@@ -92,7 +92,8 @@ module _ (core : CoreData) (formed : Formed core) (notes waiting : List Note) (n
       let size : length notes + 1 ≡ length (notes ++ own ∷ []) = sym (count_push notes own) in
       record {
         numbers = s.0 ++ length notes ∷ [];
-        waits = subst (λ n. Waits core n (s.0 ++ length notes ∷ [])) size (next {n = length notes} s.0 x g other (subst (Waits core (length notes)) s.1 w));
+        waits = subst (λ n. WaitingNodes core n (s.0 ++ length notes ∷ [])) size
+            (next {n = length notes} s.0 x g other (subst (WaitingNodes core (length notes)) s.1 w));
         kept = noted_push (notes ++ own ∷ []) s.0 c.0 (length notes) own (noted_more notes (own ∷ []) s.0 c.0 c.3) (get_behind notes own [])
             ∙ ap (λ ts. Some (ts ++ own ∷ [])) (sym is_front);
       }
@@ -108,7 +109,7 @@ module _ (core : CoreData) (formed : Formed core) (notes waiting : List Note) (n
       let size : length notes + 1 ≡ length (notes ++ own ∷ []) = sym (count_push notes own) in
       record {
         numbers = [];
-        waits = subst (λ n. Waits core n []) size (body {n = length notes} x g is (subst (Waits core (length notes)) alone w));
+        waits = subst (λ n. WaitingNodes core n []) size (body {n = length notes} x g is (subst (WaitingNodes core (length notes)) alone w));
         kept = ap Some (nothing ∙ sym is_front);
       }
 

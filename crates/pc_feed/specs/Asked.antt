@@ -3,14 +3,14 @@ use Rattle.std.specs.Prelude.{◌≡◌, ◌↔◌, ℕ, ◌+◌, ◌<◌, ◌�
 use Rattle.pc_core.specs.declared.nodes.Slot.{Slot}
 use Rattle.pc_core.specs.CoreData.{CoreData}
 use Rattle.pc_valid.specs.Valid.{MeetsRule}
-use Rattle.pc_judge.specs.Faults.{KeepsType, Passes}
+use Rattle.pc_judge.specs.Faults.{KeepsType, NodePasses}
 use Rattle.pc_referee.specs.Asked.{Pairs}
 use Rattle.pc_deriv.specs.declared.line.Line.{Line}
 use Rattle.pc_feed.specs.Lines.{counts_in, slots_in, notes_in, so_far}
-use Rattle.pc_feed.specs.Numbered.{numbered}
+use Rattle.pc_feed.specs.Numbered.{numbered_notes}
 
 -- The counts are the core's, and each slot so far has the type that is written for it, if one is.
-pub record Opens (core : CoreData) (ls : List Line) : Type 0 where
+pub record OpeningFits (core : CoreData) (ls : List Line) : Type 0 where
   pub counts : (c : ℕ × ℕ) → counts_in ls ≡ Some c → c ≡ (length core.slots, length core.nodes)
   pub written : (k : ℕ) (y : Slot) → k < length (slots_in ls) → slice_get core.slots k ≡ Some y → KeepsType (so_far ls) k y
 
@@ -18,8 +18,8 @@ pub record Opens (core : CoreData) (ls : List Line) : Type 0 where
 -- rule. If it is the body of a constructor that leaves a field unset, it is found right all the same, and is the last
 -- one.
 pub record IsFoundRight (core : CoreData) (ls : List Line) (k : ℕ) : Type 0 where
-  pub opens : Opens core ls
-  pub before : (j : ℕ) → j < k → Passes core (so_far ls) j
+  pub opens : OpeningFits core ls
+  pub before : (j : ℕ) → j < k → NodePasses core (so_far ls) j
   pub meets : MeetsRule core (so_far ls) k
 
 -- The nodes of these lines that are found right, which are a prefix of all, with their notes.
@@ -27,7 +27,7 @@ pub record IsAsked (core : CoreData) (ls : List Line) (pairs : Pairs) : Type 0 w
   pub count : ℕ
   pub within : count ≤ length (notes_in ls)
   pub exact : (k : ℕ) → k < length (notes_in ls) → (k < count) ↔ IsFoundRight core ls k
-  pub are : pairs ≡ take count (numbered 0 (notes_in ls))
+  pub are : pairs ≡ take count (numbered_notes 0 (notes_in ls))
 
 -- A referee's list, if it is known, grew by the nodes that are found right in the later lines.
 abbrev pub Grew : CoreData → (old new : List Line) → Option Pairs → Option Pairs → Type 0

@@ -5,7 +5,7 @@ use Rattle.pc_ann.specs.declared.annotation.Ann.{Ann}
 use Rattle.pc_valid.specs.Valid.{Valid}
 use Rattle.pc_deriv.specs.Faults.{IsText, IsFault}
 use Rattle.pc_deriv.specs.Laws.{as_read}
-use Rattle.pc_judge.specs.Faults.{FirstFault}
+use Rattle.pc_judge.specs.Faults.{FirstAnnotationFault}
 use Rattle.pc_referee.specs.Asked.{Pairs}
 use Rattle.pc_feed.specs.declared.fault.StreamFault.{StreamFault}
 use Rattle.pc_feed.specs.declared.fault.StreamFault.TheVariants as fault
@@ -13,11 +13,11 @@ use Rattle.pc_feed.specs.Lines.{lines_in, fault_in}
 use Rattle.pc_feed.specs.Asked.{Grew, GrewPart}
 use Rattle.pc_feed.specs.Streams.{StreamData, IsFed, IsSpent}
 
-abbrev pub Answer : Type 0
-Answer = Result (Unit {0}) StreamFault
+abbrev pub FeedAnswer : Type 0
+FeedAnswer = Result (Unit {0}) StreamFault
 
 -- A piece after these bytes. A fault of the annotation is reported at the end, a fault of a line at once.
-abbrev pub Feeds : CoreData → (bytes piece : List ℕ) → StreamData → Option Pairs → Option Pairs → Answer → Type 0
+abbrev pub Feeds : CoreData → (bytes piece : List ℕ) → StreamData → Option Pairs → Option Pairs → FeedAnswer → Type 0
 Feeds core bytes piece new before after (Ok _) =
     IsFed core (bytes ++ piece) new × (fault_in (bytes ++ piece) ≡ None) × Grew core (lines_in bytes) (lines_in (bytes ++ piece)) before after
 Feeds core bytes piece new before after (Err (fault.Text f)) =
@@ -27,8 +27,8 @@ Feeds core bytes piece new before after (Err fault.Memory) = IsSpent new × Grew
 
 -- The end, if these bytes were fed: they are the text of a valid annotation, or they have this fault, or they are the
 -- text of an annotation with this fault.
-abbrev pub EndsSo : CoreData → List ℕ → Answer → Type 0
+abbrev pub EndsSo : CoreData → List ℕ → FeedAnswer → Type 0
 EndsSo core bytes (Ok _) = (ann : Ann) × IsText bytes ann × Valid core ann
 EndsSo core bytes (Err (fault.Text f)) = IsFault bytes (as_read f)
-EndsSo core bytes (Err (fault.Invalid f)) = (ann : Ann) × IsText bytes ann × FirstFault core ann f
+EndsSo core bytes (Err (fault.Invalid f)) = (ann : Ann) × IsText bytes ann × FirstAnnotationFault core ann f
 EndsSo core bytes (Err fault.Memory) = ⊥

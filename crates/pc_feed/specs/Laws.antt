@@ -9,8 +9,8 @@ use Rattle.pc_deriv.specs.Faults.{IsText}
 use Rattle.pc_referee.specs.Asked.{Pairs}
 use Rattle.pc_feed.specs.Lines.{lines_in}
 use Rattle.pc_feed.specs.Asked.{IsAsked}
-use Rattle.pc_feed.specs.Numbered.{numbered}
-use Rattle.pc_feed.specs.Feeding.{Answer, EndsSo}
+use Rattle.pc_feed.specs.Numbered.{numbered_notes}
+use Rattle.pc_feed.specs.Feeding.{FeedAnswer, EndsSo}
 
 -- At most one list of nodes is asked about.
 abbrev pub OneIsAsked : Type 0
@@ -18,10 +18,10 @@ OneIsAsked = (core : CoreData) (ls : List Line) (a b : Pairs) → IsAsked core l
 
 -- The same bytes end in only one way.
 abbrev pub OneEnd : Type 0
-OneEnd = (core : CoreData) (bytes : List ℕ) (a b : Answer) → Formed core → EndsSo core bytes a → EndsSo core bytes b → a ≡ b
+OneEnd = (core : CoreData) (bytes : List ℕ) (a b : FeedAnswer) → Formed core → EndsSo core bytes a → EndsSo core bytes b → a ≡ b
 
 -- For the text of a valid annotation every node is asked about, with its note.
 abbrev pub ValidAsksAll : Type 0
 ValidAsksAll =
     (core : CoreData) (bytes : List ℕ) (ann : Ann) (pairs : Pairs) → Formed core → IsText bytes ann → Valid core ann
-    → IsAsked core (lines_in bytes) pairs → pairs ≡ numbered 0 ann.notes
+    → IsAsked core (lines_in bytes) pairs → pairs ≡ numbered_notes 0 ann.notes

@@ -5,7 +5,7 @@ use Rattle.pc_ann.specs.declared.annotation.Ann.{Ann}
 use Rattle.pc_valid.specs.Valid.{Valid}
 use Rattle.pc_deriv.specs.Faults.{IsText, IsFault}
 use Rattle.pc_deriv.specs.Laws.{as_read}
-use Rattle.pc_judge.specs.Faults.{FirstFault}
+use Rattle.pc_judge.specs.Faults.{FirstAnnotationFault}
 use Rattle.pc_referee.specs.Asked.{Pairs}
 use Rattle.pc_feed.specs.declared.parts.DerivationFault.{DerivationFault}
 use Rattle.pc_feed.specs.declared.parts.DerivationFault.TheVariants as fault
@@ -21,9 +21,9 @@ abbrev pub file_limit : ℕ
 file_limit = 33554432
 
 -- A referee's list, if it is known, grew by the nodes that are found right in the text of these bytes.
-abbrev pub Asks : CoreData → List ℕ → Option Pairs → Option Pairs → Type 0
-Asks core bytes None after = after ≡ None
-Asks core bytes (Some pairs) after = (more : Pairs) × IsAsked core (lines_in bytes) more × (after ≡ Some (pairs ++ more))
+abbrev pub AsksNodes : CoreData → List ℕ → Option Pairs → Option Pairs → Type 0
+AsksNodes core bytes None after = after ≡ None
+AsksNodes core bytes (Some pairs) after = (more : Pairs) × IsAsked core (lines_in bytes) more × (after ≡ Some (pairs ++ more))
 
 -- The whole file was read: these are all its bytes, if they are known, and not more than a derivation may have.
 pub record ReadWhole (told : Option (List ℕ)) (bytes : List ℕ) : Type 0 where
@@ -34,10 +34,10 @@ pub record ReadWhole (told : Option (List ℕ)) (bytes : List ℕ) : Type 0 wher
 -- the call, on how many bytes the last part had, and on the referee's list.
 abbrev pub FileJudged : CoreData → Option (List ℕ) → (before now taken : ℕ) → Option Pairs → Option Pairs → Result (Unit {0}) DerivationFault → Type 0
 FileJudged core told before now taken old new (Ok _) =
-    (bytes : List ℕ) × ReadWhole told bytes × ((ann : Ann) × IsText bytes ann × Valid core ann) × Asks core bytes old new
-FileJudged core told before now taken old new (Err (fault.Text f)) = (bytes : List ℕ) × ReadWhole told bytes × IsFault bytes (as_read f) × Asks core bytes old new
+    (bytes : List ℕ) × ReadWhole told bytes × ((ann : Ann) × IsText bytes ann × Valid core ann) × AsksNodes core bytes old new
+FileJudged core told before now taken old new (Err (fault.Text f)) = (bytes : List ℕ) × ReadWhole told bytes × IsFault bytes (as_read f) × AsksNodes core bytes old new
 FileJudged core told before now taken old new (Err (fault.Invalid f)) =
-    (bytes : List ℕ) × ReadWhole told bytes × ((ann : Ann) × IsText bytes ann × FirstFault core ann f) × Asks core bytes old new
+    (bytes : List ℕ) × ReadWhole told bytes × ((ann : Ann) × IsText bytes ann × FirstAnnotationFault core ann f) × AsksNodes core bytes old new
 -- Its faults rose.
 FileJudged core told before now taken old new (Err fault.Failed) = before < now
 -- The part after the greatest number of bytes of a derivation is not empty.
@@ -52,18 +52,18 @@ pub record PartsRead (core : CoreData) (told : Option (List ℕ)) (from : ℕ) (
   pub size : length bytes ≡ from
   pub front : IfSome told (λ t. bytes ≡ take from t)
   pub fed : IsFed core bytes stream
-  pub asks : Asks core bytes old new
+  pub asks : AsksNodes core bytes old new
 
 -- All of the file was read and fed.
 pub record AllRead (core : CoreData) (told : Option (List ℕ)) (stream : StreamData) (old new : Option Pairs) : Type 0 where
   pub bytes : List ℕ
   pub read : ReadWhole told bytes
   pub fed : IsFed core bytes stream
-  pub asks : Asks core bytes old new
+  pub asks : AsksNodes core bytes old new
 
 -- A part was fed, or memory ran out.
 abbrev pub PartFed : CoreData → (bytes part : List ℕ) → StreamData → Option Pairs → Option Pairs → Result (Unit {0}) DerivationFault → Type 0
-PartFed core bytes part new old after (Ok _) = IsFed core (bytes ++ part) new × ((before : Option Pairs) → Asks core bytes before old → Asks core (bytes ++ part) before after)
+PartFed core bytes part new old after (Ok _) = IsFed core (bytes ++ part) new × ((before : Option Pairs) → AsksNodes core bytes before old → AsksNodes core (bytes ++ part) before after)
 PartFed core bytes part new old after (Err fault.Failed) = ⊥
 PartFed core bytes part new old after (Err fault.TooLong) = ⊥
 PartFed core bytes part new old after (Err (fault.Text f)) = ⊥

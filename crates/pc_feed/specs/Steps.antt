@@ -9,7 +9,7 @@ use Rattle.pc_core.specs.CoreData.{CoreData}
 use Rattle.pc_ann.specs.declared.annotation.Note.{Note}
 use Rattle.pc_ann.specs.declared.annotation.Ann.{Ann}
 use Rattle.pc_valid.specs.Valid.{Valid}
-use Rattle.pc_judge.specs.Faults.{FirstFault}
+use Rattle.pc_judge.specs.Faults.{FirstAnnotationFault}
 use Rattle.pc_deriv.specs.declared.line.Line.{Line}
 use Rattle.pc_deriv.specs.declared.line.Line.TheVariants as line
 use Rattle.pc_deriv.specs.Lines.{nothing_taken, counts_with}
@@ -19,9 +19,9 @@ use Rattle.pc_feed.specs.declared.fault.StreamFault.TheVariants as fault
 use Rattle.pc_feed.specs.declared.judging.Judging.{Judging}
 use Rattle.pc_feed.specs.declared.reading.Reading.{Reading}
 use Rattle.pc_feed.specs.Lines.{lines_in, fault_in, notes_in}
-use Rattle.pc_feed.specs.Numbered.{numbered}
-use Rattle.pc_feed.specs.Feeding.{Answer}
-use Rattle.pc_feed.specs.Streams.{Found, Judged, ReadSo}
+use Rattle.pc_feed.specs.Numbered.{numbered_notes}
+use Rattle.pc_feed.specs.Feeding.{FeedAnswer}
+use Rattle.pc_feed.specs.Streams.{FoundRightUpTo, JudgedSoFar, ReadSo}
 
 -- ---- the order of lines
 
@@ -40,7 +40,7 @@ Counted c n [] d m = (c ≡ d) × (n ≡ m)
 Counted c n (l ∷ ls) d m = LineFits c n l × Counted (counts_with c l) (n + 1) ls d m
 
 -- The line may follow these lines.
-pub record Comes (ls : List Line) (l : Line) : Type 0 where
+pub record MayFollow (ls : List Line) (l : Line) : Type 0 where
   pub counts : Option (ℕ × ℕ)
   pub ended : ℕ
   pub counted : Counted None 0 ls counts ended
@@ -64,7 +64,7 @@ HasRoom core j (line.Node note) = (length j.slots ≡ length core.slots) × (j.r
 
 -- The first nodes of these lines, this many, with their notes.
 abbrev pub first_nodes : List Line → ℕ → Pairs
-first_nodes ls n = take n (numbered 0 (notes_in ls))
+first_nodes ls n = take n (numbered_notes 0 (notes_in ls))
 
 -- A list, if it is known, grew as one list did to another.
 abbrev pub GrewBy : Pairs → Pairs → Option Pairs → Option Pairs → Type 0
@@ -73,35 +73,35 @@ GrewBy old new (Some pairs) after = (more : Pairs) × (new ≡ old ++ more) × (
 
 -- A line was processed after these, or memory ran out.
 abbrev pub LineTaken : {E : Type 0} → CoreData → List Line → Line → Judging → Judging → Option Pairs → Option Pairs → Result (Unit {0}) E → Type 0
-LineTaken core ls l old new before after (Ok _) = Judged core (ls ++ l ∷ []) new × GrewBy (first_nodes ls old.right) (first_nodes (ls ++ l ∷ []) new.right) before after
-LineTaken core ls l old new before after (Err e) = Found core (ls ++ l ∷ []) new.right × GrewBy (first_nodes ls old.right) (first_nodes (ls ++ l ∷ []) new.right) before after
+LineTaken core ls l old new before after (Ok _) = JudgedSoFar core (ls ++ l ∷ []) new × GrewBy (first_nodes ls old.right) (first_nodes (ls ++ l ∷ []) new.right) before after
+LineTaken core ls l old new before after (Err e) = FoundRightUpTo core (ls ++ l ∷ []) new.right × GrewBy (first_nodes ls old.right) (first_nodes (ls ++ l ∷ []) new.right) before after
 
 -- No further node was found right.
 abbrev pub SameFound : {E : Type 0} → CoreData → List Line → Line → Judging → Judging → Result (Unit {0}) E → Type 0
-SameFound core ls l old new (Ok _) = Judged core (ls ++ l ∷ []) new × (new.right ≡ old.right)
-SameFound core ls l old new (Err e) = Found core (ls ++ l ∷ []) new.right × (new.right ≡ old.right)
+SameFound core ls l old new (Ok _) = JudgedSoFar core (ls ++ l ∷ []) new × (new.right ≡ old.right)
+SameFound core ls l old new (Err e) = FoundRightUpTo core (ls ++ l ∷ []) new.right × (new.right ≡ old.right)
 
 -- The node with this note was found right.
 abbrev pub OneFound : {E : Type 0} → CoreData → List Line → Note → Judging → Judging → Result (Unit {0}) E → Type 0
-OneFound core ls own old new (Ok _) = Judged core (ls ++ line.Node own ∷ []) new × (new.right ≡ old.right + 1)
-OneFound core ls own old new (Err e) = Found core (ls ++ line.Node own ∷ []) new.right × (new.right ≡ old.right + 1)
+OneFound core ls own old new (Ok _) = JudgedSoFar core (ls ++ line.Node own ∷ []) new × (new.right ≡ old.right + 1)
+OneFound core ls own old new (Err e) = FoundRightUpTo core (ls ++ line.Node own ∷ []) new.right × (new.right ≡ old.right + 1)
 
 -- A line was judged, or memory ran out.
-abbrev pub LineJudged : CoreData → List Line → Line → Reading → Reading → Option Pairs → Option Pairs → Answer → Type 0
+abbrev pub LineJudged : CoreData → List Line → Line → Reading → Reading → Option Pairs → Option Pairs → FeedAnswer → Type 0
 LineJudged core ls l old new before after (Ok _) =
-    (new.spent ≡ false) × (new.lines ≡ old.lines) × Judged core (ls ++ l ∷ []) new.judging
+    (new.spent ≡ false) × (new.lines ≡ old.lines) × JudgedSoFar core (ls ++ l ∷ []) new.judging
     × GrewBy (first_nodes ls old.judging.right) (first_nodes (ls ++ l ∷ []) new.judging.right) before after
 LineJudged core ls l old new before after (Err (fault.Text f)) = ⊥
 LineJudged core ls l old new before after (Err (fault.Invalid f)) = ⊥
 LineJudged core ls l old new before after (Err fault.Memory) =
-    (new.spent ≡ true) × Found core (ls ++ l ∷ []) new.judging.right
+    (new.spent ≡ true) × FoundRightUpTo core (ls ++ l ∷ []) new.judging.right
     × GrewBy (first_nodes ls old.judging.right) (first_nodes (ls ++ l ∷ []) new.judging.right) before after
 
 -- All lines of an annotation were judged.
-abbrev pub JudgedSo : CoreData → Ann → Answer → Type 0
+abbrev pub JudgedSo : CoreData → Ann → FeedAnswer → Type 0
 JudgedSo core ann (Ok _) = Valid core ann
 JudgedSo core ann (Err (fault.Text f)) = ⊥
-JudgedSo core ann (Err (fault.Invalid f)) = FirstFault core ann f
+JudgedSo core ann (Err (fault.Invalid f)) = FirstAnnotationFault core ann f
 JudgedSo core ann (Err fault.Memory) = ⊥
 
 -- ---- the notes of nodes without a parent so far
@@ -143,7 +143,7 @@ pub record RanOut (core : CoreData) (bytes more : List ℕ) (old new : Reading) 
   pub rest : List Line
   pub cut : lines_in (bytes ++ more) ≡ taken ++ rest
   pub right : ℕ
-  pub found : Found core taken right
+  pub found : FoundRightUpTo core taken right
   pub grew : GrewBy (first_nodes (lines_in bytes) old.judging.right) (first_nodes taken right) before after
 
 -- A piece was processed from one place on: up to the end of its next line, or to its end.
@@ -155,7 +155,7 @@ NextTaken core bytes piece at old new before after (Err (fault.Invalid f)) = ⊥
 NextTaken core bytes piece at old new before after (Err fault.Memory) = RanOut core bytes (drop at piece) old new before after
 
 -- A whole piece was processed.
-abbrev pub PieceTaken : CoreData → List ℕ → List ℕ → Reading → Reading → Option Pairs → Option Pairs → Answer → Type 0
+abbrev pub PieceTaken : CoreData → List ℕ → List ℕ → Reading → Reading → Option Pairs → Option Pairs → FeedAnswer → Type 0
 PieceTaken core bytes piece old new before after (Ok _) = Went core bytes piece old new before after × (fault_in (bytes ++ piece) ≡ None)
 PieceTaken core bytes piece old new before after (Err (fault.Text f)) = Went core bytes piece old new before after × (fault_in (bytes ++ piece) ≡ Some f)
 PieceTaken core bytes piece old new before after (Err (fault.Invalid f)) = ⊥

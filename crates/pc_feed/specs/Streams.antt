@@ -8,12 +8,12 @@ use Rattle.pc_sub.specs.Declarations.{DeclOk}
 use Rattle.pc_rules.specs.Parts.{notes_of}
 use Rattle.pc_valid.specs.Words.{Slots}
 use Rattle.pc_judge.specs.declared.faults.JudgeFault.{JudgeFault}
-use Rattle.pc_judge.specs.Faults.{KeepsType, Passes, FirstFault}
+use Rattle.pc_judge.specs.Faults.{KeepsType, NodePasses, FirstAnnotationFault}
 use Rattle.pc_deriv.specs.declared.version.Version.{Version}
 use Rattle.pc_deriv.specs.declared.line.Line.{Line}
 use Rattle.pc_deriv.specs.declared.line.Line.TheVariants as line
-use Rattle.pc_deriv.specs.Lines.{nothing_taken, fed, slot_of, lines_of}
-use Rattle.pc_feed.specs.Waiting.{Waits, Begins}
+use Rattle.pc_deriv.specs.Lines.{nothing_taken, fed, line_of_slot, lines_of}
+use Rattle.pc_feed.specs.Waiting.{WaitingNodes, BeginsAnnotation}
 use Rattle.pc_feed.specs.declared.judging.Judging.{Judging}
 use Rattle.pc_feed.specs.declared.reading.Reading.{Reading}
 use Rattle.pc_feed.specs.Lines.{lines_in, notes_in}
@@ -25,48 +25,48 @@ pub record StreamData : Type 0 where
   pub reading : Reading
 
 -- The lines are those of these slots and nodes: none yet, or the version and the counts, followed by slots and nodes.
-pub data Stands (core : CoreData) (ls : List Line) (slots : Slots) (notes : List Note) : Type 0 where
-  no_line : ls ≡ [] → slots ≡ [] → notes ≡ [] → Stands core ls slots notes
-  behind_head : (version : ℕ) → ls ≡ line.Head version (length core.slots) (length core.nodes) ∷ (map slot_of slots ++ map line.Node notes)
+pub data StandsForLines (core : CoreData) (ls : List Line) (slots : Slots) (notes : List Note) : Type 0 where
+  no_line : ls ≡ [] → slots ≡ [] → notes ≡ [] → StandsForLines core ls slots notes
+  behind_head : (version : ℕ) → ls ≡ line.Head version (length core.slots) (length core.nodes) ∷ (map line_of_slot slots ++ map line.Node notes)
       → length slots ≤ length core.slots → length notes ≤ length core.nodes
-      → (notes ≡ []) ⊎ (length slots ≡ length core.slots) → Stands core ls slots notes
+      → (notes ≡ []) ⊎ (length slots ≡ length core.slots) → StandsForLines core ls slots notes
 
 -- There is no fault in these lines. What is kept are the types of the slots, the notes of the nodes without a parent so
 -- far, and how many nodes were found right.
 pub record NothingWrong (core : CoreData) (ls : List Line) (j : Judging) : Type 0 where
   pub notes : List Note
-  pub lines : Stands core ls j.slots notes
+  pub lines : StandsForLines core ls j.slots notes
   pub count : j.right ≡ length notes
   pub numbers : List ℕ
-  pub waits : Waits core (length notes) numbers
+  pub waits : WaitingNodes core (length notes) numbers
   pub waiting : notes_of notes numbers ≡ Some j.waiting
   pub written : (k : ℕ) (y : Slot) → k < length j.slots → slice_get core.slots k ≡ Some y → KeepsType (record { slots = j.slots; notes = notes }) k y
-  pub passed : (ann : Ann) → Begins ann j.slots notes → (k : ℕ) → k < length notes → Passes core ann k
+  pub passed : (ann : Ann) → BeginsAnnotation ann j.slots notes → (k : ℕ) → k < length notes → NodePasses core ann k
 
 -- The first nodes, this many, are found right, whatever lines follow.
-pub record Found (core : CoreData) (ls : List Line) (right : ℕ) : Type 0 where
+pub record FoundRightUpTo (core : CoreData) (ls : List Line) (right : ℕ) : Type 0 where
   pub few : right ≤ length (notes_in ls)
   pub each : (more : List Line) (k : ℕ) → k < right → IsFoundRight core (ls ++ more) k
 
 -- These lines have this fault: it is the first fault of every annotation whose lines in some version begin like this,
 -- unless a declaration fails; and no further node is found right, whatever lines follow.
 pub record Wrong (core : CoreData) (ls : List Line) (right : ℕ) (f : JudgeFault) : Type 0 where
-  pub found : Found core ls right
+  pub found : FoundRightUpTo core ls right
   pub stops : (more : List Line) (k : ℕ) → right ≤ k → IsFoundRight core (ls ++ more) k → ⊥
-  pub first : (version : Version) (ann : Ann) (more : List Line) → lines_of version ann ≡ ls ++ more → DeclOk core → FirstFault core ann f
+  pub first : (version : Version) (ann : Ann) (more : List Line) → lines_of version ann ≡ ls ++ more → DeclOk core → FirstAnnotationFault core ann f
 
 abbrev pub JudgedBy : CoreData → List Line → Judging → Option JudgeFault → Type 0
 JudgedBy core ls j None = NothingWrong core ls j
 JudgedBy core ls j (Some f) = Wrong core ls j.right f
 
-abbrev pub Judged : CoreData → List Line → Judging → Type 0
-Judged core ls j = JudgedBy core ls j j.fault
+abbrev pub JudgedSoFar : CoreData → List Line → Judging → Type 0
+JudgedSoFar core ls j = JudgedBy core ls j j.fault
 
 -- The state is the right one for these bytes, and memory did not run out.
 pub record ReadSo (core : CoreData) (bytes : List ℕ) (r : Reading) : Type 0 where
   pub enough : r.spent ≡ false
   pub taken : r.lines ≡ (fed nothing_taken bytes).1
-  pub judged : Judged core (lines_in bytes) r.judging
+  pub judged : JudgedSoFar core (lines_in bytes) r.judging
 
 -- The stream judges this core, and these bytes were fed to it.
 abbrev pub IsFed : CoreData → List ℕ → StreamData → Type 0

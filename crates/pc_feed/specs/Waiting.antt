@@ -9,11 +9,11 @@ use Rattle.pc_valid.specs.Words.{Slots}
 
 -- The nodes before node n that are without a parent: a node takes the place of its children, which are the last ones. A
 -- body has no parent, and nothing is left after it.
-pub data Waits (core : CoreData) : ℕ → List ℕ → Type 0 where
-  start : Waits core 0 []
-  next : {n : ℕ} (rest : List ℕ) (x : Node) → slice_get core.nodes n ≡ Some x → x.kind ≢ node.Body → Waits core n (rest ++ x.children) → Waits core (n + 1) (rest ++ n ∷ [])
-  body : {n : ℕ} (x : Node) → slice_get core.nodes n ≡ Some x → x.kind ≡ node.Body → Waits core n x.children → Waits core (n + 1) []
+pub data WaitingNodes (core : CoreData) : ℕ → List ℕ → Type 0 where
+  start : WaitingNodes core 0 []
+  next : {n : ℕ} (rest : List ℕ) (x : Node) → slice_get core.nodes n ≡ Some x → x.kind ≢ node.Body → WaitingNodes core n (rest ++ x.children) → WaitingNodes core (n + 1) (rest ++ n ∷ [])
+  body : {n : ℕ} (x : Node) → slice_get core.nodes n ≡ Some x → x.kind ≡ node.Body → WaitingNodes core n x.children → WaitingNodes core (n + 1) []
 
 -- An annotation with these types of slots whose notes begin with these.
-abbrev pub Begins : Ann → Slots → List Note → Type 0
-Begins ann slots notes = (more : List Note) × (ann.slots ≡ slots) × (ann.notes ≡ notes ++ more)
+abbrev pub BeginsAnnotation : Ann → Slots → List Note → Type 0
+BeginsAnnotation ann slots notes = (more : List Note) × (ann.slots ≡ slots) × (ann.notes ≡ notes ++ more)

@@ -4,12 +4,12 @@ ghost use Rattle.pc_ann.specs.declared.annotation.Ann.{Ann as AnnIs};
 ghost use Rattle.pc_core.specs.declared.nodes.NodeKind.TheVariants as kind;
 ghost use Rattle.pc_valid.specs.Valid.{Holds};
 ghost use Rattle.pc_referee.specs.Asked.{asked_after};
-ghost use Rattle.pc_deriv.specs.Lines.{slot_of, lines_of};
+ghost use Rattle.pc_deriv.specs.Lines.{line_of_slot, lines_of};
 ghost use Rattle.pc_deriv.specs.declared.version.Version.{Version as VersionIs};
 ghost use Rattle.pc_deriv.specs.declared.line.Line.{Line as LineIs};
 ghost use Rattle.pc_deriv.specs.declared.line.Line.TheVariants as line;
-ghost use Rattle.pc_feed.specs.Steps.{Comes, HasRoom, JudgedSo, LineTaken, OneFound, SameFound, last_of, nothing_judged, waits_behind};
-ghost use Rattle.pc_feed.specs.Streams.{Judged};
+ghost use Rattle.pc_feed.specs.Steps.{MayFollow, HasRoom, JudgedSo, LineTaken, OneFound, SameFound, last_of, nothing_judged, waits_behind};
+ghost use Rattle.pc_feed.specs.Streams.{JudgedSoFar};
 
 use crate::fault::StreamFault;
 use crate::nodes::{has_counts, leaves_unset, may_have};
@@ -55,8 +55,8 @@ impl Judging {
     // The first line, in either version.
     fn take_head(&mut self, core: &Core, slots: u32, nodes: u32)
         requires { self.old.fault ≡ None }
-        ensures { (version : ℕ) (ls : Sequence LineIs) → Comes ls (line.Head version slots nodes) → Judged core.now ls self.old
-            → Judged core.now (ls ++ line.Head version slots nodes ∷ []) self.new × (self.new.right ≡ self.old.right) }
+        ensures { (version : ℕ) (ls : Sequence LineIs) → MayFollow ls (line.Head version slots nodes) → JudgedSoFar core.now ls self.old
+            → JudgedSoFar core.now (ls ++ line.Head version slots nodes ∷ []) self.new × (self.new.right ≡ self.old.right) }
     {
         if has_counts(core, slots, nodes) {
             return;
@@ -68,7 +68,7 @@ impl Judging {
     fn take_slot(&mut self, core: &Core, ty: (u32, Cap)) -> Result<(), AllocError>
         requires right { self.old.fault ≡ None }
         requires room { length self.old.slots < length core.now.slots }
-        ensures { (ls : Sequence LineIs) → Comes ls (slot_of ty) → Judged core.now ls self.old → SameFound core.now ls (slot_of ty) self.old self.new result }
+        ensures { (ls : Sequence LineIs) → MayFollow ls (line_of_slot ty) → JudgedSoFar core.now ls self.old → SameFound core.now ls (line_of_slot ty) self.old self.new result }
     {
         core.formed();
         let number = self.slots.len();
@@ -120,7 +120,7 @@ impl Judging {
     fn take_right(&mut self, core: &Core, node: &Node, own: Note) -> Result<(), AllocError>
         requires right { self.old.fault ≡ None }
         requires node { slice_get core.now.nodes self.old.right ≡ Some node.now }
-        ensures { (ls : Sequence LineIs) → Comes ls (line.Node own) → Judged core.now ls self.old
+        ensures { (ls : Sequence LineIs) → MayFollow ls (line.Node own) → JudgedSoFar core.now ls self.old
             → Holds core.now self.old.slots own (last_of self.old.waiting (length node.now.children)) self.old.right
             → OneFound core.now ls own self.old self.new result }
     {
@@ -145,7 +145,7 @@ impl Judging {
         requires right { self.old.fault ≡ None }
         requires slots { length self.old.slots ≡ length core.now.slots }
         requires node { slice_get core.now.nodes self.old.right ≡ Some node.now }
-        ensures { (ls : Sequence LineIs) → Comes ls (line.Node own) → Judged core.now ls self.old
+        ensures { (ls : Sequence LineIs) → MayFollow ls (line.Node own) → JudgedSoFar core.now ls self.old
             → LineTaken core.now ls (line.Node own) self.old self.new (R.asked referee.old) (R.asked referee.new) result }
     {
         core.formed();
@@ -166,7 +166,7 @@ impl Judging {
     ) -> Result<(), AllocError>
         requires right { self.old.fault ≡ None }
         requires room { HasRoom core.now self.old line }
-        ensures { (ls : Sequence LineIs) → Comes ls line → Judged core.now ls self.old
+        ensures { (ls : Sequence LineIs) → MayFollow ls line → JudgedSoFar core.now ls self.old
             → LineTaken core.now ls line self.old self.new (R.asked referee.old) (R.asked referee.new) result }
     {
         match line {
@@ -194,7 +194,7 @@ impl Judging {
         referee: &mut R,
     ) -> Result<(), AllocError>
         requires room { self.old.fault ≡ None → HasRoom core.now self.old line }
-        ensures { (ls : Sequence LineIs) → Comes ls line → Judged core.now ls self.old
+        ensures { (ls : Sequence LineIs) → MayFollow ls line → JudgedSoFar core.now ls self.old
             → LineTaken core.now ls line self.old self.new (R.asked referee.old) (R.asked referee.new) result }
     {
         match self.fault {
@@ -205,7 +205,7 @@ impl Judging {
 
     /// The first fault of the annotation with these lines: a declaration, or what was found.
     pub fn end(&self, core: &Core) -> Result<(), StreamFault>
-        ensures { (version : VersionIs) (ann : AnnIs) → Judged core.now (lines_of version ann) self.now → JudgedSo core.now ann result }
+        ensures { (version : VersionIs) (ann : AnnIs) → JudgedSoFar core.now (lines_of version ann) self.now → JudgedSo core.now ann result }
     {
         core.formed();
         match declarations(core) {

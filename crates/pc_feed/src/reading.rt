@@ -3,8 +3,8 @@ ghost use Rattle.std.specs.Prelude.{◌≡◌, ◌≤◌, ℕ, List as Sequence,
 ghost use Rattle.pc_deriv.specs.declared.line.Line.{Line as LineIs};
 ghost use Rattle.pc_deriv.specs.declared.line.LineFault.{LineFault as FaultIs};
 ghost use Rattle.pc_feed.specs.Feeding.{EndsSo};
-ghost use Rattle.pc_feed.specs.Steps.{Comes, HasRoom, LineJudged, NextTaken, PieceTaken, nothing_read};
-ghost use Rattle.pc_feed.specs.Streams.{Judged, ReadSo};
+ghost use Rattle.pc_feed.specs.Steps.{MayFollow, HasRoom, LineJudged, NextTaken, PieceTaken, nothing_read};
+ghost use Rattle.pc_feed.specs.Streams.{JudgedSoFar, ReadSo};
 ghost use Rattle.pc_feed.specs.declared.fault.StreamFault.TheVariants.{Memory, Text};
 
 use crate::fault::StreamFault;
@@ -43,7 +43,7 @@ impl Reading {
     ) -> Result<(), StreamFault>
         requires right { self.old.spent ≡ false }
         requires room { self.old.judging.fault ≡ None → HasRoom core.now self.old.judging line }
-        ensures { (ls : Sequence LineIs) → Comes ls line → Judged core.now ls self.old.judging
+        ensures { (ls : Sequence LineIs) → MayFollow ls line → JudgedSoFar core.now ls self.old.judging
             → LineJudged core.now ls line self.old self.new (R.asked referee.old) (R.asked referee.new) result }
     {
         match self.judging.take_line(core, line, referee) {

@@ -5,7 +5,7 @@ use Rattle.std.specs.List.{position_from}
 use Rattle.std.specs.Str.{bytes_eq}
 use Rattle.std.proofs.lemmas.Iterator.Adapters.{position_from-zero}
 use Rattle.std.proofs.lemmas.Option.{same_Some, none-some}
-use Rattle.pc_tree.specs.declared.names.Name.{Name}
+use Rattle.pc_tree.specs.declared.written_names.Name.{Name}
 use Rattle.pc_tree.specs.Kinds.{is_abstract}
 use Rattle.pc_tree.specs.Tree as t
 use Rattle.pc_lists.specs.Places.{Has, Differ}
@@ -45,12 +45,12 @@ get_position xs x i d h =
 
 -- ---- where the methods of a trait are written
 
-pub names_entity : (file : t.File) (above : List (List ℕ)) (a : ℕ) (e f : t.Entity) (n : Name) (b : ℕ) → Collects file above → slice_get file.entities a ≡ Some e → Has e.provides n → slice_get file.entities b ≡ Some f → f.name.text ≡ n.text → chain.Names file (first_own + a) (first_own + b)
+pub names_entity : (file : t.File) (above : List (List ℕ)) (a : ℕ) (e f : t.Entity) (n : Name) (b : ℕ) → Collects file above → slice_get file.entities a ≡ Some e → Has e.provides n → slice_get file.entities b ≡ Some f → f.name.text ≡ n.text → chain.ProvidesInFile file (first_own + a) (first_own + b)
 names_entity file above a e f n b c ha hn hb same =
     let at : slice_get (entity_names file) (first_own + b) ≡ Some n.text = get_append built_in_names (texts_of file.entities) b ∙ get_map (λ (y : t.Entity). y.name.text) file.entities b f hb ∙ ap Some same in
     (e, own_entity file a e ha, (n, hn, get_position (entity_names file) n.text (first_own + b) c.names at))
 
-pub above_named : (file : t.File) (a b : ℕ) (f : t.Entity) (x : t.Method) → chain.Names file (first_own + a) (first_own + b) → slice_get file.entities b ≡ Some f → is_abstract f.kind ≡ true → Has f.methods x ⊎ WrittenAbove file b x → WrittenAbove file a x
+pub above_named : (file : t.File) (a b : ℕ) (f : t.Entity) (x : t.Method) → chain.ProvidesInFile file (first_own + a) (first_own + b) → slice_get file.entities b ≡ Some f → is_abstract f.kind ≡ true → Has f.methods x ⊎ WrittenAbove file b x → WrittenAbove file a x
 above_named file a b f x link at is (inl y) = (b, f, chain.one link, at, is, y)
 above_named file a b f x link at is (inr y) = (y.0, y.1, chain.more link y.2, y.3, y.4, y.5)
 
@@ -63,6 +63,6 @@ written_above file above c (suc k) a e x ha h = elim (has_either e.methods (of_e
       let r = each_has (trait_methods k file.entities) file.entities e.provides x other in
       let f : t.Entity = r.1 in
       let s = named_is file.entities r.0.text f r.3 in
-      let link : chain.Names file (first_own + a) (first_own + s.0.0) = names_entity file above a e f r.0 s.0.0 c ha r.2 s.0.1 s.1 in
+      let link : chain.ProvidesInFile file (first_own + a) (first_own + s.0.0) = names_entity file above a e f r.0 s.0.0 c ha r.2 s.0.1 s.1 in
       inr (above_named file a s.0.0 f x link s.0.1 (provided_trait file above e f r.0 c (a, ha) r.2 s.0 s.1) (written_above file above c k s.0.0 f x s.0.1 r.4))
 ]

@@ -4,7 +4,7 @@ use Rattle.std.specs.Prelude.{slice_get, ◌⊎◌}
 use Rattle.std.proofs.lemmas.Bool.{cases_lt}
 use Rattle.std.proofs.lemmas.Option.{same_Some, none-some}
 use Rattle.pc_lists.proofs.Gets.{get_below, get_append, get_map, map_get}
-use Rattle.pc_tree.specs.declared.names.Name.{Name}
+use Rattle.pc_tree.specs.declared.written_names.Name.{Name}
 use Rattle.pc_tree.specs.Kinds.{is_abstract}
 use Rattle.pc_tree.specs.Tree as t
 use Rattle.pc_lists.specs.Places.{Has, Differ}
@@ -14,7 +14,7 @@ use Rattle.pc_members.proofs.Differences.{same_text, among_has}
 use Rattle.pc_members.proofs.Named.{named_is, one_entity}
 use Rattle.pc_lists.proofs.Bools.{true_false}
 use Rattle.std.specs.Str.{bytes_eq}
-use Rattle.pc_members.specs.Chains.{Closes}
+use Rattle.pc_members.specs.Chains.{IsTransitiveClosure}
 use Rattle.pc_tree.specs.BuiltIn.{first_own}
 use Rattle.pc_members.specs.Chains as chain
 use Rattle.pc_names.proofs.CycleFirsts.{no_cycle}
@@ -95,19 +95,19 @@ same_each one other all (n ∷ ns) h =
     by (Some f) e = h n f (0, refl) e
 
 -- A chain with one more `is`.
-longer : (file : t.File) {a b c : ℕ} → chain.Leads file a b → chain.Names file b c → chain.Leads file a c
+longer : (file : t.File) {a b c : ℕ} → chain.LeadsInFile file a b → chain.ProvidesInFile file b c → chain.LeadsInFile file a c
 longer file (chain.one h) l = chain.more h (chain.one l)
 longer file (chain.more h r) l = chain.more h (longer file r l)
 
 -- Each entity of the path is the last one, or leads to it.
 abbrev Path : t.File → List ℕ → ℕ → Type 0
-Path file path a = (c : ℕ) → Has path c → (c ≡ a) ⊎ chain.Leads file (first_own + c) (first_own + a)
+Path file path a = (c : ℕ) → Has path c → (c ≡ a) ⊎ chain.LeadsInFile file (first_own + c) (first_own + a)
 
-module _ (file : t.File) (above : List (List ℕ)) (c : Collects file above) (closes : Closes file above) where
+module _ (file : t.File) (above : List (List ℕ)) (c : Collects file above) (closes : IsTransitiveClosure file above) where
   abbrev all : List t.Entity
   all = file.entities
 
-  no_way_back : (b : ℕ) (f : t.Entity) → slice_get all b ≡ Some f → is_abstract f.kind ≡ true → chain.Leads file (first_own + b) (first_own + b) → ⊥
+  no_way_back : (b : ℕ) (f : t.Entity) → slice_get all b ≡ Some f → is_abstract f.kind ≡ true → chain.LeadsInFile file (first_own + b) (first_own + b) → ⊥
   no_way_back b f h is l = no_cycle file above closes c.cycles (first_own + b) (f, own_entity file b f h, is, l)
 
   pub stays : (k a : ℕ) (e : t.Entity) (path : List ℕ) → slice_get all a ≡ Some e → Differ path → ((b : ℕ) → Has path b → b < length all) → Path file path a → length all < length path + k → trait_methods (suc k) all e ≡ trait_methods k all e
@@ -117,9 +117,9 @@ module _ (file : t.File) (above : List (List ℕ)) (c : Collects file above) (cl
       let s = named_is all n.text f named in
       let b : ℕ = s.0.0 in
       let is : is_abstract f.kind ≡ true = provided_trait file above e f n c (a, ha) hn s.0 s.1 in
-      let link : chain.Names file (first_own + a) (first_own + b) = names_entity file above a e f n b c ha hn s.0.1 s.1 in
+      let link : chain.ProvidesInFile file (first_own + a) (first_own + b) = names_entity file above a e f n b c ha hn s.0.1 s.1 in
       let more : length all < length (b ∷ path) + k = omega (arith, far) in
-      let fresh : Has path b → ⊥ = λ h. no_way_back b f s.0.1 is (elim (p b h) [ inl same ↦ subst (λ x. chain.Leads file (first_own + x) (first_own + b)) (sym same) (chain.one link) | inr way ↦ longer file way link ]) in
+      let fresh : Has path b → ⊥ = λ h. no_way_back b f s.0.1 is (elim (p b h) [ inl same ↦ subst (λ x. chain.LeadsInFile file (first_own + x) (first_own + b)) (sym same) (chain.one link) | inr way ↦ longer file way link ]) in
       stays k b f (b ∷ path) s.0.1 (differ_more b path fresh d) (below_more b path (get_below all b f s.0.1) low) (path_more a b path p link) more))
     where
       differ_more : (b : ℕ) (path : List ℕ) → (Has path b → ⊥) → Differ path → Differ (b ∷ path)
@@ -132,10 +132,10 @@ module _ (file : t.File) (above : List (List ℕ)) (c : Collects file above) (cl
       below_more b path l f x (zero, h) = subst (λ y. y < length all) (same_Some b x h) l
       below_more b path l f x (suc i, h) = f x (i, h)
 
-      path_more : (a b : ℕ) (path : List ℕ) → Path file path a → chain.Names file (first_own + a) (first_own + b) → Path file (b ∷ path) b
+      path_more : (a b : ℕ) (path : List ℕ) → Path file path a → chain.ProvidesInFile file (first_own + a) (first_own + b) → Path file (b ∷ path) b
       path_more a b path p l x (zero, h) = inl (sym (same_Some b x h))
       path_more a b path p l x (suc i, h) = elim (p x (i, h)) [
-        | inl same ↦ inr (subst (λ y. chain.Leads file (first_own + y) (first_own + b)) (sym same) (chain.one l))
+        | inl same ↦ inr (subst (λ y. chain.LeadsInFile file (first_own + y) (first_own + b)) (sym same) (chain.one l))
         | inr way ↦ inr (longer file way l)
       ]
 
@@ -193,11 +193,12 @@ named_there (e ∷ es) f i h = by (λ j g. named_there es f j g) (bytes_eq e.nam
     by rest false d (suc i) g = rest i g
 
 -- A chain starts at an entity of the file.
-begins : (file : t.File) (p q : ℕ) → chain.Leads file p q → (a : ℕ) × (e : t.Entity) × (p ≡ first_own + a) × (slice_get file.entities a ≡ Some e)
+begins : (file : t.File) (p q : ℕ) → chain.LeadsInFile file p q
+    → (a : ℕ) × (e : t.Entity) × (p ≡ first_own + a) × (slice_get file.entities a ≡ Some e)
 begins file p q (chain.one h) = let o = entity_own file p h.0 h.1 in (o.0, h.0, o.1, o.2)
 begins file p q (chain.more h r) = let o = entity_own file p h.0 h.1 in (o.0, h.0, o.1, o.2)
 
-module _ (file : t.File) (above : List (List ℕ)) (c : Collects file above) (closes : Closes file above) where
+module _ (file : t.File) (above : List (List ℕ)) (c : Collects file above) (closes : IsTransitiveClosure file above) where
   abbrev methods : t.Entity → List t.Method
   methods = trait_methods (length file.entities) file.entities
 
@@ -214,7 +215,7 @@ module _ (file : t.File) (above : List (List ℕ)) (c : Collects file above) (cl
       let y = has_front e.methods (of_each methods file.entities e.provides) r.0 (g.0, r.1) in
       turn a e x h (y.0, get_map (λ (m : t.Method). m.name.text) (e.methods ++ of_each methods file.entities e.provides) y.0 r.0 y.1 ∙ ap Some r.2)
 
-  named_methods : (a b : ℕ) (e f : t.Entity) (x : Text) → slice_get file.entities a ≡ Some e → slice_get file.entities b ≡ Some f → chain.Names file (first_own + a) (first_own + b) → Has (method_texts (methods f)) x → Has (method_texts (methods e)) x
+  named_methods : (a b : ℕ) (e f : t.Entity) (x : Text) → slice_get file.entities a ≡ Some e → slice_get file.entities b ≡ Some f → chain.ProvidesInFile file (first_own + a) (first_own + b) → Has (method_texts (methods f)) x → Has (method_texts (methods e)) x
   named_methods a b e f x ha hb l g =
       let own = entity_own file (first_own + a) l.0 l.1 in
       let number = own.1 in
@@ -231,16 +232,16 @@ module _ (file : t.File) (above : List (List ℕ)) (c : Collects file above) (cl
       let y = has_behind e.methods (of_each methods file.entities e.provides) r.0 (each_there methods file.entities e.provides n f r.0 l.2.1.0 provided named (g.0, r.1)) in
       turn a e x ha (y.0, get_map (λ (m : t.Method). m.name.text) (e.methods ++ of_each methods file.entities e.provides) y.0 r.0 y.1 ∙ ap Some r.2)
 
-  above_there : (p q : ℕ) → chain.Leads file p q → (a b : ℕ) (e f : t.Entity) (x : Text) → p ≡ first_own + a → q ≡ first_own + b → slice_get file.entities a ≡ Some e → slice_get file.entities b ≡ Some f → Has (method_texts f.methods) x → Has (method_texts (methods e)) x
-  above_there p q (chain.one h) a b e f x ep eq ha hb g = named_methods a b e f x ha hb (subst (λ i. chain.Names file i (first_own + b)) ep (subst (chain.Names file p) eq h)) (own_there b f x hb g)
+  above_there : (p q : ℕ) → chain.LeadsInFile file p q → (a b : ℕ) (e f : t.Entity) (x : Text) → p ≡ first_own + a → q ≡ first_own + b → slice_get file.entities a ≡ Some e → slice_get file.entities b ≡ Some f → Has (method_texts f.methods) x → Has (method_texts (methods e)) x
+  above_there p q (chain.one h) a b e f x ep eq ha hb g = named_methods a b e f x ha hb (subst (λ i. chain.ProvidesInFile file i (first_own + b)) ep (subst (chain.ProvidesInFile file p) eq h)) (own_there b f x hb g)
   above_there p q (chain.more {b = d} h r) a b e f x ep eq ha hb g =
       let o = begins file d q r in
-      named_methods a o.0 e o.1 x ha o.3 (subst (λ i. chain.Names file i (first_own + o.0)) ep (subst (chain.Names file p) o.2 h)) (above_there d q r o.0 b o.1 f x o.2 eq o.3 hb g)
+      named_methods a o.0 e o.1 x ha o.3 (subst (λ i. chain.ProvidesInFile file i (first_own + o.0)) ep (subst (chain.ProvidesInFile file p) o.2 h)) (above_there d q r o.0 b o.1 f x o.2 eq o.3 hb g)
 
 abbrev Inherits : t.File → ℕ → t.Entity → Text → Type 0
-Inherits file a e x = Has (method_texts e.methods) x ⊎ ((b : ℕ) × (f : t.Entity) × chain.Leads file (first_own + a) (first_own + b) × (slice_get file.entities b ≡ Some f) × Has (method_texts f.methods) x)
+Inherits file a e x = Has (method_texts e.methods) x ⊎ ((b : ℕ) × (f : t.Entity) × chain.LeadsInFile file (first_own + a) (first_own + b) × (slice_get file.entities b ≡ Some f) × Has (method_texts f.methods) x)
 
-inherits : (file : t.File) (above : List (List ℕ)) → Collects file above → Closes file above → (a : ℕ) (e : t.Entity) (x : Text) → slice_get file.entities a ≡ Some e → Has (method_texts (trait_methods (length file.entities) file.entities e)) x → Inherits file a e x
+inherits : (file : t.File) (above : List (List ℕ)) → Collects file above → IsTransitiveClosure file above → (a : ℕ) (e : t.Entity) (x : Text) → slice_get file.entities a ≡ Some e → Has (method_texts (trait_methods (length file.entities) file.entities e)) x → Inherits file a e x
 inherits file above c closes a e x h g =
     let r = map_get (λ (m : t.Method). m.name.text) (trait_methods (length file.entities) file.entities e) g.0 x g.1 in
     elim (written_above file above c (length file.entities) a e r.0 h (g.0, r.1)) [
@@ -251,7 +252,7 @@ inherits file above c closes a e x h g =
     named : (ms : List t.Method) (m : t.Method) (x : Text) → m.name.text ≡ x → Has ms m → Has (method_texts ms) x
     named ms m x e h = (h.0, get_map (λ (y : t.Method). y.name.text) ms h.0 m h.1 ∙ ap Some e)
 
-inherited : (file : t.File) (above : List (List ℕ)) → Collects file above → Closes file above → (a : ℕ) (e : t.Entity) (x : Text) → slice_get file.entities a ≡ Some e → Inherits file a e x → Has (method_texts (trait_methods (length file.entities) file.entities e)) x
+inherited : (file : t.File) (above : List (List ℕ)) → Collects file above → IsTransitiveClosure file above → (a : ℕ) (e : t.Entity) (x : Text) → slice_get file.entities a ≡ Some e → Inherits file a e x → Has (method_texts (trait_methods (length file.entities) file.entities e)) x
 inherited file above c closes a e x h (inl g) = own_there file above c closes a e x h g
 inherited file above c closes a e x h (inr g) = above_there file above c closes (first_own + a) (first_own + g.0) g.2 a g.0 e g.1 x refl refl h g.3 g.4
 

@@ -5,8 +5,8 @@ use Rattle.std.proofs.lemmas.Bool.{ltb-true, not-false}
 use Rattle.std.proofs.lemmas.Option.{same_Some, none-some}
 use Rattle.std.proofs.lemmas.List.{length_push, append_assoc}
 use Rattle.pc_tree.specs.declared.file.ParamDef.{ParamDef}
-use Rattle.pc_tree.specs.declared.names.Name.{Name}
-use Rattle.pc_tree.specs.declared.names.TypeRef.{TypeRef}
+use Rattle.pc_tree.specs.declared.written_names.Name.{Name}
+use Rattle.pc_tree.specs.declared.written_names.TypeRef.{TypeRef}
 use Rattle.pc_tree.specs.Tree as t
 use Rattle.pc_lists.specs.Places.{Has, Differ}
 use Rattle.pc_names.specs.declared.fault.NameFault.TheVariants as fault
@@ -14,7 +14,9 @@ use Rattle.pc_names.specs.declared.fault.Which.TheVariants as which
 use Rattle.pc_lists.specs.Texts.{Text}
 use Rattle.pc_members.specs.Words.{is_among, built_in_names, entity_names, has_added}
 use Rattle.pc_members.specs.Tables.{trait_names}
-use Rattle.pc_names.specs.Faults.{where_, either, type_faults, result_faults, provided_faults, field_faults, param_faults, signature_faults, method_faults, is_taken, added_faults, entity_faults, entities_faults, entity_name_faults, declaration_faults, known_limit}
+use Rattle.pc_names.specs.Faults.{where_, either_fault, type_faults, result_faults, provided_faults, field_faults, param_faults, signature_faults}
+use Rattle.pc_names.specs.Faults.{method_faults, is_member_name, added_faults, entity_faults, entities_faults, entity_name_faults, declaration_faults}
+use Rattle.pc_names.specs.Faults.{known_limit}
 use Rattle.pc_caps.specs.Limits.{field_limit}
 use Rattle.pc_members.specs.Words.{field_texts, method_texts}
 use Rattle.pc_tree.specs.BuiltIn.{first_own}
@@ -42,7 +44,7 @@ fields_add : (entities known : List Text) (fs : List t.Field) → length known �
 fields_add entities known [] few h = (tt, omega (arith, few), λ f g. absurd (none-some f g.1))
 fields_add entities known (x ∷ fs) few h =
     let e0 = either_none (is_among x.name.text known) (fault.Double x.name.span) (not (nat_lt (length known) field_limit)) (fault.TooMany which.Fields x.name.span) (nil_left _ _ h) in
-    let tail = nil_right (either (is_among x.name.text known) (fault.Double x.name.span) (not (nat_lt (length known) field_limit)) (fault.TooMany which.Fields x.name.span)) _ h in
+    let tail = nil_right (either_fault (is_among x.name.text known) (fault.Double x.name.span) (not (nat_lt (length known) field_limit)) (fault.TooMany which.Fields x.name.span)) _ h in
     let low : length known < field_limit = ltb-true (length known) field_limit (not-false (nat_lt (length known) field_limit) e0.1) in
     let count : length (known ++ x.name.text ∷ []) ≡ length known + 1 = length_push known x.name.text in
     let more : length (known ++ x.name.text ∷ []) ≤ field_limit = omega (arith, low, count) in
@@ -115,7 +117,7 @@ sound file e h =
       fields = fields.2;
       methods = methods.1;
       provides = provided_are traits [] e.provides (nil_left (provided_faults traits [] e.provides) _ h1);
-      added = λ a. among_parts (codes "create") (field_texts e.fields) (method_texts e.methods) ∙ and_true (has_added e) (is_taken (codes "create") e) a (where_none (has_added e && is_taken (codes "create") e) (fault.Double e.name.span) (nil_left (added_faults e) _ h));
+      added = λ a. among_parts (codes "create") (field_texts e.fields) (method_texts e.methods) ∙ and_true (has_added e) (is_member_name (codes "create") e) a (where_none (has_added e && is_member_name (codes "create") e) (fault.Double e.name.span) (nil_left (added_faults e) _ h));
     }
   where
     and_true : (a b : Bool) → a ≡ true → (a && b) ≡ false → b ≡ false

@@ -10,7 +10,7 @@ use Rattle.pc_tree.specs.declared.kinds.EntityKind.{EntityKind}
 use Rattle.pc_tree.specs.declared.kinds.EntityKind.TheVariants as kind
 use Rattle.pc_tree.specs.declared.kinds.MethodWord.{MethodWord}
 use Rattle.pc_tree.specs.declared.kinds.MethodWord.TheVariants as word
-use Rattle.pc_tree.specs.declared.names.TypeRef.{TypeRef}
+use Rattle.pc_tree.specs.declared.written_names.TypeRef.{TypeRef}
 use Rattle.pc_tree.specs.Kinds.{is_abstract, may_stand, BodyUnless}
 use Rattle.pc_tree.specs.Tree as t
 use Rattle.pc_tree.proofs.KindFacts.{no_new, same_methods}
@@ -24,14 +24,15 @@ use Rattle.pc_lists.proofs.Gets.{map_get}
 use Rattle.pc_members.specs.Words.{entity_names}
 use Rattle.pc_tree.specs.BuiltIn.{first_own}
 use Rattle.pc_lists.proofs.Bools.{true_false, false_true, first_true, second_true}
-use Rattle.pc_body_spec.specs.Scopes.{Context, Known}
+use Rattle.pc_body_spec.specs.Scopes.{Context, KnownEntity}
 use Rattle.pc_body_spec.specs.Bodies.{maybe_body, initial_fields}
 use Rattle.pc_body_spec.specs.Places.{body_places, initial_places, written_body_places}
 use Rattle.pc_body_spec.specs.Slots.{cap_or, initial_locals, body_locals}
 use Rattle.pc_members.specs.Members.{Member, written, added, without_body}
 use Rattle.pc_file_spec.specs.Known.{known_of}
-use Rattle.pc_file_spec.specs.Signatures.{param_of, params_of, kind_of, word_receiver, receiver_of, written_result, object_of, word_result, result_of, locals_of}
-use Rattle.pc_file_spec.specs.Order.{InOrder, InPlace}
+use Rattle.pc_file_spec.specs.Signatures.{param_of, params_of, kind_of, word_receiver, receiver_cap, written_result, object_of, word_result, result_of}
+use Rattle.pc_file_spec.specs.Signatures.{member_locals}
+use Rattle.pc_file_spec.specs.Order.{NamesInOrder, InPlace}
 use Rattle.pc_file_spec.proofs.Steps.{member_rose}
 use Rattle.pc_file_spec.proofs.Collects.{Collects, TypesAre, IsType}
 use Rattle.pc_file_spec.proofs.Origins.{Origin, Comes, as_declared, as_own, as_taken, Sort, added_kind, fieldless}
@@ -92,7 +93,7 @@ no_seq : (c : Context) (fs : List t.Field) (x : t.Method) (o : Option t.Seq) →
 no_seq c fs x None h = refl
 no_seq c fs x (Some b) h = absurd (none-some _ (sym h))
 
-pub bodiless : (c : Context) (e : t.Entity) (m : Member) → Placed e m → member_rose c e m ≡ None → (is_abstract e.kind ≡ true) × (locals_of e m ≡ [])
+pub bodiless : (c : Context) (e : t.Entity) (m : Member) → Placed e m → member_rose c e m ≡ None → (is_abstract e.kind ≡ true) × (member_locals e m ≡ [])
 bodiless c e added p h = absurd (none-some _ (sym h))
 bodiless c e (written x) p h =
     let none : x.body ≡ None = no_seq c e.fields x x.body h in
@@ -113,7 +114,7 @@ no_initials word.Fun = refl
 no_initials word.Be = refl
 no_initials word.New = refl
 
-comes_ordered : (file : t.File) (e origin : t.Entity) (source x : t.Method) → InOrder file → InPlace file → Has file.entities e → Has file.entities origin → Has origin.methods source → Comes e origin source x → MemberOrder e (written x)
+comes_ordered : (file : t.File) (e origin : t.Entity) (source x : t.Method) → NamesInOrder file → InPlace file → Has file.entities e → Has file.entities origin → Has origin.methods source → Comes e origin source x → MemberOrder e (written x)
 comes_ordered file e origin source x o p he ho hs (as_declared d f h) =
     let fields : e.fields ≡ [] = fieldless e.kind e.fields d (p e he).0 in
     let nothing : body_places e.fields (without_body source) ≡ [] = ap (λ (fs : List t.Field). body_places fs (without_body source)) fields ∙ append-nil (initial_places (initial_fields source.word [])) ∙ no_initials source.word in
@@ -124,7 +125,8 @@ comes_ordered file e origin source x o p he ho hs (as_taken d f k h) =
     subst (λ y. MemberOrder e (written y)) h (subst Ascends places ((o origin ho).1 source hs))
 
 -- The names in a member's body are in the order of the text.
-pub member_order : (file : t.File) (e : t.Entity) (m : Member) → InOrder file → InPlace file → Has file.entities e → Sort file e m → MemberOrder e m
+pub member_order : (file : t.File) (e : t.Entity) (m : Member) → NamesInOrder file → InPlace file → Has file.entities e → Sort file e m
+    → MemberOrder e m
 member_order file e added o p he h = (o e he).0
 member_order file e (written x) o p he s = comes_ordered file e s.origin s.source x o p he s.is_entity s.is_method s.comes
 
@@ -173,11 +175,11 @@ object_fits kind.Primitive n c x r e o = (r, ap (λ (p : ℕ × Form). p.0) o �
 object_fits kind.Trait n c x r e o = (r, ap (λ (p : ℕ × Form). p.0) o ∙ sym e, (c, ap (λ (p : ℕ × Form). p.1) o))
 object_fits kind.Interface n c x r e o = (r, ap (λ (p : ℕ × Form). p.0) o ∙ sym e, (c, ap (λ (p : ℕ × Form). p.1) o))
 
-word_fits : (entities : List Known) (k : EntityKind) (n : ℕ) (m : t.Method) (w : MethodWord) (x : Method) → x.receiver ≡ word_receiver w m.cap → x.entity ≡ n → x.result ≡ word_result entities k n m w → ResultFits (word_kind k w) x
+word_fits : (entities : List KnownEntity) (k : EntityKind) (n : ℕ) (m : t.Method) (w : MethodWord) (x : Method) → x.receiver ≡ word_receiver w m.cap → x.entity ≡ n → x.result ≡ word_result entities k n m w → ResultFits (word_kind k w) x
 word_fits entities k n m word.Fun x r e o = tt
 word_fits entities k n m word.Be x r e o = (r, o)
 word_fits entities k n m word.New x r e o = object_fits k n (cap_or m.cap cap.Ref) x r e o
 
-pub member_fits : (entities : List Known) (k : EntityKind) (n : ℕ) (m : Member) (x : Method) → x.receiver ≡ receiver_of m → x.entity ≡ n → x.result ≡ result_of entities k n m → ResultFits (kind_of k m) x
+pub member_fits : (entities : List KnownEntity) (k : EntityKind) (n : ℕ) (m : Member) (x : Method) → x.receiver ≡ receiver_cap m → x.entity ≡ n → x.result ≡ result_of entities k n m → ResultFits (kind_of k m) x
 member_fits entities k n (written m) x r e o = word_fits entities k n m m.word x r e o
 member_fits entities k n added x r e o = object_fits k n cap.Iso x r e o

@@ -24,7 +24,7 @@ use Rattle.pc_body_spec.proofs.PostOrders.{post_order}
 use Rattle.pc_body_spec.proofs.Once.{maybe_n, added_n, node_times, node_join, put_n, SlotsFrom, next_slots, slots_from}
 use Rattle.pc_lists.proofs.Bools.{true_false}
 use Rattle.pc_members.specs.Members.{Member, written, added}
-use Rattle.pc_file_spec.specs.Signatures.{locals_of, placed_of}
+use Rattle.pc_file_spec.specs.Signatures.{member_locals, placed_of}
 use Rattle.pc_file_spec.proofs.Steps.{member_faults, member_rose}
 
 -- A slot outside the range from the first of these numbers up to the second.
@@ -77,26 +77,27 @@ abbrev pub MemberOrder : t.Entity → Member → Type 0
 MemberOrder e (written x) = Ascends (body_places e.fields x)
 MemberOrder e added = Ascends (initial_places e.fields)
 
-pub slots_are : (c : Context) (e : t.Entity) (m : Member) → c.slots ≡ placed_of e m → MemberOrder e m → SlotsFrom c (1 + param_count m) (locals_of e m)
+pub slots_are : (c : Context) (e : t.Entity) (m : Member) → c.slots ≡ placed_of e m → MemberOrder e m
+    → SlotsFrom c (1 + param_count m) (member_locals e m)
 slots_are c e (written x) same a = slots_from c (1 + length x.params) (method_locals e.fields x) same (rising local_start (method_locals e.fields x) (body_places e.fields x) (method_in e.fields x) a)
 slots_are c e added same a = slots_from c 1 (initial_locals e.fields) same (rising local_start (initial_locals e.fields) (initial_places e.fields) (initials_in e.fields) a)
 
-rose_times : (c : Context) (z : ℕ → ℕ → Bool) (e : t.Entity) (m : Member) (r : Rose) → member_faults c e m ≡ [] → member_rose c e m ≡ Some r → times z r ≡ local_times c z (locals_of e m)
+rose_times : (c : Context) (z : ℕ → ℕ → Bool) (e : t.Entity) (m : Member) (r : Rose) → member_faults c e m ≡ [] → member_rose c e m ≡ Some r → times z r ≡ local_times c z (member_locals e m)
 rose_times c z e (written x) r f is =
     maybe_n c z e.fields x x.body r (left_none (initial_faults c (initial_fields x.word e.fields)) (written_body_faults c (params_scope x.params) x.body) f) (right_none (initial_faults c (initial_fields x.word e.fields)) (written_body_faults c (params_scope x.params) x.body) f) is
 rose_times c z e added r f is = ap (times z) (sym (same_Some _ r is)) ∙ added_n c z e.fields e.name.span f
 
 -- A definition's slot is that of a local.
 pub defined_within : (c : Context) (e : t.Entity) (m : Member) (r : Rose) (k n : ℕ) (before after : List Node) → c.slots ≡ placed_of e m → MemberOrder e m → member_faults c e m ≡ [] → member_rose c e m ≡ Some r → put k r before ≡ Some (n, after)
-    → (i : ℕ) (w : Node) (s : ℕ) → length before ≤ i → slice_get after i ≡ Some w → w.kind ≡ node.Define s → (1 + param_count m ≤ s) × (s < 1 + param_count m + length (locals_of e m))
+    → (i : ℕ) (w : Node) (s : ℕ) → length before ≤ i → slice_get after i ≡ Some w → w.kind ≡ node.Define s → (1 + param_count m ≤ s) × (s < 1 + param_count m + length (member_locals e m))
 defined_within c e m r k n before after same a f is h i w s low g d =
     let first : ℕ = 1 + param_count m in
-    let last : ℕ = 1 + param_count m + length (locals_of e m) in
+    let last : ℕ = 1 + param_count m + length (member_locals e m) in
     let z = outside first last in
     let stand : WasPut k n before after = post_order k r n before after h in
     let all : node_times z after ≡ node_times z before + times z r = put_n z k r n before after h in
     let split : node_times z after ≡ node_times z before + node_times z stand.own = ap (node_times z) stand.behind ∙ node_join z before stand.own in
-    let none : times z r ≡ 0 = rose_times c z e m r f is ∙ none_outside c first last first (locals_of e m) (omega arith) (omega arith) (slots_are c e m same a) in
+    let none : times z r ≡ 0 = rose_times c z e m r f is ∙ none_outside c first last first (member_locals e m) (omega arith) (omega arith) (slots_are c e m same a) in
     let own : node_times z stand.own ≡ 0 = omega (arith, all, split, none) in
     elim (append_get before stand.own i w (ap (λ ns. slice_get ns i) (sym stand.behind) ∙ g)) [
       | inl old ↦ absurd (beyond before i w low old)

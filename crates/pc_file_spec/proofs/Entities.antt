@@ -14,14 +14,14 @@ use Rattle.pc_core.specs.declared.declarations.EntityDef.{EntityDef}
 use Rattle.pc_core.specs.declared.declarations.FieldInfo.{FieldInfo}
 use Rattle.pc_core.specs.declared.declarations.Method.{Method}
 use Rattle.pc_core.specs.CoreData.{CoreData}
-use Rattle.pc_core.specs.Entities.{built_in, built_in_value, out_field, print_method, IsAbstract, Names, Leads, one, more}
+use Rattle.pc_core.specs.Entities.{built_in, built_in_value, out_field, print_method, IsAbstract, Provides, Leads, one, more}
 use Rattle.pc_core.specs.EntityFits.{EntityFits}
 use Rattle.pc_core.specs.Lookup.{own_methods, field_name, method_name}
 use Rattle.pc_lists.specs.Places.{Each, Has, Differ, Ascends, IsIn}
 use Rattle.pc_lists.specs.Texts.{Text}
 use Rattle.pc_members.specs.Words.{built_in_names, texts_of, entity_names, field_texts, method_texts, or_nil}
 use Rattle.pc_members.specs.Chains.{IsAbove}
-use Rattle.pc_members.specs.Edges.{numbers_of}
+use Rattle.pc_members.specs.Edges.{entity_numbers}
 use Rattle.pc_tree.specs.BuiltIn.{first_own}
 use Rattle.pc_members.specs.Chains as chain
 use Rattle.pc_members.proofs.Differences.{equal_texts}
@@ -32,7 +32,7 @@ use Rattle.pc_members.specs.MemberLists.{members}
 use Rattle.pc_file_spec.specs.Members.{Owned, owned}
 use Rattle.pc_file_spec.specs.Known as known
 use Rattle.pc_file_spec.specs.Parts.{Parts}
-use Rattle.pc_file_spec.specs.Cores.{core_with, built_ins, entity_of, field_of}
+use Rattle.pc_file_spec.specs.Cores.{core_with, built_ins, core_entity, core_field}
 use Rattle.pc_body_spec.specs.Scopes.{text_from}
 use Rattle.pc_file_spec.proofs.Tables.{text_below, one_text, language_kept, member_there}
 use Rattle.pc_lists.proofs.Elements.{has_front, has_behind, each_none, ascends_none}
@@ -99,12 +99,12 @@ module _ (file : t.File) (above : List (List ℕ)) (q : Parts) (s : Setting file
   abbrev core : CoreData
   core = core_with file above q
 
-  names_to : (a b : ℕ) → chain.Names file a b → Names core a b
+  names_to : (a b : ℕ) → chain.ProvidesInFile file a b → Provides core a b
   names_to a b x =
       let r = entity_own file a x.0 x.1 in
       let n = x.2.0 in
-      let at : slice_get core.entities a ≡ Some (entity_of file above (first_own + r.0) (1 + starts file.entities file.entities r.0) x.0) = ap (slice_get core.entities) r.1 ∙ entity_get file above q r.0 x.0 r.2 in
-      (entity_of file above (first_own + r.0) (1 + starts file.entities file.entities r.0) x.0, at, is_in_has b (numbers_of (entity_names file) x.0.provides) (numbers_all (entity_names file) x.0.provides n b x.2.1.0 x.2.1.1 x.2.2))
+      let at : slice_get core.entities a ≡ Some (core_entity file above (first_own + r.0) (1 + starts file.entities file.entities r.0) x.0) = ap (slice_get core.entities) r.1 ∙ entity_get file above q r.0 x.0 r.2 in
+      (core_entity file above (first_own + r.0) (1 + starts file.entities file.entities r.0) x.0, at, is_in_has b (entity_numbers (entity_names file) x.0.provides) (numbers_all (entity_names file) x.0.provides n b x.2.1.0 x.2.1.1 x.2.2))
 
   no_provides : (n : ℕ) (x : EntityDef) → slice_get built_ins n ≡ Some x → x.provides ≡ []
   no_provides = six (λ n x. x.provides ≡ []) refl refl refl refl refl refl
@@ -112,20 +112,20 @@ module _ (file : t.File) (above : List (List ℕ)) (q : Parts) (s : Setting file
   nothing_in : {T : Type 0} (xs : List T) (b : T) → xs ≡ [] → Has xs b → T
   nothing_in xs b e h = absurd (none-some b (ap (λ ys. slice_get ys h.0) (sym e) ∙ h.1))
 
-  names_of : (a b : ℕ) → Names core a b → chain.Names file a b
+  names_of : (a b : ℕ) → Provides core a b → chain.ProvidesInFile file a b
   names_of a b x = elim (entity_cases file above q a x.0 x.1) [
     | inl c ↦ absurd (none-some b (ap (λ ys. slice_get ys x.2.0) (sym (no_provides a x.0 c)) ∙ x.2.1))
     | inr f ↦
-        let there : slice_get (numbers_of (entity_names file) f.entity.provides) x.2.0 ≡ Some b = ap (λ (y : EntityDef). slice_get y.provides x.2.0) f.same ∙ x.2.1 in
-        let named = numbers_only (entity_names file) f.entity.provides b (has_is_in b (numbers_of (entity_names file) f.entity.provides) x.2.0 there) in
+        let there : slice_get (entity_numbers (entity_names file) f.entity.provides) x.2.0 ≡ Some b = ap (λ (y : EntityDef). slice_get y.provides x.2.0) f.same ∙ x.2.1 in
+        let named = numbers_only (entity_names file) f.entity.provides b (has_is_in b (entity_numbers (entity_names file) f.entity.provides) x.2.0 there) in
         (f.entity, subst (λ n. chain.entity_at file n f.entity) (sym f.number) (own_entity file f.place f.entity f.is_entity), named)
   ]
 
-  leads_to : {a b : ℕ} → chain.Leads file a b → Leads core a b
+  leads_to : {a b : ℕ} → chain.LeadsInFile file a b → Leads core a b
   leads_to {a} {b} (chain.one h) = one (names_to a b h)
   leads_to {a} (chain.more {b = d} h r) = more (names_to a d h) (leads_to r)
 
-  leads_of : {a b : ℕ} → Leads core a b → chain.Leads file a b
+  leads_of : {a b : ℕ} → Leads core a b → chain.LeadsInFile file a b
   leads_of {a} {b} (one h) = chain.one (names_of a b h)
   leads_of {a} (more {b = d} h r) = chain.more (names_of a d h) (leads_of r)
 
@@ -206,7 +206,7 @@ module _ (file : t.File) (above : List (List ℕ)) (q : Parts) (s : Setting file
   entities = file.entities
 
   abbrev own : ℕ → t.Entity → EntityDef
-  own i e = entity_of file above (first_own + i) (1 + starts entities entities i) e
+  own i e = core_entity file above (first_own + i) (1 + starts entities entities i) e
 
   -- A method of an entity is a member of it.
   pub record OwnMethod (i : ℕ) (e : t.Entity) (j : ℕ) (m : Method) : Type 0 where
@@ -256,11 +256,11 @@ module _ (file : t.File) (above : List (List ℕ)) (q : Parts) (s : Setting file
   name_at i e n k h g = elim (append_get (map field_name (own i e).fields) (map method_name (own_methods core (own i e))) n k g) [
     | inl a ↦
         let r = map_get field_name (own i e).fields n k a in
-        let f = map_get (field_of (known.texts_of file) (known.known_of file)) e.fields n r.0 r.1 in
+        let f = map_get (core_field (known.texts_of_file file) (known.known_of file)) e.fields n r.0 r.1 in
         (f.0.name.text, get_front (field_texts e.fields) (map member_text (members entities e)) n f.0.name.text (get_map (λ (y : t.Field). y.name.text) e.fields n f.0 f.1), field_there e n f.0 (i, h) f.1, sym r.2 ∙ ap field_name (sym f.2))
     | inr b ↦
         let low = b.0 in
-        let count : length (map field_name (own i e).fields) ≡ length e.fields = length-map (own i e).fields field_name ∙ length-map e.fields (field_of (known.texts_of file) (known.known_of file)) in
+        let count : length (map field_name (own i e).fields) ≡ length e.fields = length-map (own i e).fields field_name ∙ length-map e.fields (core_field (known.texts_of_file file) (known.known_of file)) in
         let fields : length (field_texts e.fields) ≡ length e.fields = length-map e.fields (λ (y : t.Field). y.name.text) in
         let j : ℕ = n - length (map field_name (own i e).fields) in
         let place : n ≡ length (field_texts e.fields) + j = omega (arith, low, count, fields) in
@@ -273,9 +273,10 @@ module _ (file : t.File) (above : List (List ℕ)) (q : Parts) (s : Setting file
   may_have true fs h = inr refl
   may_have false fs h = inl h
 
-  provides_trait : (i : ℕ) (e : t.Entity) → slice_get entities i ≡ Some e → Each (λ j b. IsAbstract core b) (numbers_of (entity_names file) e.provides)
+  provides_trait : (i : ℕ) (e : t.Entity) → slice_get entities i ≡ Some e
+      → Each (λ j b. IsAbstract core b) (entity_numbers (entity_names file) e.provides)
   provides_trait i e h j b g =
-      let named = numbers_only (entity_names file) e.provides b (has_is_in b (numbers_of (entity_names file) e.provides) j g) in
+      let named = numbers_only (entity_names file) e.provides b (has_is_in b (entity_numbers (entity_names file) e.provides) j g) in
       let n = named.0 in
       let f = is_trait_named entities n.text ((s.collects.sound e (i, h)).provides n named.1) in
       let at : slice_get (entity_names file) b ≡ Some n.text = position_get n.text (entity_names file) b named.2 in
@@ -293,16 +294,16 @@ module _ (file : t.File) (above : List (List ℕ)) (q : Parts) (s : Setting file
       let a = get_within above (first_own + i) within in
       let listed : or_nil (slice_get above (first_own + i)) ≡ a.0 = ap or_nil a.1 in
       let is_above : IsAbove file (first_own + i) a.0 = s.closes.1 (first_own + i) a.0 a.1 in
-      let count : length (own i e).fields ≡ length e.fields = length-map e.fields (field_of (known.texts_of file) (known.known_of file)) in
+      let count : length (own i e).fields ≡ length e.fields = length-map e.fields (core_field (known.texts_of_file file) (known.known_of file)) in
       let total = entities_length file above q in
       record {
         provides = provides_trait i e h;
         ascends = subst Ascends (sym listed) is_above.0;
         above = λ b. (λ g. leads_to ((is_above.1 b).0 (subst (λ xs. Has xs b) listed g)), λ l. subst (λ xs. Has xs b) (sym listed) ((is_above.1 b).1 (leads_of l)));
         few_fields = omega (arith, few, count);
-        placed_fields = elim (may_have (may_have_fields e.kind) e.fields (s.placed e (i, h)).0) [ inl n ↦ inl (ap (map (field_of (known.texts_of file) (known.known_of file))) n) | inr y ↦ inr y ];
+        placed_fields = elim (may_have (may_have_fields e.kind) e.fields (s.placed e (i, h)).0) [ inl n ↦ inl (ap (map (core_field (known.texts_of_file file) (known.known_of file))) n) | inr y ↦ inr y ];
         fields = λ j x g.
-            let f = map_get (field_of (known.texts_of file) (known.known_of file)) e.fields j x g in
+            let f = map_get (core_field (known.texts_of_file file) (known.known_of file)) e.fields j x g in
             let below = type_below file f.0.ty (sound.fields f.0 (j, f.1)) in
             subst (λ (y : FieldInfo). (y.name < length core.names) × (y.entity < length core.entities)) f.2 (text_below core.names f.0.name.text (field_there e j f.0 (i, h) f.1), omega (arith, below, total));
         names = λ n m k g l.

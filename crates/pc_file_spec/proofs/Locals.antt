@@ -6,7 +6,7 @@ use Rattle.std.proofs.lemmas.Option.{same_Some, none-some}
 use Rattle.std.proofs.lemmas.List.{length-append, length-map, length_push, append_assoc}
 use Rattle.pc_caps.specs.declared.capability.Cap.{Cap}
 use Rattle.pc_lists.proofs.Gets.{get_front, get_below, append_get, get_append}
-use Rattle.pc_tree.specs.declared.names.TypeRef.{TypeRef}
+use Rattle.pc_tree.specs.declared.written_names.TypeRef.{TypeRef}
 use Rattle.pc_tree.specs.declared.file.ParamDef.{ParamDef}
 use Rattle.pc_tree.specs.Tree as t
 use Rattle.pc_core.specs.declared.declarations.Method.{Method}
@@ -14,13 +14,13 @@ use Rattle.pc_core.specs.declared.nodes.Node.{Node}
 use Rattle.pc_core.specs.declared.nodes.NodeKind.TheVariants as node
 use Rattle.pc_core.specs.CoreData.{CoreData}
 use Rattle.pc_core.specs.Lookup.{own_nodes, node_end}
-use Rattle.pc_core.specs.Methods.{PostOrder, BodyFits, LocalFits, Uses, is_local}
+use Rattle.pc_core.specs.Methods.{PostOrder, BodyFits, LocalFits, UsesSlot, is_local}
 use Rattle.pc_lists.specs.Places.{Each, Has, Differ, IsIn}
 use Rattle.pc_body_spec.specs.Roses.{Rose, put}
 use Rattle.pc_body_spec.specs.Scopes.{Context, params_scope, params_from}
 use Rattle.pc_body_spec.specs.Slots.{Local, local_slot, local_kind, written_of}
 use Rattle.pc_body_spec.specs.Visibility.{Scoped, slots}
-use Rattle.pc_body_spec.specs.Meanings.{Names}
+use Rattle.pc_body_spec.specs.Meanings.{NamesWhatIsThere}
 use Rattle.pc_body_spec.specs.Laws.{WasPut, IsItem, IsDefined, IsDefinedOnce}
 use Rattle.pc_body_spec.proofs.BodyScopes.{bodies_are_scoped, added_bodies_are_scoped}
 use Rattle.pc_body_spec.proofs.Locals.{locals_are_defined}
@@ -28,7 +28,7 @@ use Rattle.pc_body_spec.proofs.Nodes.{beyond}
 use Rattle.pc_body_spec.proofs.Once.{locals_are_defined_once, added_locals_are_defined_once}
 use Rattle.pc_members.specs.Members.{Member, written, added}
 use Rattle.pc_file_spec.specs.Members.{Owned}
-use Rattle.pc_file_spec.specs.Signatures.{context_of, placed_of, locals_of, params_of, param_of}
+use Rattle.pc_file_spec.specs.Signatures.{context_of, placed_of, member_locals, params_of, param_of}
 use Rattle.pc_file_spec.specs.Parts.{Parts}
 use Rattle.pc_file_spec.specs.Cores.{core_with}
 use Rattle.pc_file_spec.proofs.Steps.{member_faults, member_rose, Built}
@@ -63,7 +63,7 @@ params_count c (written x) = length-map x.params (param_of c.entities)
 params_count c added = refl
 
 member_once : (c : Context) (e : t.Entity) (x : Member) (r : Rose) (m n : ℕ) (before after : List Node) → c.slots ≡ placed_of e x → MemberOrder e x → member_faults c e x ≡ [] → member_rose c e x ≡ Some r → put m r before ≡ Some (n, after)
-    → (i : ℕ) (l : Local) → slice_get (locals_of e x) i ≡ Some l → IsDefinedOnce (1 + param_count x + i) l.depth before after
+    → (i : ℕ) (l : Local) → slice_get (member_locals e x) i ≡ Some l → IsDefinedOnce (1 + param_count x + i) l.depth before after
 member_once c e (written x) r m n before after same a f is h i l g = locals_are_defined_once c e.fields x r m n before after same a f is h i l g
 member_once c e added r m n before after same a f is h i l g =
     let k : 1 + i ≡ 1 + 0 + i = omega arith in
@@ -166,14 +166,14 @@ module _ (file : t.File) (above : List (List ℕ)) (q : Parts) (m : ℕ) (o : Ow
           let high = get_below b.after (length before + i) y at in
           let last = stands.last in
           elim (cases_lt (length before + i) b.last) [
-            | inl l ↦ absurd (subst (Names (context_of file o)) k (b.built.stands.names (length before + i) y low l at))
+            | inl l ↦ absurd (subst (NamesWhatIsThere (context_of file o)) k (b.built.stands.names (length before + i) y low l at))
             | inr l ↦ omega (arith, l, high, last)
           ]
 
   -- ---- locals
 
   abbrev Used : ℕ → Node → Type 0
-  Used i x = ((s : ℕ) → Uses s x.kind → IsIn s (visible_of o.member) ⊎ IsDefined b.after i s) × ((s : ℕ) → x.kind ≡ node.Define s → IsItem b.after i)
+  Used i x = ((s : ℕ) → UsesSlot s x.kind → IsIn s (visible_of o.member) ⊎ IsDefined b.after i s) × ((s : ℕ) → x.kind ≡ node.Define s → IsItem b.after i)
 
   pub used : (i : ℕ) (x : Node) → length before ≤ i → slice_get b.after i ≡ Some x → Used i x
   used = locals_are_defined (visible_of o.member) number b.built.rose b.last before b.after (member_scoped (context_of file o) o.owner o.member b.built.rose b.built.is_rose) b.built.put_is
@@ -201,7 +201,7 @@ module _ (file : t.File) (above : List (List ℕ)) (q : Parts) (m : ℕ) (o : Ow
   written_within all None ty l h = absurd (none-some ty h)
   written_within all (Some x) ty l h = let g = written_below 0 (context_of file o).entities x ty h in omega (arith, g, l)
 
-  pub local_fits : (i : ℕ) (l : Local) → MemberOrder o.owner o.member → member_faults (context_of file o) o.owner o.member ≡ [] → length (context_of file o).entities ≤ entity_count → slice_get (locals_of o.owner o.member) i ≡ Some l
+  pub local_fits : (i : ℕ) (l : Local) → MemberOrder o.owner o.member → member_faults (context_of file o) o.owner o.member ≡ [] → length (context_of file o).entities ≤ entity_count → slice_get (member_locals o.owner o.member) i ≡ Some l
       → LocalFits core number (1 + param_count o.member + i) (local_slot (context_of file o) number l)
   local_fits i l ordered no_fault size h =
       let s : ℕ = 1 + param_count o.member + i in
@@ -226,7 +226,7 @@ module _ (file : t.File) (above : List (List ℕ)) (q : Parts) (m : ℕ) (o : Ow
         later = λ k y g e u. let r = mine k y g e in later s (omega arith) once item k y r.0 r.1 u;
       }
     where
-      later : (s : ℕ) → 1 + param_count o.member ≤ s → (once : IsDefinedOnce s l.depth before b.after) (item : IsItem b.after once.define) (k : ℕ) (y : Node) → length before ≤ k → slice_get b.after k ≡ Some y → Uses s y.kind → (once.define < k) × (k < item.sequence)
+      later : (s : ℕ) → 1 + param_count o.member ≤ s → (once : IsDefinedOnce s l.depth before b.after) (item : IsItem b.after once.define) (k : ℕ) (y : Node) → length before ≤ k → slice_get b.after k ≡ Some y → UsesSlot s y.kind → (once.define < k) × (k < item.sequence)
       later s big once item k y low g u = elim ((used k y low g).0 s u) [
         | inl v ↦ let w = visible_within o.member s v in let x = w.1 in absurd (omega (arith, x, big))
         | inr d ↦

@@ -20,7 +20,7 @@ use Rattle.pc_names.specs.declared.fault.NameFault.TheVariants as fault
 use Rattle.pc_members.specs.Words.{is_new}
 use Rattle.pc_tree.specs.BuiltIn.{first_own}
 use Rattle.pc_members.proofs.Differences.{equal_texts}
-use Rattle.pc_names.specs.Mains.{is_actor, is_val, is_env, takes_env, begins, is_main, main_faults}
+use Rattle.pc_names.specs.Mains.{is_actor, is_val, is_env, takes_env, begins_program, is_main, main_faults}
 use Rattle.pc_lists.proofs.Bools.{true_false}
 use Rattle.pc_body_spec.specs.Slots.{cap_or}
 use Rattle.pc_members.specs.Members.{written}
@@ -29,7 +29,7 @@ use Rattle.pc_file_spec.specs.Members.{Owned, owned}
 use Rattle.pc_file_spec.specs.Known.{known_of}
 use Rattle.pc_file_spec.specs.Signatures.{param_of}
 use Rattle.pc_file_spec.specs.Parts.{Parts}
-use Rattle.pc_file_spec.specs.Cores.{core_with, entity_of}
+use Rattle.pc_file_spec.specs.Cores.{core_with, core_entity}
 use Rattle.pc_file_spec.proofs.Tables.{text_found}
 use Rattle.pc_file_spec.proofs.Owners.{starts, own_member}
 use Rattle.pc_file_spec.proofs.Types.{env_type}
@@ -56,11 +56,12 @@ main_is (e ∷ es) h = by (λ g. main_is es g) (bytes_eq e.name.text (codes "Mai
     by rest true f false g k = absurd (subst IsNone (sym k) tt)
     by rest false f b g k = let r = rest k in (suc r.0, r.1, r.2, r.3, r.4)
 
-any_is : (ms : List t.Method) → list_any begins ms ≡ true → (j : ℕ) × (m : t.Method) × (slice_get ms j ≡ Some m) × (begins m ≡ true)
+any_is : (ms : List t.Method) → list_any begins_program ms ≡ true
+    → (j : ℕ) × (m : t.Method) × (slice_get ms j ≡ Some m) × (begins_program m ≡ true)
 any_is [] h = absurd (true_false (sym h))
-any_is (m ∷ ms) h = by (λ g. any_is ms g) (begins m) refl h
+any_is (m ∷ ms) h = by (λ g. any_is ms g) (begins_program m) refl h
   where
-    by : (list_any begins ms ≡ true → (j : ℕ) × (x : t.Method) × (slice_get ms j ≡ Some x) × (begins x ≡ true)) → (b : Bool) → begins m ≡ b → (b || list_any begins ms) ≡ true → (j : ℕ) × (x : t.Method) × (slice_get (m ∷ ms) j ≡ Some x) × (begins x ≡ true)
+    by : (list_any begins_program ms ≡ true → (j : ℕ) × (x : t.Method) × (slice_get ms j ≡ Some x) × (begins_program x ≡ true)) → (b : Bool) → begins_program m ≡ b → (b || list_any begins_program ms) ≡ true → (j : ℕ) × (x : t.Method) × (slice_get (m ∷ ms) j ≡ Some x) × (begins_program x ≡ true)
     by rest true e k = (0, m, refl, e)
     by rest false e k = let r = rest k in (suc r.0, r.1, r.2, r.3)
 
@@ -101,7 +102,7 @@ has_main file above q s =
     let main = main_is es s.collects.main in
     let i : ℕ = main.0 in
     let e : t.Entity = main.1 in
-    let tests = and_parts (is_actor e.kind) (list_any begins e.methods) main.4 in
+    let tests = and_parts (is_actor e.kind) (list_any begins_program e.methods) main.4 in
     let actor : e.kind ≡ kind.Actor = actor_is e.kind tests.0 in
     let any = any_is e.methods tests.1 in
     let j : ℕ = any.0 in
@@ -118,7 +119,7 @@ has_main file above q s =
     let a : At file q (1 + (starts es es i + j)) o = s.parts.at (starts es es i + j) o place in
     record {
       entity = first_own + i;
-      main = entity_of file above (first_own + i) (1 + starts es es i) e;
+      main = core_entity file above (first_own + i) (1 + starts es es i) e;
       is_entity = entity_get file above q i e main.2;
       name = main.3;
       actor = actor;

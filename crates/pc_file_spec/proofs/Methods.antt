@@ -21,9 +21,9 @@ use Rattle.pc_body_spec.specs.Slots.{local_slot}
 use Rattle.pc_members.specs.MemberLists.{members}
 use Rattle.pc_file_spec.specs.Members.{Owned}
 use Rattle.pc_file_spec.specs.Known.{known_of}
-use Rattle.pc_file_spec.specs.Signatures.{context_of, slots_from, locals_of}
+use Rattle.pc_file_spec.specs.Signatures.{context_of, slots_from, member_locals}
 use Rattle.pc_file_spec.specs.Parts.{Parts}
-use Rattle.pc_file_spec.specs.Cores.{core_with, entity_of}
+use Rattle.pc_file_spec.specs.Cores.{core_with, core_entity}
 use Rattle.pc_file_spec.proofs.Tables.{text_below, language_kept}
 use Rattle.pc_file_spec.proofs.Steps.{member_names, slots_count}
 use Rattle.pc_file_spec.proofs.Owners.{starts, Owner, owner_of}
@@ -76,9 +76,9 @@ module _ (file : t.File) (above : List (List ℕ)) (q : Parts) (s : Setting file
         let whole : q.slots ≡ a.before.slots ++ (new_slots ++ a.extends.slots) = a.extends.is_slots ∙ append_assoc a.before.slots new_slots a.extends.slots in
         ap (λ xs. slice_range xs (length a.before.slots) (length a.before.slots + length new_slots)) whole ∙ range_middle a.before.slots new_slots a.extends.slots (length a.before.slots + length new_slots) refl
 
-    locals_fit : Each (λ i x. LocalFits core number (1 + length this_method.params + i) x) (map (local_slot (context_of file o) number) (locals_of o.owner o.member))
+    locals_fit : Each (λ i x. LocalFits core number (1 + length this_method.params + i) x) (map (local_slot (context_of file o) number) (member_locals o.owner o.member))
     locals_fit i x e =
-        let r = map_get (local_slot (context_of file o) number) (locals_of o.owner o.member) i x e in
+        let r = map_get (local_slot (context_of file o) number) (member_locals o.owner o.member) i x e in
         elim a.made.ends [
           | inl n ↦
               let none = (bodiless (context_of file o) o.owner o.member (placed_of file o.owner o.member s.placed sort) n.1).1 in
@@ -94,7 +94,7 @@ module _ (file : t.File) (above : List (List ℕ)) (q : Parts) (s : Setting file
         ]
 
     slots_fit : SlotsFit core number this_method
-    slots_fit = (map (local_slot (context_of file o) number) (locals_of o.owner o.member), own_slots_are, locals_fit)
+    slots_fit = (map (local_slot (context_of file o) number) (member_locals o.owner o.member), own_slots_are, locals_fit)
 
     few_slots : length new_slots ≤ 64
     few_slots = let few = a.made.few in let count : length new_slots ≡ 1 + length (member_names o.owner o.member) = slots_count (context_of file o) number o in omega (arith, few, count)
@@ -123,7 +123,7 @@ module _ (file : t.File) (above : List (List ℕ)) (q : Parts) (s : Setting file
         let below = owner_below in
         let result = member_result file above o.owner o.number o.member s.collects sort below in
         record {
-          owner = entity_of file above (first_own + owner.entity) (1 + starts file.entities file.entities owner.entity) o.owner;
+          owner = core_entity file above (first_own + owner.entity) (1 + starts file.entities file.entities owner.entity) o.owner;
           is_owner = ap (slice_get core.entities) owner.number ∙ entity_get file above q owner.entity o.owner owner.is_owner;
           placed = member_stands o.owner o.member (placed_of file o.owner o.member s.placed sort);
           name = text_below core.names _ (text_there file above q s o.owner o.member is_entity is_member);

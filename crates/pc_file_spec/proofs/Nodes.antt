@@ -15,7 +15,7 @@ use Rattle.pc_core.specs.declared.nodes.NodeKind.{NodeKind}
 use Rattle.pc_core.specs.declared.nodes.NodeKind.TheVariants as node
 use Rattle.pc_core.specs.declared.nodes.Slot.{Slot}
 use Rattle.pc_core.specs.CoreData.{CoreData}
-use Rattle.pc_core.specs.Methods.{Uses, is_local}
+use Rattle.pc_core.specs.Methods.{UsesSlot, is_local}
 use Rattle.pc_core.specs.MethodKinds.{constructor_kind, word_kind, param_slot}
 use Rattle.pc_core.specs.Nodes.{NodeFits, NamesFit, NamesPrimitive, NamesSlot, NamesLocal}
 use Rattle.pc_core.specs.Lookup.{NamesMethod}
@@ -23,17 +23,17 @@ use Rattle.pc_lists.specs.Places.{Each, Has}
 use Rattle.pc_members.specs.Words.{is_new}
 use Rattle.pc_tree.specs.BuiltIn.{first_own}
 use Rattle.pc_lists.proofs.Bools.{true_false}
-use Rattle.pc_body_spec.specs.Scopes.{Context, Known, Constructor}
+use Rattle.pc_body_spec.specs.Scopes.{Context, KnownEntity, Constructor}
 use Rattle.pc_body_spec.specs.Slots.{Local, local_slot, local_kind}
-use Rattle.pc_body_spec.specs.Meanings.{Names, IsOfKind, IsConstructor}
+use Rattle.pc_body_spec.specs.Meanings.{NamesWhatIsThere, IsOfKind, IsConstructor}
 use Rattle.pc_body_spec.specs.Laws.{HasChildren}
 use Rattle.pc_members.specs.Members.{Member, written, added, is_constructor}
 use Rattle.pc_members.specs.MemberLists.{members}
 use Rattle.pc_file_spec.specs.Members.{Owned, owned}
 use Rattle.pc_file_spec.specs.Known.{known_of, known_from, built_in_known}
-use Rattle.pc_file_spec.specs.Signatures.{context_of, slots_from, own_this, params_of, locals_of, kind_of}
+use Rattle.pc_file_spec.specs.Signatures.{context_of, slots_from, own_this, params_of, member_locals, kind_of}
 use Rattle.pc_file_spec.specs.Parts.{Parts}
-use Rattle.pc_file_spec.specs.Cores.{core_with, entity_of}
+use Rattle.pc_file_spec.specs.Cores.{core_with, core_entity}
 use Rattle.pc_file_spec.proofs.Steps.{names_count, slots_count, member_names}
 use Rattle.pc_file_spec.proofs.Owners.{starts, own_member, known_at, constructor_at}
 use Rattle.pc_file_spec.proofs.Parts.{At}
@@ -44,13 +44,13 @@ use Rattle.pc_file_spec.proofs.Methods.{ordered}
 
 -- ---- known entities
 
-no_constructors : (n : ℕ) (x : Known) (y : Constructor) → slice_get built_in_known n ≡ Some x → Has x.constructors y → ⊥
-no_constructors zero x y h g = none-some y (ap (λ (z : Known). slice_get z.constructors g.0) (same_Some _ x h) ∙ g.1)
-no_constructors (suc zero) x y h g = none-some y (ap (λ (z : Known). slice_get z.constructors g.0) (same_Some _ x h) ∙ g.1)
-no_constructors (suc (suc zero)) x y h g = none-some y (ap (λ (z : Known). slice_get z.constructors g.0) (same_Some _ x h) ∙ g.1)
-no_constructors (suc (suc (suc zero))) x y h g = none-some y (ap (λ (z : Known). slice_get z.constructors g.0) (same_Some _ x h) ∙ g.1)
-no_constructors (suc (suc (suc (suc zero)))) x y h g = none-some y (ap (λ (z : Known). slice_get z.constructors g.0) (same_Some _ x h) ∙ g.1)
-no_constructors (suc (suc (suc (suc (suc zero))))) x y h g = none-some y (ap (λ (z : Known). slice_get z.constructors g.0) (same_Some _ x h) ∙ g.1)
+no_constructors : (n : ℕ) (x : KnownEntity) (y : Constructor) → slice_get built_in_known n ≡ Some x → Has x.constructors y → ⊥
+no_constructors zero x y h g = none-some y (ap (λ (z : KnownEntity). slice_get z.constructors g.0) (same_Some _ x h) ∙ g.1)
+no_constructors (suc zero) x y h g = none-some y (ap (λ (z : KnownEntity). slice_get z.constructors g.0) (same_Some _ x h) ∙ g.1)
+no_constructors (suc (suc zero)) x y h g = none-some y (ap (λ (z : KnownEntity). slice_get z.constructors g.0) (same_Some _ x h) ∙ g.1)
+no_constructors (suc (suc (suc zero))) x y h g = none-some y (ap (λ (z : KnownEntity). slice_get z.constructors g.0) (same_Some _ x h) ∙ g.1)
+no_constructors (suc (suc (suc (suc zero)))) x y h g = none-some y (ap (λ (z : KnownEntity). slice_get z.constructors g.0) (same_Some _ x h) ∙ g.1)
+no_constructors (suc (suc (suc (suc (suc zero))))) x y h g = none-some y (ap (λ (z : KnownEntity). slice_get z.constructors g.0) (same_Some _ x h) ∙ g.1)
 no_constructors (suc (suc (suc (suc (suc (suc n)))))) x y h g = none-some x h
 
 word_constructs : (k : EntityKind) (w : MethodWord) → is_new w ≡ true → word_kind k w ≡ constructor_kind k
@@ -79,7 +79,7 @@ module _ (file : t.File) (above : List (List ℕ)) (q : Parts) (s : Setting file
         let low = b.0 in
         let k = known_at file.entities file.entities 1 i h.1.0 b.1 in
         let number : e ≡ first_own + i = omega (arith, low) in
-        inr (h.0, (entity_of file above (first_own + i) (1 + starts file.entities file.entities i) k.0, ap (slice_get core.entities) number ∙ entity_get file above q i k.0 k.1, sym k.2 ∙ h.1.2))
+        inr (h.0, (core_entity file above (first_own + i) (1 + starts file.entities file.entities i) k.0, ap (slice_get core.entities) number ∙ entity_get file above q i k.0 k.1, sym k.2 ∙ h.1.2))
   ]
 
   constructor_there : (c : Context) (k : EntityKind) (m : ℕ) → c.entities ≡ known_of file → IsConstructor c k m → NamesMethod core (constructor_kind k) m
@@ -100,7 +100,7 @@ module _ (file : t.File) (above : List (List ℕ)) (q : Parts) (s : Setting file
 
   -- ---- what a node refers to
 
-  names_fit : (c : Context) (m : ℕ) (k : NodeKind) → c.entities ≡ known_of file → length c.texts ≡ length core.names → Names c k → ((i : ℕ) → Uses i k → NamesSlot core m i) → ((i : ℕ) → k ≡ node.Define i → NamesLocal core m i) → NamesFit core m k
+  names_fit : (c : Context) (m : ℕ) (k : NodeKind) → c.entities ≡ known_of file → length c.texts ≡ length core.names → NamesWhatIsThere c k → ((i : ℕ) → UsesSlot i k → NamesSlot core m i) → ((i : ℕ) → k ≡ node.Define i → NamesLocal core m i) → NamesFit core m k
   names_fit c m (node.Prim e) same texts h uses defines = primitive_there c e same h
   names_fit c m (node.New n) same texts h uses defines = constructor_there c kind.Class n same h
   names_fit c m (node.Spawn n) same texts h uses defines = constructor_there c kind.Actor n same h
@@ -139,7 +139,7 @@ module _ (file : t.File) (above : List (List ℕ)) (q : Parts) (s : Setting file
     this_get = ap (slice_get core.methods) a.number ∙ at_get file q m o a
 
     abbrev local_count : ℕ
-    local_count = length (locals_of o.owner o.member)
+    local_count = length (member_locals o.owner o.member)
 
     count : length new_slots ≡ 1 + param_count o.member + local_count
     count =
@@ -151,7 +151,8 @@ module _ (file : t.File) (above : List (List ℕ)) (q : Parts) (s : Setting file
     within : (i : ℕ) (y : Node) (k : ℕ) → length a.before.nodes ≤ i → slice_get b.after i ≡ Some y → y.kind ≡ node.Define k → (1 + param_count o.member ≤ k) × (k < 1 + param_count o.member + local_count)
     within i y k low h d = defined_within (context_of file o) o.owner o.member b.built.rose number b.last a.before.nodes b.after refl (ordered file above q s place o is m a) a.made.no_fault b.built.is_rose b.built.put_is i y k low h d
 
-    slot_there : (i : ℕ) (y : Node) (k : ℕ) → length a.before.nodes ≤ i → slice_get b.after i ≡ Some y → Uses k y.kind → NamesSlot core number k
+    slot_there : (i : ℕ) (y : Node) (k : ℕ) → length a.before.nodes ≤ i → slice_get b.after i ≡ Some y → UsesSlot k y.kind
+        → NamesSlot core number k
     slot_there i y k low h u = elim ((used file above q m o a b i y low h).0 k u) [
       | inl v ↦ let w = visible_within o.member k v in let from = w.0 in let to = w.1 in let all = count in (omega (arith, from), (method_at file q m o a, this_get, omega (arith, to, all)))
       | inr d ↦
@@ -169,14 +170,14 @@ module _ (file : t.File) (above : List (List ℕ)) (q : Parts) (s : Setting file
     kind_local true = refl
     kind_local false = refl
 
-    slot_get : (j : ℕ) (l : Local) → slice_get (locals_of o.owner o.member) j ≡ Some l → slice_get new_slots (1 + param_count o.member + j) ≡ Some (local_slot (context_of file o) number l)
+    slot_get : (j : ℕ) (l : Local) → slice_get (member_locals o.owner o.member) j ≡ Some l → slice_get new_slots (1 + param_count o.member + j) ≡ Some (local_slot (context_of file o) number l)
     slot_get j l h =
         let ps = map (param_slot number) (params_of (context_of file o).entities o.member) in
         let params : length ps ≡ length (params_of (context_of file o).entities o.member) = length-map (params_of (context_of file o).entities o.member) (param_slot number) in
         let same = params_count (context_of file o) o.member in
         let first : List Slot = own_this number o ∷ ps in
         let at : 1 + param_count o.member + j ≡ length first + j = omega (arith, params, same) in
-        ap (slice_get new_slots) at ∙ get_append first (map (local_slot (context_of file o) number) (locals_of o.owner o.member)) j ∙ get_map (local_slot (context_of file o) number) (locals_of o.owner o.member) j l h
+        ap (slice_get new_slots) at ∙ get_append first (map (local_slot (context_of file o) number) (member_locals o.owner o.member)) j ∙ get_map (local_slot (context_of file o) number) (member_locals o.owner o.member) j l h
 
     local_there : (i : ℕ) (y : Node) (k : ℕ) → length a.before.nodes ≤ i → slice_get b.after i ≡ Some y → y.kind ≡ node.Define k → NamesLocal core number k
     local_there i y k low h d =
@@ -186,7 +187,7 @@ module _ (file : t.File) (above : List (List ℕ)) (q : Parts) (s : Setting file
         let all = count in
         let j : ℕ = k - (1 + param_count o.member) in
         let below : j < local_count = omega (arith, from, to) in
-        let l = get_within (locals_of o.owner o.member) j below in
+        let l = get_within (member_locals o.owner o.member) j below in
         let at : k ≡ 1 + param_count o.member + j = omega (arith, from) in
         let slots : slice_get q.slots (length a.before.slots + k) ≡ Some (local_slot (context_of file o) number l.0) =
         ap (λ xs. slice_get xs (length a.before.slots + k)) (a.extends.is_slots ∙ append_assoc a.before.slots new_slots a.extends.slots)

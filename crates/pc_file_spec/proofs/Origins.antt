@@ -6,7 +6,7 @@ use Rattle.std.proofs.lemmas.Option.{same_Some, none-some}
 use Rattle.std.proofs.lemmas.List.{append_assoc, map-append}
 use Rattle.pc_tree.specs.declared.kinds.EntityKind.{EntityKind}
 use Rattle.pc_tree.specs.declared.kinds.EntityKind.TheVariants as kind
-use Rattle.pc_tree.specs.declared.names.Name.{Name}
+use Rattle.pc_tree.specs.declared.written_names.Name.{Name}
 use Rattle.pc_tree.specs.declared.kinds.MethodWord.TheVariants as word
 use Rattle.pc_tree.specs.Kinds.{is_abstract, may_stand, FieldsIf, MayHaveFields}
 use Rattle.pc_tree.specs.Tree as t
@@ -19,7 +19,8 @@ use Rattle.pc_members.proofs.Differences.{differ_push}
 use Rattle.pc_members.proofs.Named.{named_is, one_entity, is_trait_named}
 use Rattle.pc_lists.proofs.Bools.{true_false, first_true, second_true}
 use Rattle.pc_members.specs.Members.{Member, written, added, without_body, added_text, own_texts, is_takable, added_if, member_text}
-use Rattle.pc_members.specs.MemberLists.{firsts, entity_named, of_entity, of_each, trait_methods, abstract_methods, taken, taken_over, abstract_members, concrete_members, members}
+use Rattle.pc_members.specs.MemberLists.{firsts, entity_named, of_entity, of_each, trait_methods, abstract_methods, methods_taken_over, taken_over}
+use Rattle.pc_members.specs.MemberLists.{abstract_members, concrete_members, members}
 use Rattle.pc_file_spec.specs.Order.{InPlace}
 use Rattle.pc_lists.proofs.Elements.{has_on, has_either, differ_none}
 use Rattle.pc_names.proofs.Founded.{Adds, adds_differ}
@@ -85,7 +86,8 @@ written_in file above c (suc k) e x he is h = elim (has_either e.methods (of_eac
 
 -- ---- the methods that are taken over
 
-pub taken_has : (k : EntityKind) (known : List Text) (ms : List t.Method) (x : t.Method) → Has (taken k known ms) x → Has ms x × (is_takable k x ≡ true)
+pub taken_has : (k : EntityKind) (known : List Text) (ms : List t.Method) (x : t.Method) → Has (methods_taken_over k known ms) x
+    → Has ms x × (is_takable k x ≡ true)
 taken_has k known [] x h = absurd (none-some x h.1)
 taken_has k known (m ∷ ms) x h = by (λ l g. taken_has k l ms x g) (is_takable k m && not (is_among m.name.text known)) refl h
   where
@@ -93,16 +95,17 @@ taken_has k known (m ∷ ms) x h = by (λ l g. taken_has k l ms x g) (is_takable
     first rest e f (zero, g) = ((0, g), subst (λ y. is_takable k y ≡ true) (same_Some m x g) e)
     first rest e f (suc i, g) = let r = f (i, g) in (has_on m ms x r.0, r.1)
 
-    by : ((l : List Text) → Has (taken k l ms) x → Has ms x × (is_takable k x ≡ true)) → (b : Bool) → (is_takable k m && not (is_among m.name.text known)) ≡ b
-        → Has (if b then m ∷ taken k (known ++ m.name.text ∷ []) ms else taken k known ms) x → Has (m ∷ ms) x × (is_takable k x ≡ true)
-    by rest true e g = first (taken k (known ++ m.name.text ∷ []) ms) (first_true (is_takable k m) (not (is_among m.name.text known)) e) (rest (known ++ m.name.text ∷ [])) g
+    by : ((l : List Text) → Has (methods_taken_over k l ms) x → Has ms x × (is_takable k x ≡ true)) → (b : Bool) → (is_takable k m && not (is_among m.name.text known)) ≡ b
+        → Has (if b then m ∷ methods_taken_over k (known ++ m.name.text ∷ []) ms else methods_taken_over k known ms) x
+            → Has (m ∷ ms) x × (is_takable k x ≡ true)
+    by rest true e g = first (methods_taken_over k (known ++ m.name.text ∷ []) ms) (first_true (is_takable k m) (not (is_among m.name.text known)) e) (rest (known ++ m.name.text ∷ [])) g
     by rest false e g = let r = rest known g in (has_on m ms x r.0, r.1)
 
-pub taken_add : (k : EntityKind) (known : List Text) (ms : List t.Method) → Adds known (method_texts (taken k known ms))
+pub taken_add : (k : EntityKind) (known : List Text) (ms : List t.Method) → Adds known (method_texts (methods_taken_over k known ms))
 taken_add k known [] = tt
 taken_add k known (m ∷ ms) = by (λ l. taken_add k l ms) (is_takable k m && not (is_among m.name.text known)) refl
   where
-    by : ((l : List Text) → Adds l (method_texts (taken k l ms))) → (b : Bool) → (is_takable k m && not (is_among m.name.text known)) ≡ b → Adds known (method_texts (if b then m ∷ taken k (known ++ m.name.text ∷ []) ms else taken k known ms))
+    by : ((l : List Text) → Adds l (method_texts (methods_taken_over k l ms))) → (b : Bool) → (is_takable k m && not (is_among m.name.text known)) ≡ b → Adds known (method_texts (if b then m ∷ methods_taken_over k (known ++ m.name.text ∷ []) ms else methods_taken_over k known ms))
     by rest true e = (not-true (is_among m.name.text known) (second_true (is_takable k m) (not (is_among m.name.text known)) e), rest (known ++ m.name.text ∷ []))
     by rest false e = rest known
 

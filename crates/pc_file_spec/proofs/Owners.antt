@@ -7,12 +7,12 @@ use Rattle.pc_lists.proofs.Gets.{get_front, append_get, get_append, get_map, map
 use Rattle.pc_tree.specs.Tree as t
 use Rattle.pc_core.specs.declared.declarations.EntityDef.{EntityDef}
 use Rattle.pc_lists.specs.Ranges.{Follow}
-use Rattle.pc_body_spec.specs.Scopes.{Known, Constructor}
+use Rattle.pc_body_spec.specs.Scopes.{KnownEntity, Constructor}
 use Rattle.pc_members.specs.Members.{Member, member_text, is_constructor}
 use Rattle.pc_members.specs.MemberLists.{members}
 use Rattle.pc_file_spec.specs.Members.{Owned, owned, members_from}
 use Rattle.pc_file_spec.specs.Known.{known_from, constructors_from}
-use Rattle.pc_file_spec.specs.Cores.{entity_of, entities_from}
+use Rattle.pc_file_spec.specs.Cores.{core_entity, entities_from}
 
 -- How many members the first i entities have.
 abbrev pub starts : List t.Entity → List t.Entity → ℕ → ℕ
@@ -22,18 +22,18 @@ starts all (e ∷ es) (suc i) = length (members all e) + starts all es i
 
 -- ---- the entities of a core
 
-pub entity_at : (file : t.File) (above : List (List ℕ)) (es : List t.Entity) (n at i : ℕ) (e : t.Entity) → slice_get es i ≡ Some e → slice_get (entities_from file above n at es) i ≡ Some (entity_of file above (n + i) (at + starts file.entities es i) e)
+pub entity_at : (file : t.File) (above : List (List ℕ)) (es : List t.Entity) (n at i : ℕ) (e : t.Entity) → slice_get es i ≡ Some e → slice_get (entities_from file above n at es) i ≡ Some (core_entity file above (n + i) (at + starts file.entities es i) e)
 entity_at file above [] n at i e h = absurd (none-some e h)
 entity_at file above (x ∷ es) n at zero e h =
     let m : n ≡ n + 0 = omega arith in
     let b : at ≡ at + 0 = omega arith in
-    ap (λ y. Some (entity_of file above n at y)) (same_Some x e h) ∙ ap (λ k. Some (entity_of file above k at e)) m ∙ ap (λ k. Some (entity_of file above (n + 0) k e)) b
+    ap (λ y. Some (core_entity file above n at y)) (same_Some x e h) ∙ ap (λ k. Some (core_entity file above k at e)) m ∙ ap (λ k. Some (core_entity file above (n + 0) k e)) b
 entity_at file above (x ∷ es) n at (suc i) e h =
     let m : suc n + i ≡ n + suc i = omega arith in
     let b : at + length (members file.entities x) + starts file.entities es i ≡ at + (length (members file.entities x) + starts file.entities es i) = omega arith in
-    entity_at file above es (suc n) (at + length (members file.entities x)) i e h ∙ ap (λ k. Some (entity_of file above k (at + length (members file.entities x) + starts file.entities es i) e)) m ∙ ap (λ k. Some (entity_of file above (n + suc i) k e)) b
+    entity_at file above es (suc n) (at + length (members file.entities x)) i e h ∙ ap (λ k. Some (core_entity file above k (at + length (members file.entities x) + starts file.entities es i) e)) m ∙ ap (λ k. Some (core_entity file above (n + suc i) k e)) b
 
-pub at_entity : (file : t.File) (above : List (List ℕ)) (es : List t.Entity) (n at i : ℕ) (x : EntityDef) → slice_get (entities_from file above n at es) i ≡ Some x → (e : t.Entity) × (slice_get es i ≡ Some e) × (entity_of file above (n + i) (at + starts file.entities es i) e ≡ x)
+pub at_entity : (file : t.File) (above : List (List ℕ)) (es : List t.Entity) (n at i : ℕ) (x : EntityDef) → slice_get (entities_from file above n at es) i ≡ Some x → (e : t.Entity) × (slice_get es i ≡ Some e) × (core_entity file above (n + i) (at + starts file.entities es i) e ≡ x)
 at_entity file above [] n at i x h = absurd (none-some x h)
 at_entity file above (y ∷ es) n at zero x h = (y, refl, same_Some _ x (sym (entity_at file above (y ∷ es) n at zero y refl) ∙ h))
 at_entity file above (y ∷ es) n at (suc i) x h =
@@ -97,12 +97,12 @@ owner_of all (e ∷ es) n k o h = elim (append_get (map (owned n e) (members all
 
 -- ---- what is known about entities
 
-pub known_at : (all es : List t.Entity) (at i : ℕ) (x : Known) → slice_get (known_from all at es) i ≡ Some x
+pub known_at : (all es : List t.Entity) (at i : ℕ) (x : KnownEntity) → slice_get (known_from all at es) i ≡ Some x
     → (e : t.Entity) × (slice_get es i ≡ Some e) × (x.kind ≡ e.kind) × (x.constructors ≡ constructors_from (at + starts all es i) (members all e))
 known_at all [] at i x h = absurd (none-some x h)
 known_at all (e ∷ es) at zero x h =
     let b : at ≡ at + 0 = omega arith in
-    (e, refl, ap (λ (y : Known). y.kind) (sym (same_Some _ x h)), ap (λ (y : Known). y.constructors) (sym (same_Some _ x h)) ∙ ap (λ k. constructors_from k (members all e)) b)
+    (e, refl, ap (λ (y : KnownEntity). y.kind) (sym (same_Some _ x h)), ap (λ (y : KnownEntity). y.constructors) (sym (same_Some _ x h)) ∙ ap (λ k. constructors_from k (members all e)) b)
 known_at all (e ∷ es) at (suc i) x h =
     let r = known_at all es (at + length (members all e)) i x h in
     let b : at + length (members all e) + starts all es i ≡ at + (length (members all e) + starts all es i) = omega arith in
@@ -112,7 +112,7 @@ pub known_count : (all es : List t.Entity) (at : ℕ) → length (known_from all
 known_count all [] at = refl
 known_count all (e ∷ es) at = ap suc (known_count all es (at + length (members all e)))
 
-pub known_names : (all es : List t.Entity) (at : ℕ) → map (λ (x : Known). x.name) (known_from all at es) ≡ map (λ (e : t.Entity). e.name.text) es
+pub known_names : (all es : List t.Entity) (at : ℕ) → map (λ (x : KnownEntity). x.name) (known_from all at es) ≡ map (λ (e : t.Entity). e.name.text) es
 known_names all [] at = refl
 known_names all (e ∷ es) at = ap (λ xs. e.name.text ∷ xs) (known_names all es (at + length (members all e)))
 

@@ -16,11 +16,11 @@ use Rattle.pc_lists.proofs.Ranges.{follow_append}
 use Rattle.pc_names.specs.declared.fault.NameFault.{NameFault}
 use Rattle.pc_caps.specs.Limits.{node_limit}
 use Rattle.pc_body_spec.specs.Scopes.{Context}
-use Rattle.pc_body_spec.specs.Methods.{Outcome}
+use Rattle.pc_body_spec.specs.Methods.{MethodOutcome}
 use Rattle.pc_file_spec.specs.Members.{Owned}
-use Rattle.pc_file_spec.specs.Known.{texts_of}
+use Rattle.pc_file_spec.specs.Known.{texts_of_file}
 use Rattle.pc_file_spec.specs.Signatures.{context_of, slots_from, declared}
-use Rattle.pc_file_spec.specs.Parts.{Parts, outcome, joined, with_outcome, and_member, and_members, if_ok, built_in_parts}
+use Rattle.pc_file_spec.specs.Parts.{Parts, outcome, joined_parts, with_outcome, and_member, and_members, if_ok, built_in_parts}
 use Rattle.pc_file_spec.proofs.Tables.{language_kept}
 use Rattle.pc_file_spec.proofs.Steps.{IsOk, same_ok, Made, made, Behind, behind, slots_count, member_names}
 
@@ -77,20 +77,20 @@ first_good = record { slots = omega arith; nodes = omega arith; earlier = λ i y
 -- ---- one more member
 
 module _ (file : t.File) where
-  some_text : 0 < length (texts_of file)
-  some_text = get_below (texts_of file) 0 _ (language_kept file 0 _ refl)
+  some_text : 0 < length (texts_of_file file)
+  some_text = get_below (texts_of_file file) 0 _ (language_kept file 0 _ refl)
 
   -- A member and its outcome.
   pub record Turn (p : Parts) (o : Owned) (q : Parts) : Type 0 where
     pub result : Option ℕ × List Node
     pub step : outcome (context_of file o) (length p.methods) o.owner o.member p.nodes ≡ Ok result
-    pub is_joined : q ≡ joined (context_of file o) p o result
+    pub is_joined : q ≡ joined_parts (context_of file o) p o result
 
   turned : (p : Parts) (o : Owned) (q : Parts) → and_member (context_of file o) p o ≡ Ok q → Turn p o q
   turned p o q h = by (outcome (context_of file o) (length p.methods) o.owner o.member p.nodes) refl h
     where
-      by : (r : Outcome) → outcome (context_of file o) (length p.methods) o.owner o.member p.nodes ≡ r → with_outcome (context_of file o) p o r ≡ Ok q → Turn p o q
-      by (Ok r) e g = record { result = r; step = e; is_joined = sym (same_ok (joined (context_of file o) p o r) q (Ok (joined (context_of file o) p o r)) refl g) }
+      by : (r : MethodOutcome) → outcome (context_of file o) (length p.methods) o.owner o.member p.nodes ≡ r → with_outcome (context_of file o) p o r ≡ Ok q → Turn p o q
+      by (Ok r) e g = record { result = r; step = e; is_joined = sym (same_ok (joined_parts (context_of file o) p o r) q (Ok (joined_parts (context_of file o) p o r)) refl g) }
       by (Err f) e g = absurd (subst IsOk (sym g) tt)
 
   pub made_of : (p : Parts) (o : Owned) (r : Option ℕ × List Node) → outcome (context_of file o) (length p.methods) o.owner o.member p.nodes ≡ Ok r → Made (context_of file o) (length p.methods) o.owner o.member p.nodes r
@@ -107,7 +107,7 @@ module _ (c : Context) (p : Parts) (o : Owned) (r : Option ℕ × List Node) (m 
   own : Behind (length p.methods) p.nodes r.1
   own = behind c (length p.methods) o.owner o.member p.nodes r m.ends
 
-  pub joined_extends : Extends p (joined c p o r)
+  pub joined_extends : Extends p (joined_parts c p o r)
   joined_extends = record {
     methods = new_method ∷ [];
     slots = new_slots;
@@ -138,7 +138,7 @@ module _ (c : Context) (p : Parts) (o : Owned) (r : Option ℕ × List Node) (m 
         (refl, omega (arith, e, f, last, more))
   ]
 
-  pub joined_good : Good p → Good (joined c p o r)
+  pub joined_good : Good p → Good (joined_parts c p o r)
   joined_good g =
       let count : length (p.methods ++ new_method ∷ []) ≡ length p.methods + 1 = length_push p.methods new_method in
       let slots_sum : length (p.slots ++ new_slots) ≡ length p.slots + length new_slots = length-append p.slots new_slots in
@@ -165,7 +165,7 @@ pub record At (file : t.File) (q : Parts) (m : ℕ) (o : Owned) : Type 0 where
   pub good : Good before
   pub result : Option ℕ × List Node
   pub made : Made (context_of file o) (length before.methods) o.owner o.member before.nodes result
-  pub extends : Extends (joined (context_of file o) before o result) q
+  pub extends : Extends (joined_parts (context_of file o) before o result) q
 
 -- All of these members, after some parts.
 pub record AllAt (file : t.File) (p : Parts) (os : List Owned) (q : Parts) : Type 0 where
@@ -194,7 +194,7 @@ all_at file (o ∷ os) p q g h =
     let both = if_both (and_member c p o) (λ x. and_members file x os) q h in
     let turn : Turn file p o both.0 = turned file p o both.0 both.1 in
     let m : Made c (length p.methods) o.owner o.member p.nodes turn.result = made_of file p o turn.result turn.step in
-    let next : Parts = joined c p o turn.result in
+    let next : Parts = joined_parts c p o turn.result in
     let rest : AllAt file next os q = all_at file os next q (joined_good c p o turn.result m g) (subst (λ x. and_members file x os ≡ Ok q) turn.is_joined both.2) in
     let count : length next.methods ≡ length p.methods + 1 = length_push p.methods _ in
     let total = rest.count in

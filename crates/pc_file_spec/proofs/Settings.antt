@@ -7,13 +7,13 @@ use Rattle.pc_tree.specs.Tree as t
 use Rattle.pc_core.specs.declared.declarations.EntityDef.{EntityDef}
 use Rattle.pc_core.specs.declared.declarations.Method.{Method}
 use Rattle.pc_core.specs.Entities.{print_method}
-use Rattle.pc_members.specs.Chains.{Closes}
+use Rattle.pc_members.specs.Chains.{IsTransitiveClosure}
 use Rattle.pc_tree.specs.BuiltIn.{first_own}
 use Rattle.pc_file_spec.specs.Members.{Owned, members_from}
 use Rattle.pc_file_spec.specs.Signatures.{context_of, slots_from, declared}
 use Rattle.pc_file_spec.specs.Parts.{Parts, built_in_parts}
-use Rattle.pc_file_spec.specs.Cores.{core_with, built_ins, entity_of, entities_from}
-use Rattle.pc_file_spec.specs.Order.{InPlace, InOrder}
+use Rattle.pc_file_spec.specs.Cores.{core_with, built_ins, core_entity, entities_from}
+use Rattle.pc_file_spec.specs.Order.{InPlace, NamesInOrder}
 use Rattle.pc_file_spec.proofs.Owners.{starts, entity_at, at_entity, entities_count}
 use Rattle.pc_file_spec.proofs.Collects.{Collects}
 use Rattle.pc_file_spec.proofs.Parts.{At, AllAt}
@@ -23,9 +23,9 @@ all_members file = members_from file.entities first_own file.entities
 
 pub record Setting (file : t.File) (above : List (List ℕ)) (q : Parts) : Type 0 where
   pub collects : Collects file above
-  pub closes : Closes file above
+  pub closes : IsTransitiveClosure file above
   pub placed : InPlace file
-  pub ordered : InOrder file
+  pub ordered : NamesInOrder file
   pub parts : AllAt file built_in_parts (all_members file) q
 
 -- ---- entities
@@ -33,7 +33,7 @@ pub record Setting (file : t.File) (above : List (List ℕ)) (q : Parts) : Type 
 pub entities_length : (file : t.File) (above : List (List ℕ)) (q : Parts) → length (core_with file above q).entities ≡ first_own + length file.entities
 entities_length file above q = let n = entities_count file above file.entities first_own 1 in omega (arith, n)
 
-pub entity_get : (file : t.File) (above : List (List ℕ)) (q : Parts) (i : ℕ) (e : t.Entity) → slice_get file.entities i ≡ Some e → slice_get (core_with file above q).entities (first_own + i) ≡ Some (entity_of file above (first_own + i) (1 + starts file.entities file.entities i) e)
+pub entity_get : (file : t.File) (above : List (List ℕ)) (q : Parts) (i : ℕ) (e : t.Entity) → slice_get file.entities i ≡ Some e → slice_get (core_with file above q).entities (first_own + i) ≡ Some (core_entity file above (first_own + i) (1 + starts file.entities file.entities i) e)
 entity_get file above q i e h = get_append built_ins (entities_from file above first_own 1 file.entities) i ∙ entity_at file above file.entities first_own 1 i e h
 
 -- An entity is built in, or of the file.
@@ -42,7 +42,7 @@ pub record OfFile (file : t.File) (above : List (List ℕ)) (n : ℕ) (x : Entit
   pub entity : t.Entity
   pub number : n ≡ first_own + place
   pub is_entity : slice_get file.entities place ≡ Some entity
-  pub same : entity_of file above (first_own + place) (1 + starts file.entities file.entities place) entity ≡ x
+  pub same : core_entity file above (first_own + place) (1 + starts file.entities file.entities place) entity ≡ x
 
 pub entity_cases : (file : t.File) (above : List (List ℕ)) (q : Parts) (n : ℕ) (x : EntityDef) → slice_get (core_with file above q).entities n ≡ Some x → (slice_get built_ins n ≡ Some x) ⊎ OfFile file above n x
 entity_cases file above q n x h = elim (append_get built_ins (entities_from file above first_own 1 file.entities) n x h) [

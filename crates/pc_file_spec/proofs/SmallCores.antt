@@ -17,9 +17,9 @@ use Rattle.pc_lists.proofs.Bools.{true_false}
 use Rattle.pc_lists.proofs.Elements.{differ_none}
 use Rattle.pc_body_spec.specs.Roses.{push}
 use Rattle.pc_body_spec.specs.Places.{body_places, initial_places}
-use Rattle.pc_file_spec.specs.Known.{texts_of}
+use Rattle.pc_file_spec.specs.Known.{texts_of_file}
 use Rattle.pc_file_spec.specs.Cores.{core_of, Stands}
-use Rattle.pc_file_spec.specs.Order.{InOrder, InPlace}
+use Rattle.pc_file_spec.specs.Order.{NamesInOrder, InPlace}
 use Rattle.pc_file_spec.specs.Example.{FirstStands, SecondStands, ThirdIsRefused, first_file, first_core, second_file, second_core, third_file, trait_a, trait_b, trait_t, trait_u, class_c, main, class_d, primitive_p, second_main, FourthStands, fourth_file, fourth_core, trait_with_bodies, trait_above, class_with_field, fourth_main}
 use Rattle.pc_file_spec.proofs.Formation.{stands_is_formed}
 
@@ -76,7 +76,7 @@ Placed e = MayHaveFields e.kind e.fields × ((m : t.Method) → Has e.methods m 
 placed : (e : t.Entity) → MayHaveFields e.kind e.fields → All (λ m. (may_stand e.kind m.word ≡ true) × HasBody e.kind m.body) e.methods → Placed e
 placed e h ms = (h, λ m g. all_has (λ x. (may_stand e.kind x.word ≡ true) × HasBody e.kind x.body) e.methods ms m g)
 
-first_ordered : InOrder first_file
+first_ordered : NamesInOrder first_file
 first_ordered = all_has Ordered first_file.entities
     (ordered trait_a refl (refl, (refl, tt)), (ordered trait_b refl (refl, (refl, tt)), (ordered trait_t refl (refl, tt), (ordered trait_u refl tt, (ordered class_c refl tt, (ordered main refl (refl, tt), tt))))))
 
@@ -84,13 +84,13 @@ first_placed : InPlace first_file
 first_placed = all_has Placed first_file.entities
     (placed trait_a refl ((refl, tt), ((refl, tt), tt)), (placed trait_b refl ((refl, tt), ((refl, tt), tt)), (placed trait_t refl ((refl, tt), tt), (placed trait_u refl tt, (placed class_c tt tt, (placed main tt ((refl, tt), tt), tt))))))
 
-second_ordered : InOrder second_file
+second_ordered : NamesInOrder second_file
 second_ordered = all_has Ordered second_file.entities (ordered class_d refl (refl, (refl, (refl, tt))), (ordered primitive_p refl tt, (ordered second_main refl (refl, tt), tt)))
 
 second_placed : InPlace second_file
 second_placed = all_has Placed second_file.entities (placed class_d tt ((refl, tt), ((refl, tt), ((refl, tt), tt))), (placed primitive_p refl tt, (placed second_main tt ((refl, tt), tt), tt)))
 
-fourth_ordered : InOrder fourth_file
+fourth_ordered : NamesInOrder fourth_file
 fourth_ordered = all_has Ordered fourth_file.entities (ordered trait_with_bodies refl (refl, (refl, tt)), (ordered trait_above refl (refl, (refl, tt)), (ordered class_with_field refl (refl, tt), (ordered fourth_main refl (refl, tt), tt))))
 
 fourth_placed : InPlace fourth_file
@@ -105,20 +105,20 @@ above_of file = above_all (edges_of file)
 collected : (file : t.File) → name_faults file (above_of file) ≡ [] → Collected file (record { entities = entity_names file; texts = []; above = above_of file })
 collected file f = record { faults = f; entities = refl; above = closes file; texts = differ_none }
 
-stands : (file : t.File) (core : CoreData) → name_faults file (above_of file) ≡ [] → core_of (above_of file) file ≡ Ok core → length (texts_of file) < 2 ^ 32 → Stands file core
+stands : (file : t.File) (core : CoreData) → name_faults file (above_of file) ≡ [] → core_of (above_of file) file ≡ Ok core → length (texts_of_file file) < 2 ^ 32 → Stands file core
 stands file core f h few = (record { entities = entity_names file; texts = []; above = above_of file }, collected file f, h, few)
 
 pub first_stands : FirstStands
 unfolding push
 first_stands =
-    let count : length (texts_of first_file) ≡ 11 = refl in
+    let count : length (texts_of_file first_file) ≡ 11 = refl in
     let s : Stands first_file first_core = stands first_file first_core refl refl (omega (arith, count)) in
     (s, stands_is_formed first_file first_core first_ordered first_placed s)
 
 pub second_stands : SecondStands
 unfolding push
 second_stands =
-    let count : length (texts_of second_file) ≡ 7 = refl in
+    let count : length (texts_of_file second_file) ≡ 7 = refl in
     let s : Stands second_file second_core = stands second_file second_core refl refl (omega (arith, count)) in
     (s, stands_is_formed second_file second_core second_ordered second_placed s)
 
@@ -129,6 +129,6 @@ third_is_refused = (record { entities = entity_names third_file; texts = []; abo
 pub fourth_stands : FourthStands
 unfolding push
 fourth_stands =
-    let count : length (texts_of fourth_file) ≡ 8 = refl in
+    let count : length (texts_of_file fourth_file) ≡ 8 = refl in
     let s : Stands fourth_file fourth_core = stands fourth_file fourth_core refl refl (omega (arith, count)) in
     (s, stands_is_formed fourth_file fourth_core fourth_ordered fourth_placed s)

@@ -6,7 +6,7 @@ use Rattle.std.proofs.lemmas.Option.{same_Some, none-some}
 use Rattle.std.proofs.lemmas.List.{length-append, length-map}
 use Rattle.pc_lists.proofs.Gets.{get_within}
 use Rattle.pc_caps.specs.declared.span.Span.{Span}
-use Rattle.pc_tree.specs.declared.names.Name.{Name}
+use Rattle.pc_tree.specs.declared.written_names.Name.{Name}
 use Rattle.pc_tree.specs.declared.file.ParamDef.{ParamDef}
 use Rattle.pc_tree.specs.Tree as t
 use Rattle.pc_core.specs.declared.nodes.Node.{Node}
@@ -15,19 +15,19 @@ use Rattle.pc_core.specs.MethodKinds.{param_slot}
 use Rattle.pc_body_spec.specs.Roses.{Rose, Numbered, put}
 use Rattle.pc_body_spec.specs.Scopes.{Context}
 use Rattle.pc_body_spec.specs.Bodies.{body_of, added_body}
-use Rattle.pc_body_spec.specs.Faults.{Fault, body_faults, initial_faults}
+use Rattle.pc_body_spec.specs.Faults.{BodyNameFault, body_faults, initial_faults}
 use Rattle.pc_body_spec.specs.Slots.{Local, initial_locals, method_locals, local_slot}
-use Rattle.pc_body_spec.specs.Methods.{Outcome, slot_names, local_names, param_names, unless_fault, unless_name, unless_full, numbered, put_body}
+use Rattle.pc_body_spec.specs.Methods.{MethodOutcome, slot_names, local_names, param_names, unless_fault, unless_name, unless_full, numbered_or_full, put_body}
 use Rattle.pc_body_spec.specs.Laws.{BodyStands}
 use Rattle.pc_body_spec.proofs.Bodies.{bodies_stand, added_bodies_stand}
 use Rattle.pc_members.specs.Members.{Member, written, added}
 use Rattle.pc_file_spec.specs.Members.{Owned}
-use Rattle.pc_file_spec.specs.Signatures.{slots_from, params_of, param_of, locals_of}
+use Rattle.pc_file_spec.specs.Signatures.{slots_from, params_of, param_of, member_locals}
 use Rattle.pc_file_spec.specs.Parts.{outcome}
 
 -- ---- the parts of an outcome
 
-abbrev pub member_faults : Context → t.Entity → Member → List Fault
+abbrev pub member_faults : Context → t.Entity → Member → List BodyNameFault
 member_faults c e (written x) = body_faults c e.fields x
 member_faults c e added = initial_faults c e.fields
 
@@ -43,7 +43,7 @@ abbrev member_place : t.Entity → Member → Span
 member_place e (written x) = x.name.span
 member_place e added = e.name.span
 
-abbrev member_rest : Context → ℕ → t.Entity → Member → List Node → Outcome
+abbrev member_rest : Context → ℕ → t.Entity → Member → List Node → MethodOutcome
 member_rest c m e x before = put_body m (member_place e x) (member_rose c e x) before
 
 outcome_is : (c : Context) (m : ℕ) (e : t.Entity) (x : Member) (before : List Node) → outcome c m e x before ≡ unless_fault (member_faults c e x) (unless_full (member_names e x) (member_rest c m e x before))
@@ -63,7 +63,7 @@ value (Err e) = None
 pub same_ok : {A B : Type 0} (x y : A) (r : Result A B) → r ≡ Ok x → r ≡ Ok y → x ≡ y
 same_ok x y r h g = same_Some x y (ap value (sym h ∙ g))
 
-record Passed (fs : List Fault) (names : List Name) (rest : Outcome) (r : Option ℕ × List Node) : Type 0 where
+record Passed (fs : List BodyNameFault) (names : List Name) (rest : MethodOutcome) (r : Option ℕ × List Node) : Type 0 where
   no_fault : fs ≡ []
   few : 1 + length names ≤ 64
   rest_is : rest ≡ Ok r
@@ -74,7 +74,7 @@ few_names names e = elim (cases_lt 63 (length names)) [
   | inr l ↦ omega (arith, l)
 ]
 
-passed : (fs : List Fault) (names : List Name) (rest : Outcome) (r : Option ℕ × List Node) → unless_fault fs (unless_full names rest) ≡ Ok r → Passed fs names rest r
+passed : (fs : List BodyNameFault) (names : List Name) (rest : MethodOutcome) (r : Option ℕ × List Node) → unless_fault fs (unless_full names rest) ≡ Ok r → Passed fs names rest r
 passed (f ∷ fs) names rest r h = absurd (subst IsOk (sym h) tt)
 passed [] names rest r h = by (slice_get names 63) refl h
   where
@@ -99,7 +99,7 @@ put_ends : (m : ℕ) (s : Span) (o : Option Rose) (before : List Node) (r : Opti
 put_ends m s None before r h = inl (sym (same_ok (None, before) r (Ok (None, before)) refl h), refl)
 put_ends m s (Some x) before r h = by (put m x before) refl h
   where
-    by : (p : Numbered ℕ) → put m x before ≡ p → numbered s p ≡ Ok r → ((r ≡ (None, before)) × (Some x ≡ None)) ⊎ ((n : ℕ) × (after : List Node) × (r ≡ (Some n, after)) × ((y : Rose) × (Some x ≡ Some y) × (put m y before ≡ Some (n, after))))
+    by : (p : Numbered ℕ) → put m x before ≡ p → numbered_or_full s p ≡ Ok r → ((r ≡ (None, before)) × (Some x ≡ None)) ⊎ ((n : ℕ) × (after : List Node) × (r ≡ (Some n, after)) × ((y : Rose) × (Some x ≡ Some y) × (put m y before ≡ Some (n, after))))
     by None e g = absurd (subst IsOk (sym g) tt)
     by (Some p) e g = inr (p.0, p.1, sym (same_ok (Some p.0, p.1) r (Ok (Some p.0, p.1)) refl g), (x, refl, e))
 
@@ -128,7 +128,7 @@ made c m e x before r some_text h =
 -- ---- its slots and nodes
 
 -- It has one slot for each name, and that of `this`.
-pub names_count : (c : Context) (e : t.Entity) (x : Member) → length (member_names e x) ≡ length (params_of c.entities x) + length (locals_of e x)
+pub names_count : (c : Context) (e : t.Entity) (x : Member) → length (member_names e x) ≡ length (params_of c.entities x) + length (member_locals e x)
 names_count c e (written x) =
     let all = length-append (param_names x.params) (local_names (method_locals e.fields x)) in
     let first : length (param_names x.params) ≡ length x.params = length-map x.params (λ (p : ParamDef). p.name) in
@@ -142,7 +142,7 @@ names_count c e added =
 pub slots_count : (c : Context) (m : ℕ) (o : Owned) → length (slots_from c m o) ≡ 1 + length (member_names o.owner o.member)
 slots_count c m o =
     let ps = params_of c.entities o.member in
-    let ls = locals_of o.owner o.member in
+    let ls = member_locals o.owner o.member in
     let all : length (map (param_slot m) ps ++ map (local_slot c m) ls) ≡ length (map (param_slot m) ps) + length (map (local_slot c m) ls) = length-append (map (param_slot m) ps) (map (local_slot c m) ls) in
     let first : length (map (param_slot m) ps) ≡ length ps = length-map ps (param_slot m) in
     let last : length (map (local_slot c m) ls) ≡ length ls = length-map ls (local_slot c m) in

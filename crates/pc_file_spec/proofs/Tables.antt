@@ -17,7 +17,7 @@ use Rattle.pc_lists.proofs.Bools.{true_false}
 use Rattle.pc_lists.proofs.Elements.{differ_none, has_front, has_behind}
 use Rattle.pc_body_spec.specs.Scopes.{text_from}
 use Rattle.pc_body_spec.specs.Texts.{entities_texts}
-use Rattle.pc_file_spec.specs.Known.{texts_of}
+use Rattle.pc_file_spec.specs.Known.{texts_of_file}
 use Rattle.pc_file_spec.specs.Laws.{IsNeeded, TextsAreThere}
 
 -- ---- tables
@@ -67,18 +67,18 @@ members_there (f ∷ es) names x (suc i) e h g = members_there es (with_names na
 abbrev pub language : List Text
 language = codes "out" ∷ codes "print" ∷ codes "create" ∷ codes "apply" ∷ []
 
-pub language_kept : (file : t.File) (i : ℕ) (x : Text) → slice_get language i ≡ Some x → slice_get (texts_of file) i ≡ Some x
+pub language_kept : (file : t.File) (i : ℕ) (x : Text) → slice_get language i ≡ Some x → slice_get (texts_of_file file) i ≡ Some x
 language_kept file i x h = names_kept (entities_texts file.entities) (with_members language file.entities) i x (members_kept file.entities language i x h)
 
-pub texts_differ : (file : t.File) → Differ (texts_of file)
+pub texts_differ : (file : t.File) → Differ (texts_of_file file)
 texts_differ file = names_differ (entities_texts file.entities) (with_members language file.entities) (members_differ file.entities language (names_differ language [] differ_none))
 
-pub member_there : (file : t.File) (e : t.Entity) (x : Text) → Has file.entities e → Has (field_texts e.fields ++ method_texts e.methods) x → Has (texts_of file) x
+pub member_there : (file : t.File) (e : t.Entity) (x : Text) → Has file.entities e → Has (field_texts e.fields ++ method_texts e.methods) x → Has (texts_of_file file) x
 member_there file e x h g =
     let there = members_there file.entities language x h.0 e h.1 g in
     (there.0, names_kept (entities_texts file.entities) (with_members language file.entities) there.0 x there.1)
 
-needed : (file : t.File) (x : Text) → IsNeeded file x → Has (texts_of file) x
+needed : (file : t.File) (x : Text) → IsNeeded file x → Has (texts_of_file file) x
 needed file x (inl h) = (h.0, language_kept file h.0 x h.1)
 needed file x (inr (inl h)) = member_there file h.0 x h.1 (⊎_elim (λ a. has_front (field_texts h.0.fields) (method_texts h.0.methods) x a) (λ b. has_behind (field_texts h.0.fields) (method_texts h.0.methods) x b) h.2)
 needed file x (inr (inr h)) = names_there (entities_texts file.entities) (with_members language file.entities) x h.0 h.1

@@ -17,7 +17,7 @@ use Rattle.pc_members.proofs.Differences.{has_among, among_has}
 use Rattle.pc_members.proofs.Named.{named_is, one_entity}
 use Rattle.pc_members.specs.Chains as chain
 use Rattle.pc_members.specs.Members.{Member, written, added, without_body, added_text, own_texts, is_takable, added_if, member_text}
-use Rattle.pc_members.specs.MemberLists.{entity_named, of_each, abstract_methods, taken, taken_over, abstract_members, concrete_members, members}
+use Rattle.pc_members.specs.MemberLists.{entity_named, of_each, abstract_methods, methods_taken_over, taken_over, abstract_members, concrete_members, members}
 use Rattle.pc_file_spec.specs.Laws.{WrittenAbove, TraitsHaveNoBodies, BodiesAreTaken, BodiesAreThere}
 use Rattle.pc_names.proofs.Founded.{Adds}
 use Rattle.pc_file_spec.proofs.Collects.{Collects, collects}
@@ -42,16 +42,17 @@ left_false true b e f = f
 left_false false b e f = absurd (true_false (sym e))
 
 -- A method that may be taken over is taken over, or its name is known.
-taken_named : (k : EntityKind) (known : List Text) (ms : List t.Method) (x : t.Method) → is_takable k x ≡ true → Has ms x → Has known x.name.text ⊎ Has (method_texts (taken k known ms)) x.name.text
+taken_named : (k : EntityKind) (known : List Text) (ms : List t.Method) (x : t.Method) → is_takable k x ≡ true → Has ms x → Has known x.name.text ⊎ Has (method_texts (methods_taken_over k known ms)) x.name.text
 taken_named k known [] x able h = absurd (none-some x h.1)
 taken_named k known (m ∷ ms) x able h = by (λ l g. taken_named k l ms x able g) (is_takable k m && not (is_among m.name.text known)) refl h
   where
-    by : ((l : List Text) → Has ms x → Has l x.name.text ⊎ Has (method_texts (taken k l ms)) x.name.text) → (b : Bool) → (is_takable k m && not (is_among m.name.text known)) ≡ b → Has (m ∷ ms) x
-        → Has known x.name.text ⊎ Has (method_texts (if b then m ∷ taken k (known ++ m.name.text ∷ []) ms else taken k known ms)) x.name.text
+    by : ((l : List Text) → Has ms x → Has l x.name.text ⊎ Has (method_texts (methods_taken_over k l ms)) x.name.text) → (b : Bool) → (is_takable k m && not (is_among m.name.text known)) ≡ b → Has (m ∷ ms) x
+        → Has known x.name.text
+            ⊎ Has (method_texts (if b then m ∷ methods_taken_over k (known ++ m.name.text ∷ []) ms else methods_taken_over k known ms)) x.name.text
     by rest true e (zero, g) = inr (0, ap (λ (y : t.Method). Some y.name.text) (same_Some m x g))
     by rest true e (suc i, g) = elim (rest (known ++ m.name.text ∷ []) (i, g)) [
       | inl a ↦ elim (has_either known (m.name.text ∷ []) x.name.text a) [ inl b ↦ inl b | inr b ↦ inr (0, ap (λ (y : Text). Some y) (single m.name.text x.name.text b)) ]
-      | inr a ↦ inr (has_on m.name.text (method_texts (taken k (known ++ m.name.text ∷ []) ms)) x.name.text a)
+      | inr a ↦ inr (has_on m.name.text (method_texts (methods_taken_over k (known ++ m.name.text ∷ []) ms)) x.name.text a)
     ]
     by rest false e (zero, g) =
         let same : m ≡ x = same_Some m x g in
@@ -82,7 +83,7 @@ taken_above file above c a e x h g =
     let named = taken_has e.kind (own_texts e) there x g in
     let r = each_has (abstract_methods all) all e.provides x named.0 in
     let s = named_is all r.0.text r.1 r.3 in
-    let link : chain.Names file (first_own + a) (first_own + s.0.0) = names_entity file above a e r.1 r.0 s.0.0 c h r.2 s.0.1 s.1 in
+    let link : chain.ProvidesInFile file (first_own + a) (first_own + s.0.0) = names_entity file above a e r.1 r.0 s.0.0 c h r.2 s.0.1 s.1 in
     let over = above_named file a s.0.0 r.1 x link s.0.1 (provided_trait file above e r.1 r.0 c (a, h) r.2 s.0 s.1) (written_above file above c (length all) s.0.0 r.1 x s.0.1 r.4) in
     let text : Has (method_texts (taken_over all e)) x.name.text = (g.0, get_map (λ (y : t.Method). y.name.text) (taken_over all e) g.0 x g.1) in
     (named.1, adds_apart (own_texts e) (method_texts (taken_over all e)) x.name.text (taken_add e.kind (own_texts e) there) text, over)

@@ -10,12 +10,12 @@ use Rattle.pc_core.specs.Entities.{built_in, built_in_value, out_field}
 use Rattle.pc_names.specs.declared.fault.NameFault.{NameFault}
 use Rattle.pc_lists.specs.Texts.{Text}
 use Rattle.pc_members.specs.Words.{entity_names, or_nil}
-use Rattle.pc_members.specs.Edges.{numbers_of}
+use Rattle.pc_members.specs.Edges.{entity_numbers}
 use Rattle.pc_tree.specs.BuiltIn.{first_own}
 use Rattle.pc_names.specs.Names.{NamesData, Collected}
-use Rattle.pc_body_spec.specs.Scopes.{Known, text_from}
+use Rattle.pc_body_spec.specs.Scopes.{KnownEntity, text_from}
 use Rattle.pc_members.specs.MemberLists.{members}
-use Rattle.pc_file_spec.specs.Known.{texts_of, known_of, default_cap}
+use Rattle.pc_file_spec.specs.Known.{texts_of_file, known_of, default_cap}
 use Rattle.pc_file_spec.specs.Signatures.{type_in}
 use Rattle.pc_file_spec.specs.Parts.{Parts, if_ok, parts_of}
 
@@ -28,19 +28,19 @@ built_ins =
     ∷ built_in kind.Class cap.Val (codes "Env") (out_field 0 ∷ []) 0 ∷ built_in kind.Actor cap.Tag (codes "OutStream") [] 1 ∷ []
 
 -- A field, with the number of its name among these texts, and its type among these entities.
-abbrev pub field_of : List Text → List Known → t.Field → FieldInfo
-field_of texts entities f = record { name = text_from 0 texts f.name.text; fixed = f.fixed; entity = (type_in entities f.ty).0; cap = (type_in entities f.ty).1 }
+abbrev pub core_field : List Text → List KnownEntity → t.Field → FieldInfo
+core_field texts entities f = record { name = text_from 0 texts f.name.text; fixed = f.fixed; entity = (type_in entities f.ty).0; cap = (type_in entities f.ty).1 }
 
 -- Entity number n of the file, whose methods start with this number.
-abbrev pub entity_of : t.File → List (List ℕ) → (number first_method : ℕ) → t.Entity → EntityDef
-entity_of file above n first_method e = record {
+abbrev pub core_entity : t.File → List (List ℕ) → (number first_method : ℕ) → t.Entity → EntityDef
+core_entity file above n first_method e = record {
   kind = e.kind;
   cap = default_cap e.kind e.cap;
   name = e.name.text;
   span = e.name.span;
-  provides = numbers_of (entity_names file) e.provides;
+  provides = entity_numbers (entity_names file) e.provides;
   above = or_nil (slice_get above n);
-  fields = map (field_of (texts_of file) (known_of file)) e.fields;
+  fields = map (core_field (texts_of_file file) (known_of file)) e.fields;
   first_method = first_method;
   methods = length (members file.entities e);
 }
@@ -48,7 +48,7 @@ entity_of file above n first_method e = record {
 -- Entities of the file, the first of which has number n and this first method.
 abbrev pub entities_from : t.File → List (List ℕ) → (number first_method : ℕ) → List t.Entity → List EntityDef
 entities_from file above n at [] = []
-entities_from file above n at (e ∷ es) = entity_of file above n at e ∷ entities_from file above (suc n) (at + length (members file.entities e)) es
+entities_from file above n at (e ∷ es) = core_entity file above n at e ∷ entities_from file above (suc n) (at + length (members file.entities e)) es
 
 -- ---- the core
 
@@ -58,7 +58,7 @@ core_with file above p = record {
   methods = p.methods;
   slots = p.slots;
   nodes = p.nodes;
-  names = texts_of file;
+  names = texts_of_file file;
 }
 
 -- The core of a file, given what is above each of its entities, or the first fault of its members.
@@ -67,7 +67,7 @@ core_of above file = if_ok (parts_of file) (λ p. Ok (core_with file above p))
 
 -- The names of the file have no fault, and this is its core. The number of its texts fits in 32 bits.
 abbrev pub Stands : t.File → CoreData → Type 0
-Stands file core = (names : NamesData) × Collected file names × (core_of names.above file ≡ Ok core) × (length (texts_of file) < 2 ^ 32)
+Stands file core = (names : NamesData) × Collected file names × (core_of names.above file ≡ Ok core) × (length (texts_of_file file) < 2 ^ 32)
 
 -- The names have no fault, and this is the first fault of its members.
 abbrev pub IsElabFault : t.File → NameFault → Type 0

@@ -8,8 +8,8 @@ use Rattle.pc_caps.specs.declared.capability.Form.TheVariants as form
 use Rattle.pc_tree.specs.declared.kinds.EntityKind.{EntityKind}
 use Rattle.pc_tree.specs.declared.kinds.EntityKind.TheVariants as kind
 use Rattle.pc_tree.specs.declared.kinds.MethodWord.TheVariants as word
-use Rattle.pc_tree.specs.declared.names.Name.{Name}
-use Rattle.pc_tree.specs.declared.names.TypeRef.{TypeRef}
+use Rattle.pc_tree.specs.declared.written_names.Name.{Name}
+use Rattle.pc_tree.specs.declared.written_names.TypeRef.{TypeRef}
 use Rattle.pc_tree.specs.Tree as t
 use Rattle.pc_tree.specs.BuiltIn.{none_entity, u64_entity, bool_entity, string_entity, env_entity, out_stream_entity}
 use Rattle.pc_core.specs.declared.declarations.EntityDef.{EntityDef}

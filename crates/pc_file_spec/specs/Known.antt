@@ -8,7 +8,7 @@ use Rattle.pc_tree.specs.Tree as t
 use Rattle.pc_lists.specs.Texts.{Text}
 use Rattle.pc_names.specs.Texts.{built_in_texts, with_members}
 use Rattle.pc_members.specs.Tables.{with_names}
-use Rattle.pc_body_spec.specs.Scopes.{Known, Constructor}
+use Rattle.pc_body_spec.specs.Scopes.{KnownEntity, Constructor}
 use Rattle.pc_body_spec.specs.Slots.{cap_or}
 use Rattle.pc_body_spec.specs.Texts.{entities_texts}
 use Rattle.pc_members.specs.Members.{Member, member_text, is_constructor}
@@ -18,8 +18,8 @@ use Rattle.pc_members.specs.MemberLists.{members}
 
 -- The texts of a file, each once, in the order in which they first appear: the built-in ones, then the names of the
 -- fields and methods, entity by entity, and then the names after a `.`.
-abbrev pub texts_of : t.File → List Text
-texts_of file = with_names (with_members (with_names [] (built_in_texts ++ codes "apply" ∷ [])) file.entities) (entities_texts file.entities)
+abbrev pub texts_of_file : t.File → List Text
+texts_of_file file = with_names (with_members (with_names [] (built_in_texts ++ codes "apply" ∷ [])) file.entities) (entities_texts file.entities)
 
 -- ---- entities
 
@@ -37,22 +37,22 @@ constructors_from at [] = []
 constructors_from at (m ∷ ms) = if is_constructor m then record { name = member_text m; method = at } ∷ constructors_from (suc at) ms else constructors_from (suc at) ms
 
 -- Entities whose methods start with this number.
-abbrev pub known_from : List t.Entity → ℕ → List t.Entity → List Known
+abbrev pub known_from : List t.Entity → ℕ → List t.Entity → List KnownEntity
 known_from all at [] = []
 known_from all at (e ∷ es) =
     record { name = e.name.text; kind = e.kind; cap = default_cap e.kind e.cap; constructors = constructors_from at (members all e) }
     ∷ known_from all (at + length (members all e)) es
 
-abbrev pub known_value : Text → Known
+abbrev pub known_value : Text → KnownEntity
 known_value text = record { name = text; kind = kind.Primitive; cap = cap.Val; constructors = [] }
 
 -- The built-in entities.
-abbrev pub built_in_known : List Known
+abbrev pub built_in_known : List KnownEntity
 built_in_known =
     known_value (codes "None") ∷ known_value (codes "U64") ∷ known_value (codes "Bool") ∷ known_value (codes "String")
     ∷ record { name = codes "Env"; kind = kind.Class; cap = cap.Val; constructors = [] }
     ∷ record { name = codes "OutStream"; kind = kind.Actor; cap = cap.Tag; constructors = [] } ∷ []
 
 -- Method 0 is that of OutStream.
-abbrev pub known_of : t.File → List Known
+abbrev pub known_of : t.File → List KnownEntity
 known_of file = built_in_known ++ known_from file.entities 1 file.entities

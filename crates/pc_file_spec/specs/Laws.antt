@@ -8,21 +8,21 @@ use Rattle.pc_tree.specs.Kinds.{is_abstract}
 use Rattle.pc_tree.specs.Tree as t
 use Rattle.pc_names.specs.declared.fault.NameFault.{NameFault}
 use Rattle.pc_lists.specs.Texts.{Text}
-use Rattle.pc_members.specs.Chains.{Leads}
+use Rattle.pc_members.specs.Chains.{LeadsInFile}
 use Rattle.pc_tree.specs.BuiltIn.{first_own}
 use Rattle.pc_names.specs.Names.{NamesData, Collected}
 use Rattle.pc_members.specs.Words.{field_texts, method_texts}
 use Rattle.pc_body_spec.specs.Texts.{entities_texts}
-use Rattle.pc_tree.specs.declared.names.Name.{Name}
+use Rattle.pc_tree.specs.declared.written_names.Name.{Name}
 use Rattle.pc_members.specs.Members.{Member, written, without_body, is_takable, own_texts, member_text}
 use Rattle.pc_members.specs.MemberLists.{trait_methods, abstract_methods, members}
-use Rattle.pc_file_spec.specs.Known.{texts_of}
+use Rattle.pc_file_spec.specs.Known.{texts_of_file}
 use Rattle.pc_file_spec.specs.Cores.{Stands, IsElabFault}
-use Rattle.pc_file_spec.specs.Order.{InOrder, InPlace}
+use Rattle.pc_file_spec.specs.Order.{NamesInOrder, InPlace}
 
 -- A file whose names have no fault, and which does not have too many texts, has a core, or a fault of its members.
 abbrev pub CoreOrFault : Type 0
-CoreOrFault = (file : t.File) (names : NamesData) → Collected file names → length (texts_of file) < 2 ^ 32 → ((core : CoreData) × Stands file core) ⊎ ((f : NameFault) × IsElabFault file f)
+CoreOrFault = (file : t.File) (names : NamesData) → Collected file names → length (texts_of_file file) < 2 ^ 32 → ((core : CoreData) × Stands file core) ⊎ ((f : NameFault) × IsElabFault file f)
 
 -- It has at most one core and at most one fault, and not both.
 abbrev pub OneCore : Type 0
@@ -43,12 +43,12 @@ IsNeeded file x =
 
 -- Each of these is among the file's texts, which differ.
 abbrev pub TextsAreThere : Type 0
-TextsAreThere = (file : t.File) → Differ (texts_of file) × ((x : Text) → IsNeeded file x → Has (texts_of file) x)
+TextsAreThere = (file : t.File) → Differ (texts_of_file file) × ((x : Text) → IsNeeded file x → Has (texts_of_file file) x)
 
 -- The core of a file is formed if the file's tree is one that a text spells: its names are in the order of the text,
 -- and its fields, methods and bodies only where they are allowed.
 abbrev pub StandsIsFormed : Type 0
-StandsIsFormed = (file : t.File) (core : CoreData) → InOrder file → InPlace file → Stands file core → Formed core
+StandsIsFormed = (file : t.File) (core : CoreData) → NamesInOrder file → InPlace file → Stands file core → Formed core
 
 -- The core of a file is small: it has at most 10,000 members, each with at most 64 slots, and all their bodies together
 -- have at most 200,000 nodes.
@@ -64,7 +64,7 @@ BoundIsEnough = (file : t.File) (names : NamesData) → Collected file names →
 abbrev pub TraitsInherit : Type 0
 TraitsInherit =
     (file : t.File) (names : NamesData) → Collected file names → (a : ℕ) (e : t.Entity) → slice_get file.entities a ≡ Some e → is_abstract e.kind ≡ true
-    → (x : Text) → Has (map member_text (members file.entities e)) x ↔ (Has (method_texts e.methods) x ⊎ ((b : ℕ) × (f : t.Entity) × Leads file (first_own + a) (first_own + b) × (slice_get file.entities b ≡ Some f) × Has (method_texts f.methods) x))
+    → (x : Text) → Has (map member_text (members file.entities e)) x ↔ (Has (method_texts e.methods) x ⊎ ((b : ℕ) × (f : t.Entity) × LeadsInFile file (first_own + a) (first_own + b) × (slice_get file.entities b ≡ Some f) × Has (method_texts f.methods) x))
 
 -- The names of an entity's fields and members differ.
 abbrev pub MembersDiffer : Type 0
@@ -75,7 +75,7 @@ MembersDiffer = (file : t.File) (names : NamesData) → Collected file names →
 -- The method is written in a trait or an interface to which a chain of `is` leads from the entity at this place of the
 -- file.
 abbrev pub WrittenAbove : t.File → ℕ → t.Method → Type 0
-WrittenAbove file a x = (b : ℕ) × (f : t.Entity) × Leads file (first_own + a) (first_own + b) × (slice_get file.entities b ≡ Some f) × (is_abstract f.kind ≡ true) × Has f.methods x
+WrittenAbove file a x = (b : ℕ) × (f : t.Entity) × LeadsInFile file (first_own + a) (first_own + b) × (slice_get file.entities b ≡ Some f) × (is_abstract f.kind ≡ true) × Has f.methods x
 
 -- A member of a trait or an interface is a method of its own or one written above it, without the body.
 abbrev pub TraitsHaveNoBodies : Type 0

@@ -6,8 +6,8 @@ use Rattle.pc_lists.specs.Places.{Has, Ascends}
 use Rattle.pc_body_spec.specs.Places.{body_places, initial_places}
 
 -- The names in the initial values and in each body are in the order of the text.
-abbrev pub InOrder : t.File → Type 0
-InOrder file = (e : t.Entity) → Has file.entities e → Ascends (initial_places e.fields) × ((m : t.Method) → Has e.methods m → Ascends (body_places e.fields m))
+abbrev pub NamesInOrder : t.File → Type 0
+NamesInOrder file = (e : t.Entity) → Has file.entities e → Ascends (initial_places e.fields) × ((m : t.Method) → Has e.methods m → Ascends (body_places e.fields m))
 
 -- Fields, methods and bodies are only where they are allowed.
 abbrev pub InPlace : t.File → Type 0

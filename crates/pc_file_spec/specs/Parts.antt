@@ -10,8 +10,8 @@ use Rattle.pc_names.specs.declared.fault.NameFault.TheVariants as fault
 use Rattle.pc_names.specs.declared.fault.Which.TheVariants as which
 use Rattle.pc_tree.specs.BuiltIn.{first_own}
 use Rattle.pc_body_spec.specs.Scopes.{Context}
-use Rattle.pc_body_spec.specs.Faults.{Fault, unknown, double, long_text}
-use Rattle.pc_body_spec.specs.Methods.{MethodFault, in_body, slots_full, nodes_full, Outcome, method_of, added_of}
+use Rattle.pc_body_spec.specs.Faults.{BodyNameFault, unknown, double, long_text}
+use Rattle.pc_body_spec.specs.Methods.{MethodFault, in_body, slots_full, nodes_full, MethodOutcome, method_of, added_of}
 use Rattle.pc_members.specs.Members.{Member, written, added}
 use Rattle.pc_file_spec.specs.Members.{Owned, members_from}
 use Rattle.pc_file_spec.specs.Signatures.{context_of, slots_from, declared}
@@ -22,7 +22,7 @@ pub record Parts : Type 0 where
   pub nodes : List Node
 
 -- The fault of a file that corresponds to a fault of a body or method.
-abbrev pub body_fault : Fault → NameFault
+abbrev pub body_fault : BodyNameFault → NameFault
 body_fault (unknown s) = fault.Unknown s
 body_fault (double s) = fault.Double s
 body_fault (long_text s) = fault.TooMany which.Text s
@@ -33,20 +33,20 @@ name_fault (slots_full s) = fault.TooMany which.Slots s
 name_fault (nodes_full s) = fault.TooMany which.Nodes s
 
 -- The elaboration of a member that is method m, after the nodes of the methods before it.
-abbrev pub outcome : Context → ℕ → t.Entity → Member → List Node → Outcome
+abbrev pub outcome : Context → ℕ → t.Entity → Member → List Node → MethodOutcome
 outcome c m e (written x) before = method_of c m e.fields x before
 outcome c m e added before = added_of c m e.fields e.name.span before
 
 -- The parts so far, followed by the member's method, its slots and its nodes.
-abbrev pub joined : Context → Parts → Owned → Option ℕ × List Node → Parts
-joined c p o r = record {
+abbrev pub joined_parts : Context → Parts → Owned → Option ℕ × List Node → Parts
+joined_parts c p o r = record {
   methods = p.methods ++ declared c o (length p.slots) (length (slots_from c (length p.methods) o)) (length p.nodes) r.0 ∷ [];
   slots = p.slots ++ slots_from c (length p.methods) o;
   nodes = r.1;
 }
 
-abbrev pub with_outcome : Context → Parts → Owned → Outcome → Result Parts NameFault
-with_outcome c p o (Ok r) = Ok (joined c p o r)
+abbrev pub with_outcome : Context → Parts → Owned → MethodOutcome → Result Parts NameFault
+with_outcome c p o (Ok r) = Ok (joined_parts c p o r)
 with_outcome c p o (Err f) = Err (name_fault f)
 
 -- The number of a method is the number of methods before it.

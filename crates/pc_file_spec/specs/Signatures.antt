@@ -9,7 +9,7 @@ use Rattle.pc_tree.specs.declared.kinds.EntityKind.{EntityKind}
 use Rattle.pc_tree.specs.declared.kinds.EntityKind.TheVariants as kind
 use Rattle.pc_tree.specs.declared.kinds.MethodWord.{MethodWord}
 use Rattle.pc_tree.specs.declared.kinds.MethodWord.TheVariants as word
-use Rattle.pc_tree.specs.declared.names.TypeRef.{TypeRef}
+use Rattle.pc_tree.specs.declared.written_names.TypeRef.{TypeRef}
 use Rattle.pc_tree.specs.declared.file.ParamDef.{ParamDef}
 use Rattle.pc_tree.specs.Tree as t
 use Rattle.pc_tree.specs.BuiltIn.{none_entity}
@@ -20,27 +20,27 @@ use Rattle.pc_core.specs.declared.nodes.Slot.{Slot}
 use Rattle.pc_core.specs.declared.nodes.SlotKind.TheVariants as slot
 use Rattle.pc_core.specs.MethodKinds.{constructor_kind, word_kind, param_slot}
 use Rattle.pc_members.specs.Words.{field_texts}
-use Rattle.pc_body_spec.specs.Scopes.{Context, Known, Placed, text_of}
-use Rattle.pc_body_spec.specs.Slots.{Local, cap_or, type_of, initial_locals, method_locals, slots_of, added_slots, local_slot}
+use Rattle.pc_body_spec.specs.Scopes.{Context, KnownEntity, PlacedLocal, number_of_text}
+use Rattle.pc_body_spec.specs.Slots.{Local, cap_or, type_of_name, initial_locals, method_locals, slots_of, added_slots, local_slot}
 use Rattle.pc_members.specs.Members.{Member, written, added, member_text, member_span}
 use Rattle.pc_members.specs.MemberLists.{members}
 use Rattle.pc_file_spec.specs.Members.{Owned}
-use Rattle.pc_file_spec.specs.Known.{texts_of, known_of}
+use Rattle.pc_file_spec.specs.Known.{texts_of_file, known_of}
 
 -- A type among these entities. In a file whose names have no fault every type is there.
 abbrev pub or_value : Option (ℕ × Cap) → ℕ × Cap
 or_value None = (none_entity, cap.Val)
 or_value (Some ty) = ty
 
-abbrev pub type_in : List Known → TypeRef → ℕ × Cap
-type_in entities ty = or_value (type_of 0 entities ty)
+abbrev pub type_in : List KnownEntity → TypeRef → ℕ × Cap
+type_in entities ty = or_value (type_of_name 0 entities ty)
 
 -- ---- parameters, receiver and result
 
-abbrev pub param_of : List Known → ParamDef → ParamInfo
+abbrev pub param_of : List KnownEntity → ParamDef → ParamInfo
 param_of entities p = record { entity = (type_in entities p.ty).0; cap = (type_in entities p.ty).1; span = p.name.span }
 
-abbrev pub params_of : List Known → Member → List ParamInfo
+abbrev pub params_of : List KnownEntity → Member → List ParamInfo
 params_of entities (written m) = map (param_of entities) m.params
 params_of entities added = []
 
@@ -54,16 +54,16 @@ word_receiver word.Fun k = cap_or k cap.Box
 word_receiver word.Be k = cap.Ref
 word_receiver word.New k = cap.Ref
 
-abbrev pub receiver_of : Member → Cap
-receiver_of (written m) = word_receiver m.word m.cap
-receiver_of added = cap.Ref
+abbrev pub receiver_cap : Member → Cap
+receiver_cap (written m) = word_receiver m.word m.cap
+receiver_cap added = cap.Ref
 
 -- With `^` no place holds the value yet.
 abbrev pub result_form : Bool → Cap → Form
 result_form true k = unalias k
 result_form false k = plain k
 
-abbrev pub written_result : List Known → Option TypeRef → ℕ × Form
+abbrev pub written_result : List KnownEntity → Option TypeRef → ℕ × Form
 written_result entities None = (none_entity, form.Val)
 written_result entities (Some ty) = ((type_in entities ty).0, result_form ty.hat (type_in entities ty).1)
 
@@ -76,25 +76,25 @@ object_of kind.Primitive e k = (e, unalias k)
 object_of kind.Trait e k = (e, unalias k)
 object_of kind.Interface e k = (e, unalias k)
 
-abbrev pub word_result : List Known → EntityKind → ℕ → t.Method → MethodWord → ℕ × Form
+abbrev pub word_result : List KnownEntity → EntityKind → ℕ → t.Method → MethodWord → ℕ × Form
 word_result entities k e m word.Fun = written_result entities m.result
 word_result entities k e m word.Be = (none_entity, form.Val)
 word_result entities k e m word.New = object_of k e (cap_or m.cap cap.Ref)
 
 -- The object made by an added `create` is isolated.
-abbrev pub result_of : List Known → EntityKind → ℕ → Member → ℕ × Form
+abbrev pub result_of : List KnownEntity → EntityKind → ℕ → Member → ℕ × Form
 result_of entities k e (written m) = word_result entities k e m m.word
 result_of entities k e added = object_of k e cap.Iso
 
 -- ---- slots
 
-abbrev pub placed_of : t.Entity → Member → List Placed
+abbrev pub placed_of : t.Entity → Member → List PlacedLocal
 placed_of e (written m) = slots_of e.fields m
 placed_of e added = added_slots e.fields
 
-abbrev pub locals_of : t.Entity → Member → List Local
-locals_of e (written m) = method_locals e.fields m
-locals_of e added = initial_locals e.fields
+abbrev pub member_locals : t.Entity → Member → List Local
+member_locals e (written m) = method_locals e.fields m
+member_locals e added = initial_locals e.fields
 
 -- What stays the same throughout the body of a member.
 abbrev pub context_of : t.File → Owned → Context
@@ -102,24 +102,24 @@ context_of file o = record {
   fields = field_texts o.owner.fields;
   methods = map member_text (members file.entities o.owner);
   entities = known_of file;
-  texts = texts_of file;
+  texts = texts_of_file file;
   slots = placed_of o.owner o.member;
 }
 
 -- The slots of a member that is method m: `this`, then the parameters, then the locals.
 abbrev pub own_this : ℕ → Owned → Slot
-own_this m o = record { method = m; kind = slot.This; depth = 0; written = Some (o.number, receiver_of o.member) }
+own_this m o = record { method = m; kind = slot.This; depth = 0; written = Some (o.number, receiver_cap o.member) }
 
 abbrev pub slots_from : Context → ℕ → Owned → List Slot
-slots_from c m o = own_this m o ∷ map (param_slot m) (params_of c.entities o.member) ++ map (local_slot c m) (locals_of o.owner o.member)
+slots_from c m o = own_this m o ∷ map (param_slot m) (params_of c.entities o.member) ++ map (local_slot c m) (member_locals o.owner o.member)
 
 -- The member as a method, with its first slot, the number of its slots, its first node and its body.
 abbrev pub declared : Context → Owned → (first_slot slots first_node : ℕ) → (body : Option ℕ) → Method
 declared c o first_slot slots first_node body = record {
   entity = o.number;
-  name = text_of c (member_text o.member);
+  name = number_of_text c (member_text o.member);
   kind = kind_of o.owner.kind o.member;
-  receiver = receiver_of o.member;
+  receiver = receiver_cap o.member;
   params = params_of c.entities o.member;
   result = result_of c.entities o.owner.kind o.number o.member;
   first_slot = first_slot;

@@ -16,7 +16,7 @@ pub const NOWHERE: Span = Span { start: 0, end: 0 };
 
 /// A name.
 pub fn named(alloc: Global, text: &[u8]) -> Result<Name, AllocError>
-    ensures { IfOk result (λ name. name ≡ spec.named text.now) }
+    ensures { IfOk result (λ name. name ≡ spec.placeless_name text.now) }
 {
     Ok(Name {
         text: List::from_slice(alloc, text)?,
@@ -26,7 +26,7 @@ pub fn named(alloc: Global, text: &[u8]) -> Result<Name, AllocError>
 
 /// `C` or `C k`.
 pub fn type_of(alloc: Global, name: &[u8], cap: Option<Cap>) -> Result<TypeRef, AllocError>
-    ensures { IfOk result (λ ty. ty ≡ spec.type_of name.now cap) }
+    ensures { IfOk result (λ ty. ty ≡ spec.type_reference name.now cap) }
 {
     Ok(TypeRef {
         name: named(alloc, name)?,
@@ -38,7 +38,7 @@ pub fn type_of(alloc: Global, name: &[u8], cap: Option<Cap>) -> Result<TypeRef, 
 /// `x`.
 #[tactic(auto, using(pc_tree::proofs::Views::view_name))]
 pub fn variable(alloc: Global, name: &[u8]) -> Result<Expr, AllocError>
-    ensures { IfOk result (λ e. expr_view e ≡ spec.variable name.now) }
+    ensures { IfOk result (λ e. expr_view e ≡ spec.variable_expression name.now) }
 {
     Ok(Expr::Name(named(alloc, name)?))
 }
@@ -46,7 +46,7 @@ pub fn variable(alloc: Global, name: &[u8]) -> Result<Expr, AllocError>
 /// `C`.
 #[tactic(auto, using(pc_tree::proofs::Views::view_type_name))]
 pub fn entity(alloc: Global, name: &[u8]) -> Result<Expr, AllocError>
-    ensures { IfOk result (λ e. expr_view e ≡ spec.entity name.now) }
+    ensures { IfOk result (λ e. expr_view e ≡ spec.type_expression name.now) }
 {
     Ok(Expr::TypeName(named(alloc, name)?))
 }
@@ -65,7 +65,7 @@ pub fn number(value: u64) -> Expr
 /// `consume x`.
 #[tactic(auto, using(pc_tree::proofs::Views::view_consume))]
 pub fn consumed(alloc: Global, name: &[u8]) -> Result<Expr, AllocError>
-    ensures { IfOk result (λ e. expr_view e ≡ spec.consumed name.now) }
+    ensures { IfOk result (λ e. expr_view e ≡ spec.consume_expression name.now) }
 {
     Ok(Expr::Consume {
         name: named(alloc, name)?,
@@ -76,7 +76,7 @@ pub fn consumed(alloc: Global, name: &[u8]) -> Result<Expr, AllocError>
 /// Terms with one operator between them.
 #[tactic(auto, using(pc_tree::proofs::Views::view_infix))]
 pub fn infix(op: Op, terms: List<Expr>) -> Expr
-    ensures { expr_view result ≡ t.infix_ op (t.exprs_of (map expr_view terms)) spec.nowhere }
+    ensures { expr_view result ≡ t.infix_ op (t.exprs_of (map expr_view terms)) spec.without_place }
 {
     Expr::Infix {
         op,
@@ -87,7 +87,7 @@ pub fn infix(op: Op, terms: List<Expr>) -> Expr
 
 /// `a + b`.
 pub fn operation(alloc: Global, op: Op, left: Expr, right: Expr) -> Result<Expr, AllocError>
-    ensures { IfOk result (λ e. expr_view e ≡ spec.operation op (expr_view left) (expr_view right)) }
+    ensures { IfOk result (λ e. expr_view e ≡ spec.operator_expression op (expr_view left) (expr_view right)) }
 {
     let terms = vec![in alloc; left, right]?;
     Ok(infix(op, List::from_vec(terms)))
@@ -96,7 +96,7 @@ pub fn operation(alloc: Global, op: Op, left: Expr, right: Expr) -> Result<Expr,
 /// `x = e`.
 #[tactic(auto, using(pc_tree::proofs::Views::view_assign))]
 pub fn assigned(alloc: Global, name: &[u8], value: Expr) -> Result<Expr, AllocError>
-    ensures { IfOk result (λ e. expr_view e ≡ spec.assigned name.now (expr_view value)) }
+    ensures { IfOk result (λ e. expr_view e ≡ spec.assign_expression name.now (expr_view value)) }
 {
     let right = Box::new(alloc, value)?;
     let left = Box::new(alloc, variable(alloc, name)?)?;
@@ -118,7 +118,7 @@ pub fn dot(alloc: Global, name: &[u8]) -> Result<Suffix, AllocError>
 /// `(a, b)`.
 #[tactic(auto, using(pc_tree::proofs::Views::view_args))]
 pub fn arguments(args: List<Expr>) -> Suffix
-    ensures { suffix_view result ≡ spec.arguments (map expr_view args) }
+    ensures { suffix_view result ≡ spec.arguments_suffix (map expr_view args) }
 {
     Suffix::Args {
         args,
@@ -140,7 +140,7 @@ pub fn chained(alloc: Global, head: Expr, suffixes: List<Suffix>) -> Result<Expr
 
 // `.m(a, b)`.
 fn called(alloc: Global, method: &[u8], args: List<Expr>) -> Result<List<Suffix>, AllocError>
-    ensures { IfOk result (λ ss. map suffix_view ss ≡ spec.dot method.now ∷ spec.arguments (map expr_view args) ∷ []) }
+    ensures { IfOk result (λ ss. map suffix_view ss ≡ spec.dot method.now ∷ spec.arguments_suffix (map expr_view args) ∷ []) }
 {
     let method = dot(alloc, method)?;
     let suffixes = vec![in alloc; method, arguments(args)]?;
@@ -149,7 +149,7 @@ fn called(alloc: Global, method: &[u8], args: List<Expr>) -> Result<List<Suffix>
 
 /// `x.m(a, b)`.
 pub fn call(alloc: Global, name: &[u8], method: &[u8], args: List<Expr>) -> Result<Expr, AllocError>
-    ensures { IfOk result (λ e. expr_view e ≡ spec.call name.now method.now (map expr_view args)) }
+    ensures { IfOk result (λ e. expr_view e ≡ spec.call_expression name.now method.now (map expr_view args)) }
 {
     let suffixes = called(alloc, method, args)?;
     let head = variable(alloc, name)?;
@@ -177,7 +177,7 @@ pub fn one<T: Drop>(alloc: Global, item: T) -> Result<List<T>, AllocError>
 /// A sequence.
 #[tactic(auto, using(pc_tree::proofs::Views::view_seq))]
 pub fn sequence(items: List<Item>) -> Seq
-    ensures { seq_view result ≡ spec.sequence (map item_view items) }
+    ensures { seq_view result ≡ spec.sequence_of (map item_view items) }
 {
     Seq {
         items,
@@ -197,7 +197,7 @@ pub fn alone(alloc: Global, expression: Expr) -> Result<Seq, AllocError>
 /// `let x: T = e`, or `var` in place of `let`.
 #[tactic(auto, using(pc_tree::proofs::Views::view_local))]
 pub fn local(fixed: bool, typed: ParamDef, value: Expr) -> Item
-    ensures { item_view result ≡ t.local fixed typed.name (Some typed.ty) (expr_view value) spec.nowhere }
+    ensures { item_view result ≡ t.local fixed typed.name (Some typed.ty) (expr_view value) spec.without_place }
 {
     Item::Local {
         fixed,
@@ -211,7 +211,7 @@ pub fn local(fixed: bool, typed: ParamDef, value: Expr) -> Item
 // `c then a`.
 #[tactic(auto, using(pc_tree::proofs::Views::view_arm))]
 fn arm(cond: Seq, body: Seq) -> Arm
-    ensures { arm_view result ≡ t.arm_of (seq_view cond) (seq_view body) spec.nowhere }
+    ensures { arm_view result ≡ t.arm_of (seq_view cond) (seq_view body) spec.without_place }
 {
     Arm {
         cond,
@@ -250,7 +250,7 @@ pub fn turns(alloc: Global, cond: Seq, body: Seq) -> Result<Expr, AllocError>
 /// `recover k a end`.
 #[tactic(auto, using(pc_tree::proofs::Views::view_recover))]
 pub fn recovered(alloc: Global, cap: Cap, body: Seq) -> Result<Expr, AllocError>
-    ensures { IfOk result (λ e. expr_view e ≡ spec.recovered cap (seq_view body)) }
+    ensures { IfOk result (λ e. expr_view e ≡ spec.recover_expression cap (seq_view body)) }
 {
     let body = Box::new(alloc, body)?;
     Ok(Expr::Recover {
@@ -267,7 +267,7 @@ pub fn param(
     class: &[u8],
     cap: Option<Cap>,
 ) -> Result<ParamDef, AllocError>
-    ensures { IfOk result (λ param. param ≡ spec.param name.now (spec.type_of class.now cap)) }
+    ensures { IfOk result (λ param. param ≡ spec.param_definition name.now (spec.type_reference class.now cap)) }
 {
     let name = named(alloc, name)?;
     let ty = type_of(alloc, class, cap)?;
@@ -284,7 +284,7 @@ pub fn method(
     gives: Option<TypeRef>,
     body: Seq,
 ) -> Result<MethodDef, AllocError>
-    ensures { IfOk result (λ m. method_view m ≡ spec.method word cap name.now params gives (seq_view body)) }
+    ensures { IfOk result (λ m. method_view m ≡ spec.method_definition word cap name.now params gives (seq_view body)) }
 {
     Ok(MethodDef {
         word,

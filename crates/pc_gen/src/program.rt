@@ -35,7 +35,8 @@ fn count_field(alloc: Global) -> Result<FieldDef, AllocError>
 
 // `_n + k`
 fn sum(alloc: Global) -> Result<Expr, AllocError>
-    ensures { IfOk result (λ e. expr_view e ≡ part.operation op.Add (part.variable (codes "_n")) (part.variable (codes "k"))) }
+    ensures { IfOk result
+        (λ e. expr_view e ≡ part.operator_expression op.Add (part.variable_expression (codes "_n")) (part.variable_expression (codes "k"))) }
 {
     let left = variable(alloc, b"_n")?;
     let mut terms = one(alloc, left)?;
@@ -128,7 +129,7 @@ fn worker_params(alloc: Global) -> Result<List<ParamDef>, AllocError>
 
 // `out, consume c`
 fn handed(alloc: Global) -> Result<List<Expr>, AllocError>
-    ensures { IfOk result (λ es. map expr_view es ≡ part.variable (codes "out") ∷ part.consumed (codes "c") ∷ []) }
+    ensures { IfOk result (λ es. map expr_view es ≡ part.variable_expression (codes "out") ∷ part.consume_expression (codes "c") ∷ []) }
 {
     let out = variable(alloc, b"out")?;
     let mut args = one(alloc, out)?;
@@ -178,7 +179,7 @@ fn work_create(
     addend: u64,
 ) -> Result<MethodDef, AllocError>
     requires { index < size }
-    ensures { IfOk result (λ m. method_view m ≡ part.create spec.worker_params (part.sequence (spec.work_items size index task addend))) }
+    ensures { IfOk result (λ m. method_view m ≡ part.create spec.worker_params (part.sequence_of (spec.work_items size index task addend))) }
 {
     let items = work_items(alloc, size, index, task, addend)?;
     let params = worker_params(alloc)?;
@@ -230,7 +231,7 @@ fn push_workers(
 
 // `env.out`
 fn stream(alloc: Global) -> Result<Expr, AllocError>
-    ensures { IfOk result (λ e. expr_view e ≡ part.chained (part.variable (codes "env")) (part.dot (codes "out") ∷ [])) }
+    ensures { IfOk result (λ e. expr_view e ≡ part.chained (part.variable_expression (codes "env")) (part.dot (codes "out") ∷ [])) }
 {
     let out = dot(alloc, b"out")?;
     let suffixes = one(alloc, out)?;
@@ -240,7 +241,7 @@ fn stream(alloc: Global) -> Result<Expr, AllocError>
 
 // `Work0(env.out, Cell)`
 fn begins(alloc: Global) -> Result<Expr, AllocError>
-    ensures { IfOk result (λ e. expr_view e ≡ part.construct (codes "Work0") (part.chained (part.variable (codes "env")) (part.dot (codes "out") ∷ []) ∷ part.entity (codes "Cell") ∷ [])) }
+    ensures { IfOk result (λ e. expr_view e ≡ part.construct (codes "Work0") (part.chained (part.variable_expression (codes "env")) (part.dot (codes "out") ∷ []) ∷ part.type_expression (codes "Cell") ∷ [])) }
 {
     let out = stream(alloc)?;
     let mut args = one(alloc, out)?;

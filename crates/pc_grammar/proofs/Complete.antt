@@ -10,7 +10,9 @@ use Rattle.pc_token.specs.declared.words.Word.{Word}
 use Rattle.pc_token.specs.declared.words.Word.TheVariants as w
 use Rattle.pc_token.specs.declared.signs.Sign.TheVariants as s
 use Rattle.pc_token.specs.Asking.{is_sign, is_word}
-use Rattle.pc_grammar.specs.Spells.{IsNext, IsSome, is_atom, is_term, is_infix, is_place, join, over, Spells, SpellsTerms, SpellsMoreTerms, SpellsSuffix, SpellsSuffixes, SpellsArgs, SpellsMoreArgs, SpellsArm, SpellsMoreArms, SpellsOther, SpellsSeq, SpellsItems, SpellsMoreItems, SpellsItem}
+use Rattle.pc_grammar.specs.Spells.{IsNext, IsSome, is_atom, is_term, is_infix, is_place, span_from_to, over, Spells, SpellsTerms, SpellsMoreTerms}
+use Rattle.pc_grammar.specs.Spells.{SpellsSuffix, SpellsSuffixes, SpellsArgs, SpellsMoreArgs, SpellsArm, SpellsMoreArms, SpellsOther, SpellsSeq, SpellsItems}
+use Rattle.pc_grammar.specs.Spells.{SpellsMoreItems, SpellsItem}
 use Rattle.pc_grammar.specs.Reading.{Parser, Inner, many, all, next_item, after, at, begins_suffix, begins_item, is_op, arm, arg_list, other, suffix, atom, term, item, infix_in, expr_in, seq_in, seq_of, infix_of, postfix, chain_of, inner, last_suffix, maybe_cap, if_}
 use Rattle.pc_grammar.proofs.Levels.{inner_seq, inner_expr, inner_term}
 use Rattle.pc_grammar.proofs.Follow.{Stops_chain, Stops_infix, Stops_expr, Stops_seq, kind_of_sign, kind_of_word, close_stops, then_stops, elseif_stops, else_stops, do_stops, end_stops, comma_stops, semicolon_stops, assign_stops, assign_no_cap, assign_no_colon, op_stops, item_stops, item_no_close, item_no_cap, to_infix, to_chain, to_expr, after_op, after_no_op, after_sign, after_no_sign, at_one, at_none, open_no_dot, next_semicolon, next_first, next_none, end_no_else, else_no_elseif, close_no_comma}
@@ -185,7 +187,7 @@ seq_made : (is : t.Items) (sp : Span) (ts : List Token) → SpellsItems is ts �
 unfolding seq_of
 seq_made is sp ts h e = rw (items_back is, items_span is ts h, sym e)
 
-chain_made : (e : t.Expr) (ss : t.Suffixes) (sp : Span) → IsSome ss → join (t.span_of e) (last_suffix (t.span_of e) (suffix_list ss)) ≡ sp → chain_of e (suffix_list ss) ≡ t.chain e ss sp
+chain_made : (e : t.Expr) (ss : t.Suffixes) (sp : Span) → IsSome ss → span_from_to (t.span_of e) (last_suffix (t.span_of e) (suffix_list ss)) ≡ sp → chain_of e (suffix_list ss) ≡ t.chain e ss sp
 unfolding chain_of
 chain_made e t.no_suffixes sp some h = absurd some
 chain_made e (t.suffix x ss) sp some h = rw (suffixes_back ss, h)
@@ -226,7 +228,7 @@ mutual
       ap (λ l. atom n p (l ++ y ∷ more)) h.1 ∙ atom_by n p h.0 (k.Word w.ThisWord) (y ∷ more) _ (kind_of_word w.ThisWord h.0 h.2) (leaf_read n p t.this h.0 (y ∷ more)) ∙ ap (λ sp. Ok (t.this sp, y ∷ more)) (sym (h.3 ∙ ap over h.1))
   complete (t.consume m sp) n ts y more h d =
       ap (λ l. term n (inner n) (l ++ y ∷ more)) h.2 ∙ consume_term n (inner n) h.0 (h.1 ∷ y ∷ more) _ h.3 (consume_read h.0 h.1 m (y ∷ more) h.3 h.4)
-      ∙ ap (λ sp. Ok (t.consume m sp, y ∷ more)) (ap (join h.0.span) (sym h.4.1) ∙ sym (h.5 ∙ ap over h.2))
+      ∙ ap (λ sp. Ok (t.consume m sp, y ∷ more)) (ap (span_from_to h.0.span) (sym h.4.1) ∙ sym (h.5 ∙ ap over h.2))
   complete (t.not_ e sp) n ts y more h d = λ stops.
       let some : 0 < n = omega arith in
       let inside = h.1 ++ y ∷ more in

@@ -3,7 +3,8 @@
 -- of the latter.
 use Rattle.std.proofs.Common.{◌≡◌, ℕ, zero, suc, ◌-◌, ◌<◌, ◌≤◌, max, Bool, true, false, List, [], ◌∷◌, ◌++◌, length, Option, Some, None, Ok, Err, refl, sym, ap, ◌∙◌, subst, arith, cond, append_assoc, append-nil}
 use Rattle.pc_token.specs.declared.kinds.Token.{Token}
-use Rattle.pc_grammar.specs.Reading.{Fault, unexpected, too_deep, Outcome, Parser, and_then, pure, refuse, ◌>>=◌, take_if, many, many_step, all, deeper}
+use Rattle.pc_grammar.specs.Reading.{ReadingFault, unexpected, too_deep, ReadingOutcome, Parser, and_then, pure, refuse, ◌>>=◌, take_if, many, many_step}
+use Rattle.pc_grammar.specs.Reading.{all, deeper}
 
 -- within the levels, or of any depth
 abbrev pub Fits : Bool → ℕ → ℕ → Type 0
@@ -28,20 +29,20 @@ fits_some true n h = omega (arith, h)
 fits_some false n h = tt
 
 -- the tokens of a fault that belong to a beginning
-abbrev pub shown : Fault → Bool → List Token → List Token
+abbrev pub shown : ReadingFault → Bool → List Token → List Token
 shown unexpected u ts = []
 shown too_deep true ts = []
 shown too_deep false [] = []
 shown too_deep false (x ∷ ts) = x ∷ []
 
 -- a level too many is opened by a token
-abbrev pub Opens : Fault → List Token → Type 0
+abbrev pub Opens : ReadingFault → List Token → Type 0
 Opens unexpected ts = Unit {0}
 Opens too_deep [] = ⊥
 Opens too_deep (x ∷ ts) = Unit {0}
 
 module _ (u : Bool) {A : Type 0} (M : A → List Token → Type 0) (ts : List Token) where
-  abbrev pub Explained : Outcome A → Type 0
+  abbrev pub Explained : ReadingOutcome A → Type 0
   Explained (Ok r) = (pre : List Token) × (ts ≡ pre ++ r.1) × M r.0 pre
   Explained (Err e) = (pre more : List Token) × (x : A) × (ts ≡ pre ++ e.1) × M x (pre ++ (shown e.0 u e.1 ++ more)) × Opens e.0 e.1
 
@@ -68,18 +69,18 @@ module _ {A B : Type 0} (M : A → List Token → Type 0) (N : A → B → List 
   some_then m n = let k = n m.1 in (m.0 ++ k.0, k.1, (m.1, m.0, k.0, refl, m.2, k.2))
 
   module _ (u : Bool) where
-    second : (ts rest : List Token) (f : A → Parser B) (v : A) (pre : List Token) → ts ≡ pre ++ rest → M v pre → (o : Outcome B) → Explained u (N v) rest o → Explained u (Then M N) ts o
+    second : (ts rest : List Token) (f : A → Parser B) (v : A) (pre : List Token) → ts ≡ pre ++ rest → M v pre → (o : ReadingOutcome B) → Explained u (N v) rest o → Explained u (Then M N) ts o
     second ts rest f v pre cut m (Ok r) h = (pre ++ h.0, cut ∙ ap (λ l. pre ++ l) h.1 ∙ sym (append_assoc pre h.0 r.1), (v, pre, h.0, refl, m, h.2))
     second ts rest f v pre cut m (Err e) h =
         (pre ++ h.0, h.1, h.2, cut ∙ ap (λ l. pre ++ l) h.3 ∙ sym (append_assoc pre h.0 e.1), (v, pre, h.0 ++ (shown e.0 u e.1 ++ h.1), append_assoc pre h.0 (shown e.0 u e.1 ++ h.1), m, h.4), h.5)
 
-    pub explained_bind : (ts : List Token) (f : A → Parser B) (o : Outcome A) → Explained u M ts o → ((x : A) (rest : List Token) → o ≡ Ok (x, rest) → Explained u (N x) rest (f x rest)) → ((x : A) → Inhabited (N x)) → Explained u (Then M N) ts (and_then o f)
+    pub explained_bind : (ts : List Token) (f : A → Parser B) (o : ReadingOutcome A) → Explained u M ts o → ((x : A) (rest : List Token) → o ≡ Ok (x, rest) → Explained u (N x) rest (f x rest)) → ((x : A) → Inhabited (N x)) → Explained u (Then M N) ts (and_then o f)
     explained_bind ts f (Ok r) h next some = second ts r.1 f r.0 h.0 h.1 h.2 (f r.0 r.1) (next r.0 r.1 refl)
     explained_bind ts f (Err e) h next some =
         let c = some h.2 in
         (h.0, h.1 ++ c.0, c.1, h.3, (h.2, h.0 ++ (shown e.0 u e.1 ++ h.1), c.0, ap (λ l. h.0 ++ l) (sym (append_assoc (shown e.0 u e.1) h.1 c.0)) ∙ sym (append_assoc h.0 (shown e.0 u e.1 ++ h.1) c.0), h.4, c.2), h.5)
 
-pub explained_weaker : (u : Bool) {A : Type 0} (M N : A → List Token → Type 0) (ts : List Token) (o : Outcome A) → ((x : A) (a : List Token) → M x a → N x a) → Explained u M ts o → Explained u N ts o
+pub explained_weaker : (u : Bool) {A : Type 0} (M N : A → List Token → Type 0) (ts : List Token) (o : ReadingOutcome A) → ((x : A) (a : List Token) → M x a → N x a) → Explained u M ts o → Explained u N ts o
 explained_weaker u M N ts (Ok r) f h = (h.0, h.1, f r.0 h.0 h.2)
 explained_weaker u M N ts (Err e) f h = (h.0, h.1, h.2, h.3, f h.2 _ h.4, h.5)
 

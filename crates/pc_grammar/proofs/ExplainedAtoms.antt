@@ -11,7 +11,7 @@ use Rattle.pc_token.specs.declared.words.Word.{Word}
 use Rattle.pc_token.specs.declared.words.Word.TheVariants as w
 use Rattle.pc_token.specs.declared.signs.Sign.TheVariants as s
 use Rattle.pc_token.specs.Asking.{is_sign, is_word}
-use Rattle.pc_grammar.specs.Spells.{join, over, SpellsCap, SpellsMoreArms}
+use Rattle.pc_grammar.specs.Spells.{span_from_to, over, SpellsCap, SpellsMoreArms}
 use Rattle.pc_grammar.specs.Reading.{Parser, pure, ◌>>=◌, ◌>>◌, peek, take_if, at, name, type_name, maybe_cap, group, arm, if_, while_, recover_, other, leaf, atom, atom_at}
 use Rattle.pc_grammar.proofs.Spans.{over_closed, over_two, over_three, over_arm, over_if}
 use Rattle.pc_grammar.proofs.Explained.{Fits, fits_zero, fits_max, fits_suc, fits_some, Explained, Then, Tok, Only, Listed, Inhabited, some_only, some_then, explained_bind, explained_weaker, explained_only, explained_refuse, explained_take, explained_deeper, explained_all}
@@ -54,24 +54,24 @@ module _ (u : Bool) (n : ℕ) (p : Parser t.Seq) (hp : 0 < n → (ts : List Toke
   -- ---- groups
 
   abbrev GroupRest : Token → t.Expr → List Token → Type 0
-  GroupRest x = Then Inside (λ b. Closes (is_sign s.CloseParen) (λ y. t.group b (join x.span y.span)))
+  GroupRest x = Then Inside (λ b. Closes (is_sign s.CloseParen) (λ y. t.group b (span_from_to x.span y.span)))
 
   group_at : (x : Token) → is_sign s.OpenParen x ≡ true → Fits u n 1 → (v : t.Expr) (a : List Token) → GroupRest x v a → AtomIn u n v (x ∷ a)
   group_at x is room v a h =
       let j = h.5 in
-      let f = λ (y : Token). t.group h.0 (join x.span y.span) in
+      let f = λ (y : Token). t.group h.0 (span_from_to x.span y.span) in
       let cut : x ∷ a ≡ x ∷ (h.1 ++ j.0 ∷ []) = ap (λ l. x ∷ l) (joined a h.1 h.2 (j.0 ∷ []) h.3 (closed u (is_sign s.CloseParen) f v h.2 j)) in
       subst (λ v. AtomIn u n v (x ∷ a)) (sym j.5.1) (refl, (x, j.0, h.1, cut, is, h.4.0, j.4.1, sym (ap over cut ∙ over_closed x j.0 h.1)), fits_suc u n (seq_depth h.0) room h.4.1)
 
   explained_group : (x : Token) (ts : List Token) → is_sign s.OpenParen x ≡ true → Explained u (AtomIn u n) (x ∷ ts) (group n p (x ∷ ts))
   unfolding group
   explained_group x ts is =
-      let M = λ (b : t.Seq). Closes (is_sign s.CloseParen) (λ y. t.group b (join x.span y.span)) in
-      let some1 = λ (b : t.Seq). some_close u (is_sign s.CloseParen) (λ y. t.group b (join x.span y.span)) (of_kind (k.Sign s.CloseParen)) (a_sign s.CloseParen) in
+      let M = λ (b : t.Seq). Closes (is_sign s.CloseParen) (λ y. t.group b (span_from_to x.span y.span)) in
+      let some1 = λ (b : t.Seq). some_close u (is_sign s.CloseParen) (λ y. t.group b (span_from_to x.span y.span)) (of_kind (k.Sign s.CloseParen)) (a_sign s.CloseParen) in
       let some = some_then Inside M (some_seq u (n - 1)) some1 in
       explained_deeper u (AtomIn u n) n _ x ts (some_atom u n) (λ room. (some.0, some.1, group_at x is room some.1 some.0 some.2))
       (λ lt. opened u (AtomIn u n) (GroupRest x) (is_sign s.OpenParen) x ts _ is (group_at x is (fits_some u n lt))
-      (explained_bind Inside M u ts _ (p ts) (hp lt ts) (λ b r e. explained_close u (is_sign s.CloseParen) (λ y. t.group b (join x.span y.span)) (of_kind (k.Sign s.CloseParen)) (a_sign s.CloseParen) r) some1))
+      (explained_bind Inside M u ts _ (p ts) (hp lt ts) (λ b r e. explained_close u (is_sign s.CloseParen) (λ y. t.group b (span_from_to x.span y.span)) (of_kind (k.Sign s.CloseParen)) (a_sign s.CloseParen) r) some1))
 
   -- ---- a word, then a sequence
 
@@ -103,7 +103,7 @@ module _ (u : Bool) (n : ℕ) (p : Parser t.Seq) (hp : 0 < n → (ts : List Toke
   -- ---- the arms of an `if`
 
   abbrev ArmEnd : Token → t.Seq → t.Arm → List Token → Type 0
-  ArmEnd x c = Then (Worded w.ThenWord) (λ b. Only (t.arm_of c b (join x.span (t.seq_span b))))
+  ArmEnd x c = Then (Worded w.ThenWord) (λ b. Only (t.arm_of c b (span_from_to x.span (t.seq_span b))))
 
   abbrev ArmRest : Token → t.Arm → List Token → Type 0
   ArmRest x = Then Inside (ArmEnd x)
@@ -117,7 +117,7 @@ module _ (u : Bool) (n : ℕ) (p : Parser t.Seq) (hp : 0 < n → (ts : List Toke
       subst (λ v. InArm word v (x ∷ a)) (sym g.5.1) ((x, y.0, h.1, y.2, cut, is, h.4.0, y.4.1, y.5.0, sym (ap over cut ∙ over_arm x y.0 g.0 h.1 y.2 y.5.0)), fits_max u (n - 1) (seq_depth h.0) (seq_depth g.0) h.4.1 y.5.1)
 
   some_arm_end : (x : Token) (c : t.Seq) → Inhabited (ArmEnd x c)
-  some_arm_end x c = some_then (Worded w.ThenWord) (λ b. Only (t.arm_of c b (join x.span (t.seq_span b)))) (some_worded w.ThenWord) (λ b. some_only _)
+  some_arm_end x c = some_then (Worded w.ThenWord) (λ b. Only (t.arm_of c b (span_from_to x.span (t.seq_span b)))) (some_worded w.ThenWord) (λ b. some_only _)
 
   -- some arm that begins with this token
   some_arm : (word : Word) (x : Token) → is_word word x ≡ true → (more : List Token) × (v : t.Arm) × InArm word v (x ∷ more)
@@ -127,7 +127,7 @@ module _ (u : Bool) (n : ℕ) (p : Parser t.Seq) (hp : 0 < n → (ts : List Toke
   unfolding arm
   explained_arm word lt x ts is =
       opened u (InArm word) (ArmRest x) (is_word word) x ts _ is (arm_at word x is)
-      (explained_bind Inside (ArmEnd x) u ts _ (p ts) (hp lt ts) (λ c r e. explained_bind (Worded w.ThenWord) (λ b. Only (t.arm_of c b (join x.span (t.seq_span b)))) u r _ _ (explained_worded w.ThenWord lt r) (λ b q f. explained_only u _ q) (λ b. some_only _)) (some_arm_end x))
+      (explained_bind Inside (ArmEnd x) u ts _ (p ts) (hp lt ts) (λ c r e. explained_bind (Worded w.ThenWord) (λ b. Only (t.arm_of c b (span_from_to x.span (t.seq_span b)))) u r _ _ (explained_worded w.ThenWord lt r) (λ b q f. explained_only u _ q) (λ b. some_only _)) (some_arm_end x))
 
   each_arm : 0 < n → (ts begin : List Token) → at (is_word w.ElseifWord) ts ≡ Some begin → Explained u (InArm w.ElseifWord) ts (arm w.ElseifWord p begin)
   each_arm lt [] begin h = absurd (at_nil (is_word w.ElseifWord) begin h)
@@ -142,7 +142,7 @@ module _ (u : Bool) (n : ℕ) (p : Parser t.Seq) (hp : 0 < n → (ts : List Toke
   -- ---- `if`
 
   abbrev IfEnd : t.Arm → List t.Arm → t.Other → t.Expr → List Token → Type 0
-  IfEnd a xs o = Closes (is_word w.EndWord) (λ z. t.if_ (t.arms_of (a ∷ xs)) o (join (t.arm_span a) z.span))
+  IfEnd a xs o = Closes (is_word w.EndWord) (λ z. t.if_ (t.arms_of (a ∷ xs)) o (span_from_to (t.arm_span a) z.span))
 
   abbrev IfOther : t.Arm → List t.Arm → t.Expr → List Token → Type 0
   IfOther a xs = Then (OtherIn u (n - 1)) (IfEnd a xs)
@@ -157,14 +157,14 @@ module _ (u : Bool) (n : ℕ) (p : Parser t.Seq) (hp : 0 < n → (ts : List Toke
       let o = g.5 in
       let z = o.5 in
       let arms = listed_arms g.0 g.1 g.4 in
-      let ends = closed u (is_word w.EndWord) (λ z. t.if_ (t.arms_of (a ∷ g.0)) o.0 (join (t.arm_span a) z.span)) v o.2 z in
+      let ends = closed u (is_word w.EndWord) (λ z. t.if_ (t.arms_of (a ∷ g.0)) o.0 (span_from_to (t.arm_span a) z.span)) v o.2 z in
       let cut : ts ≡ (h.1 ++ g.1) ++ (o.1 ++ z.0 ∷ []) = joined ts h.1 h.2 (g.1 ++ (o.1 ++ z.0 ∷ [])) h.3 (joined h.2 g.1 g.2 (o.1 ++ z.0 ∷ []) g.3 (joined g.2 o.1 o.2 (z.0 ∷ []) o.3 ends)) ∙ sym (append_assoc h.1 g.1 (o.1 ++ z.0 ∷ [])) in
       let span = sym (ap over cut ∙ over_if a w.IfWord z.0 h.1 g.1 o.1 (h.1 ++ g.1) h.4.0 refl) in
       let fits = fits_suc u n (max (max (arm_depth a) (arms_depth (t.arms_of g.0))) (other_depth o.0)) room (fits_max u (n - 1) (max (arm_depth a) (arms_depth (t.arms_of g.0))) (other_depth o.0) (fits_max u (n - 1) (arm_depth a) (arms_depth (t.arms_of g.0)) h.4.1 arms.1) o.4.1) in
       subst (λ v. AtomIn u n v ts) (sym z.5.1) (refl, (z.0, h.1 ++ g.1, o.1, cut, (h.1, g.1, refl, h.4.0, arms.0), o.4.0, z.4.1, span), fits)
 
   some_if_end : (a : t.Arm) (xs : List t.Arm) (o : t.Other) → Inhabited (IfEnd a xs o)
-  some_if_end a xs o = some_close u (is_word w.EndWord) (λ z. t.if_ (t.arms_of (a ∷ xs)) o (join (t.arm_span a) z.span)) (of_kind (k.Word w.EndWord)) (a_word w.EndWord)
+  some_if_end a xs o = some_close u (is_word w.EndWord) (λ z. t.if_ (t.arms_of (a ∷ xs)) o (span_from_to (t.arm_span a) z.span)) (of_kind (k.Word w.EndWord)) (a_word w.EndWord)
 
   some_if_other : (a : t.Arm) (xs : List t.Arm) → Inhabited (IfOther a xs)
   some_if_other a xs = some_then (OtherIn u (n - 1)) (IfEnd a xs) (some_other u (n - 1)) (some_if_end a xs)
@@ -186,13 +186,13 @@ module _ (u : Bool) (n : ℕ) (p : Parser t.Seq) (hp : 0 < n → (ts : List Toke
       (explained_bind (InArm w.IfWord) IfMore u (x ∷ ts) _ (arm w.IfWord p (x ∷ ts)) (explained_arm w.IfWord lt x ts is)
       (λ a r e. explained_bind (Listed (InArm w.ElseifWord)) (IfOther a) u r _ _ (explained_all u (InArm w.ElseifWord) (at (is_word w.ElseifWord)) (arm w.ElseifWord p) (each_arm lt) r)
       (λ xs q f. explained_bind (OtherIn u (n - 1)) (IfEnd a xs) u q _ (other p q) (explained_other lt q)
-      (λ o l g. explained_close u (is_word w.EndWord) (λ z. t.if_ (t.arms_of (a ∷ xs)) o (join (t.arm_span a) z.span)) (of_kind (k.Word w.EndWord)) (a_word w.EndWord) l)
+      (λ o l g. explained_close u (is_word w.EndWord) (λ z. t.if_ (t.arms_of (a ∷ xs)) o (span_from_to (t.arm_span a) z.span)) (of_kind (k.Word w.EndWord)) (a_word w.EndWord) l)
       (some_if_end a xs)) (some_if_other a)) some_if_more))
 
   -- ---- `while`
 
   abbrev WhileEnd : Token → t.Seq → t.Seq → t.Expr → List Token → Type 0
-  WhileEnd x c b = Closes (is_word w.EndWord) (λ z. t.while_ c b (join x.span z.span))
+  WhileEnd x c b = Closes (is_word w.EndWord) (λ z. t.while_ c b (span_from_to x.span z.span))
 
   abbrev WhileBody : Token → t.Seq → t.Expr → List Token → Type 0
   WhileBody x c = Then (Worded w.DoWord) (WhileEnd x c)
@@ -202,14 +202,14 @@ module _ (u : Bool) (n : ℕ) (p : Parser t.Seq) (hp : 0 < n → (ts : List Toke
       let g = h.5 in
       let y = g.4 in
       let z = g.5 in
-      let ends = closed u (is_word w.EndWord) (λ z. t.while_ h.0 g.0 (join x.span z.span)) v g.2 z in
+      let ends = closed u (is_word w.EndWord) (λ z. t.while_ h.0 g.0 (span_from_to x.span z.span)) v g.2 z in
       let tail : h.2 ≡ y.0 ∷ (y.2 ++ z.0 ∷ []) = g.3 ∙ ap₂ (λ l m. l ++ m) (begins_one y.0 g.1 y.1 y.2 y.2 y.3 y.4.0 refl) ends in
       let cut : x ∷ a ≡ x ∷ (h.1 ++ y.0 ∷ (y.2 ++ z.0 ∷ [])) = ap (λ l. x ∷ l) (joined a h.1 h.2 (y.0 ∷ (y.2 ++ z.0 ∷ [])) h.3 tail) in
       let fits = fits_suc u n (max (seq_depth h.0) (seq_depth g.0)) room (fits_max u (n - 1) (seq_depth h.0) (seq_depth g.0) h.4.1 y.5.1) in
       subst (λ v. AtomIn u n v (x ∷ a)) (sym z.5.1) (refl, (x, y.0, z.0, h.1, y.2, cut, is, h.4.0, y.4.1, y.5.0, z.4.1, sym (ap over cut ∙ over_two x y.0 z.0 h.1 y.2)), fits)
 
   some_while_end : (x : Token) (c b : t.Seq) → Inhabited (WhileEnd x c b)
-  some_while_end x c b = some_close u (is_word w.EndWord) (λ z. t.while_ c b (join x.span z.span)) (of_kind (k.Word w.EndWord)) (a_word w.EndWord)
+  some_while_end x c b = some_close u (is_word w.EndWord) (λ z. t.while_ c b (span_from_to x.span z.span)) (of_kind (k.Word w.EndWord)) (a_word w.EndWord)
 
   some_while_body : (x : Token) (c : t.Seq) → Inhabited (WhileBody x c)
   some_while_body x c = some_then (Worded w.DoWord) (WhileEnd x c) (some_worded w.DoWord) (some_while_end x c)
@@ -222,12 +222,12 @@ module _ (u : Bool) (n : ℕ) (p : Parser t.Seq) (hp : 0 < n → (ts : List Toke
       (λ lt. opened u (AtomIn u n) (Then Inside (WhileBody x)) (is_word w.WhileWord) x ts _ is (while_at x is (fits_some u n lt))
       (explained_bind Inside (WhileBody x) u ts _ (p ts) (hp lt ts)
       (λ c r e. explained_bind (Worded w.DoWord) (WhileEnd x c) u r _ _ (explained_worded w.DoWord lt r)
-      (λ b q f. explained_close u (is_word w.EndWord) (λ z. t.while_ c b (join x.span z.span)) (of_kind (k.Word w.EndWord)) (a_word w.EndWord) q) (some_while_end x c)) (some_while_body x)))
+      (λ b q f. explained_close u (is_word w.EndWord) (λ z. t.while_ c b (span_from_to x.span z.span)) (of_kind (k.Word w.EndWord)) (a_word w.EndWord) q) (some_while_end x c)) (some_while_body x)))
 
   -- ---- `recover`
 
   abbrev RecoverEnd : Token → Option Cap → t.Seq → t.Expr → List Token → Type 0
-  RecoverEnd x c b = Closes (is_word w.EndWord) (λ z. t.recover c b (join x.span z.span))
+  RecoverEnd x c b = Closes (is_word w.EndWord) (λ z. t.recover c b (span_from_to x.span z.span))
 
   abbrev RecoverBody : Token → Option Cap → t.Expr → List Token → Type 0
   RecoverBody x c = Then Inside (RecoverEnd x c)
@@ -236,12 +236,12 @@ module _ (u : Bool) (n : ℕ) (p : Parser t.Seq) (hp : 0 < n → (ts : List Toke
   recover_at x is room v a h =
       let g = h.5 in
       let z = g.5 in
-      let ends = closed u (is_word w.EndWord) (λ z. t.recover h.0 g.0 (join x.span z.span)) v g.2 z in
+      let ends = closed u (is_word w.EndWord) (λ z. t.recover h.0 g.0 (span_from_to x.span z.span)) v g.2 z in
       let cut : x ∷ a ≡ x ∷ (h.1 ++ (g.1 ++ z.0 ∷ [])) = ap (λ l. x ∷ l) (joined a h.1 h.2 (g.1 ++ z.0 ∷ []) h.3 (joined h.2 g.1 g.2 (z.0 ∷ []) g.3 ends)) in
       subst (λ v. AtomIn u n v (x ∷ a)) (sym z.5.1) (refl, (x, z.0, h.1, g.1, cut, is, h.4, g.4.0, z.4.1, sym (ap over cut ∙ over_three x z.0 h.1 g.1)), fits_suc u n (seq_depth g.0) room g.4.1)
 
   some_recover_end : (x : Token) (c : Option Cap) (b : t.Seq) → Inhabited (RecoverEnd x c b)
-  some_recover_end x c b = some_close u (is_word w.EndWord) (λ z. t.recover c b (join x.span z.span)) (of_kind (k.Word w.EndWord)) (a_word w.EndWord)
+  some_recover_end x c b = some_close u (is_word w.EndWord) (λ z. t.recover c b (span_from_to x.span z.span)) (of_kind (k.Word w.EndWord)) (a_word w.EndWord)
 
   some_recover_body : (x : Token) (c : Option Cap) → Inhabited (RecoverBody x c)
   some_recover_body x c = some_then Inside (RecoverEnd x c) (some_seq u (n - 1)) (some_recover_end x c)
@@ -254,7 +254,7 @@ module _ (u : Bool) (n : ℕ) (p : Parser t.Seq) (hp : 0 < n → (ts : List Toke
       (λ lt. opened u (AtomIn u n) (Then SpellsCap (RecoverBody x)) (is_word w.RecoverWord) x ts _ is (recover_at x is (fits_some u n lt))
       (explained_bind SpellsCap (RecoverBody x) u ts _ (maybe_cap ts) (explained_cap u ts)
       (λ c r e. explained_bind Inside (RecoverEnd x c) u r _ (p r) (hp lt r)
-      (λ b q f. explained_close u (is_word w.EndWord) (λ z. t.recover c b (join x.span z.span)) (of_kind (k.Word w.EndWord)) (a_word w.EndWord) q) (some_recover_end x c)) (some_recover_body x)))
+      (λ b q f. explained_close u (is_word w.EndWord) (λ z. t.recover c b (span_from_to x.span z.span)) (of_kind (k.Word w.EndWord)) (a_word w.EndWord) q) (some_recover_end x c)) (some_recover_body x)))
 
   -- ---- all atoms
 

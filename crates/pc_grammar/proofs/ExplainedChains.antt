@@ -6,7 +6,7 @@ use Rattle.pc_token.specs.declared.kinds.Token.{Token}
 use Rattle.pc_token.specs.declared.kinds.TokenKind.TheVariants as k
 use Rattle.pc_token.specs.declared.signs.Sign.TheVariants as s
 use Rattle.pc_token.specs.Asking.{is_sign}
-use Rattle.pc_grammar.specs.Spells.{join, over, is_atom, is_term, Spells, SpellsMoreArgs, SpellsSuffixes}
+use Rattle.pc_grammar.specs.Spells.{span_from_to, over, is_atom, is_term, Spells, SpellsMoreArgs, SpellsSuffixes}
 use Rattle.pc_grammar.specs.Reading.{Parser, Inner, pure, ◌>>=◌, ◌>>◌, peek, take_if, all, after, at, begins_suffix, name, arg_list, args, suffix, postfix, atom, chain_of, last_suffix}
 use Rattle.pc_grammar.proofs.Lists.{suffixes_list}
 use Rattle.pc_grammar.proofs.Spans.{over_closed, chain_span}
@@ -81,25 +81,25 @@ module _ (u : Bool) (m : ℕ) (p : Parser t.Expr) (hp : (ts : List Token) → Ex
 
 module _ (u : Bool) (n : ℕ) (p : Parser t.Expr) (hp : 0 < n → (ts : List Token) → Explained u (ExprIn u (n - 1)) ts (p ts)) where
   abbrev ArgsEnd : Token → t.Suffix → List Token → Type 0
-  ArgsEnd x = Then (ArgsIn u (n - 1)) (λ es. Closes (is_sign s.CloseParen) (λ y. t.args es (join x.span y.span)))
+  ArgsEnd x = Then (ArgsIn u (n - 1)) (λ es. Closes (is_sign s.CloseParen) (λ y. t.args es (span_from_to x.span y.span)))
 
   args_at : (x : Token) → is_sign s.OpenParen x ≡ true → x.first ≡ false → Fits u n 1 → (v : t.Suffix) (a : List Token) → ArgsEnd x v a → SuffixIn u n v (x ∷ a)
   args_at x is apart room v a h =
       let j = h.5 in
-      let f = λ (y : Token). t.args h.0 (join x.span y.span) in
+      let f = λ (y : Token). t.args h.0 (span_from_to x.span y.span) in
       let cut : x ∷ a ≡ x ∷ (h.1 ++ j.0 ∷ []) = ap (λ l. x ∷ l) (joined a h.1 h.2 (j.0 ∷ []) h.3 (closed u (is_sign s.CloseParen) f v h.2 j)) in
       subst (λ v. SuffixIn u n v (x ∷ a)) (sym j.5.1) ((x, j.0, h.1, cut, is, apart, h.4.0, j.4.1, sym (ap over cut ∙ over_closed x j.0 h.1)), fits_suc u n (exprs_depth h.0) room h.4.1)
 
   explained_args : (x : Token) (ts : List Token) → is_sign s.OpenParen x ≡ true → x.first ≡ false → Explained u (SuffixIn u n) (x ∷ ts) (args n p (x ∷ ts))
   unfolding args
   explained_args x ts is apart =
-      let M = λ (es : t.Exprs). Closes (is_sign s.CloseParen) (λ y. t.args es (join x.span y.span)) in
-      let some1 = λ (es : t.Exprs). some_close u (is_sign s.CloseParen) (λ y. t.args es (join x.span y.span)) (of_kind (k.Sign s.CloseParen)) (a_sign s.CloseParen) in
+      let M = λ (es : t.Exprs). Closes (is_sign s.CloseParen) (λ y. t.args es (span_from_to x.span y.span)) in
+      let some1 = λ (es : t.Exprs). some_close u (is_sign s.CloseParen) (λ y. t.args es (span_from_to x.span y.span)) (of_kind (k.Sign s.CloseParen)) (a_sign s.CloseParen) in
       let some = some_then (ArgsIn u (n - 1)) M (some_args u (n - 1)) some1 in
       explained_deeper u (SuffixIn u n) n _ x ts (some_suffix u n) (λ room. (some.0, some.1, args_at x is apart room some.1 some.0 some.2))
       (λ lt. opened u (SuffixIn u n) (ArgsEnd x) (is_sign s.OpenParen) x ts _ is (args_at x is apart (fits_some u n lt))
       (explained_bind (ArgsIn u (n - 1)) M u ts _ (arg_list p ts) (explained_arg_list u (n - 1) p (hp lt) ts)
-      (λ es r e. explained_close u (is_sign s.CloseParen) (λ y. t.args es (join x.span y.span)) (of_kind (k.Sign s.CloseParen)) (a_sign s.CloseParen) r) some1))
+      (λ es r e. explained_close u (is_sign s.CloseParen) (λ y. t.args es (span_from_to x.span y.span)) (of_kind (k.Sign s.CloseParen)) (a_sign s.CloseParen) r) some1))
 
   dot_at : (x : Token) → is_sign s.Dot x ≡ true → (v : t.Suffix) (a : List Token) → Then NameAt (λ m. Only (t.dot m)) v a → SuffixIn u n v (x ∷ a)
   dot_at x is v a h = subst (λ v. SuffixIn u n v (x ∷ a)) (sym h.5.1) ((x, h.4.0, ap (λ l. x ∷ l) (begins_one h.4.0 a h.1 h.2 [] h.3 h.4.1 h.5.0), is, h.4.2), fits_zero u n)
@@ -149,7 +149,7 @@ module _ (u : Bool) (n : ℕ) where
   chain_is e [] ts a b cut m h = let P : List Token → Type 0 = λ l. Spells e l in (atom_is_term e m.0, subst P (sym (ends_nil ts a b cut h)) m.1, m.2)
   chain_is e (x ∷ ss) ts a b cut m h =
       let g = listed_suffixes (x ∷ ss) b h in
-      let span = ap (λ l. join (t.span_of e) (last_suffix (t.span_of e) l)) (sym (suffixes_list (x ∷ ss))) ∙ chain_span e (t.suffixes_of (x ∷ ss)) a b ts cut m.1 g.0 in
+      let span = ap (λ l. span_from_to (t.span_of e) (last_suffix (t.span_of e) l)) (sym (suffixes_list (x ∷ ss))) ∙ chain_span e (t.suffixes_of (x ∷ ss)) a b ts cut m.1 g.0 in
       (refl, (a, b, cut, m.0, m.1, tt, g.0, span), fits_max u n (depth e) (suffixes_depth (t.suffixes_of (x ∷ ss))) m.2 g.1)
 
   module _ (i : Inner) (hs : 0 < n → (ts : List Token) → Explained u (SeqIn u (n - 1)) ts (i.seq ts)) (he : 0 < n → (ts : List Token) → Explained u (ExprIn u (n - 1)) ts (i.expr ts)) where

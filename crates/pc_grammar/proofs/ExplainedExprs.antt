@@ -3,7 +3,7 @@ use Rattle.std.proofs.Common.{◌≡◌, ℕ, suc, ◌-◌, ◌<◌, Bool, true,
 use denote.Enum.Bare.{same_true}
 use Rattle.pc_tree.specs.contracts.kinds.Op.{the_type as op_type}
 use Rattle.pc_tree.specs.declared.kinds.Op.{Op}
-use Rattle.pc_tree.specs.declared.names.Name.{Name}
+use Rattle.pc_tree.specs.declared.written_names.Name.{Name}
 use Rattle.pc_tree.specs.Tree as t
 use Rattle.pc_tree.specs.Depths.{depth, exprs_depth}
 use Rattle.pc_token.specs.declared.kinds.Token.{Token}
@@ -11,7 +11,7 @@ use Rattle.pc_token.specs.declared.words.Word.TheVariants as w
 use Rattle.pc_token.specs.declared.signs.Sign.TheVariants as s
 use Rattle.pc_token.specs.Asking.{is_sign, is_word}
 use Rattle.pc_grammar.specs.Asking.{op_of, same_op}
-use Rattle.pc_grammar.specs.Spells.{no_span, join, over, is_term, is_infix, is_place, IsMore, Spells, SpellsTerms, SpellsMoreTerms}
+use Rattle.pc_grammar.specs.Spells.{no_span, span_from_to, over, is_term, is_infix, is_place, IsMore, Spells, SpellsTerms, SpellsMoreTerms}
 use Rattle.pc_grammar.specs.Reading.{Inner, pure, ◌>>=◌, peek, after, is_op, is_this, name, consume, negation, postfix, term, infix_in, infix_with, infix_by, infix_of, first_expr, last_expr, becomes, expr_by, expr_in, expr_with}
 use Rattle.pc_grammar.proofs.Follow.{after_op}
 use Rattle.pc_grammar.proofs.Lists.{exprs_list}
@@ -71,16 +71,17 @@ module _ (u : Bool) (n : ℕ) where
 
   -- ---- `consume`
 
-  consume_at : (x : Token) → is_word w.ConsumeWord x ≡ true → (v : t.Expr) (a : List Token) → Then NameAt (λ m. Only (t.consume m (join x.span m.span))) v a → TermIn u n v (x ∷ a)
+  consume_at : (x : Token) → is_word w.ConsumeWord x ≡ true → (v : t.Expr) (a : List Token) → Then NameAt (λ m. Only (t.consume m (span_from_to x.span m.span))) v a → TermIn u n v (x ∷ a)
   consume_at x is v a h =
       let y = h.4.0 in
       let cut : x ∷ a ≡ x ∷ y ∷ [] = ap (λ l. x ∷ l) (begins_one y a h.1 h.2 [] h.3 h.4.1 h.5.0) in
-      subst (λ v. TermIn u n v (x ∷ a)) (sym h.5.1) (refl, (x, y, cut, is, h.4.2, ap (join x.span) (sym h.4.2.1) ∙ sym (ap over cut)), fits_zero u n)
+      subst (λ v. TermIn u n v (x ∷ a)) (sym h.5.1)
+          (refl, (x, y, cut, is, h.4.2, ap (span_from_to x.span) (sym h.4.2.1) ∙ sym (ap over cut)), fits_zero u n)
 
   explained_consume : (x : Token) (ts : List Token) → is_word w.ConsumeWord x ≡ true → Explained u (TermIn u n) (x ∷ ts) (consume (x ∷ ts))
   unfolding consume
   explained_consume x ts is =
-      let made = λ (m : Name). t.consume m (join x.span m.span) in
+      let made = λ (m : Name). t.consume m (span_from_to x.span m.span) in
       opened u (TermIn u n) (Then NameAt (λ m. Only (made m))) (is_word w.ConsumeWord) x ts _ is (consume_at x is)
       (explained_bind NameAt (λ m. Only (made m)) u ts _ (name ts) (explained_name u ts) (λ m r e. explained_only u _ r) (λ m. some_only _))
 
@@ -88,7 +89,7 @@ module _ (u : Bool) (n : ℕ) where
     -- ---- `not`
 
     abbrev NotRest : Token → t.Expr → List Token → Type 0
-    NotRest x = Then (TermIn u (n - 1)) (λ e. Only (t.not_ e (join x.span (t.span_of e))))
+    NotRest x = Then (TermIn u (n - 1)) (λ e. Only (t.not_ e (span_from_to x.span (t.span_of e))))
 
     not_at : (x : Token) → is_word w.NotWord x ≡ true → Fits u n 1 → (v : t.Expr) (a : List Token) → NotRest x v a → TermIn u n v (x ∷ a)
     not_at x is room v a h =
@@ -98,7 +99,7 @@ module _ (u : Bool) (n : ℕ) where
     explained_negation : (x : Token) (ts : List Token) → is_word w.NotWord x ≡ true → Explained u (TermIn u n) (x ∷ ts) (negation n i.term (x ∷ ts))
     unfolding negation
     explained_negation x ts is =
-        let M = λ (e : t.Expr). Only (t.not_ e (join x.span (t.span_of e))) in
+        let M = λ (e : t.Expr). Only (t.not_ e (span_from_to x.span (t.span_of e))) in
         let some = some_then (TermIn u (n - 1)) M (some_term u (n - 1)) (λ e. some_only _) in
         explained_deeper u (TermIn u n) n _ x ts (some_term u n) (λ room. (some.0, some.1, not_at x is room some.1 some.0 some.2))
         (λ lt. opened u (TermIn u n) (NotRest x) (is_word w.NotWord) x ts _ is (not_at x is (fits_some u n lt)) (explained_bind (TermIn u (n - 1)) M u ts _ (i.term ts) ((hi lt).2 ts) (λ e r e1. explained_only u _ r) (λ e. some_only _)))
@@ -151,7 +152,7 @@ module _ (u : Bool) (n : ℕ) where
           let Q : t.Expr → Type 0 = λ e. InfixIn u n e ts in
           let more = listed_terms g.0 g.1 h.2 g.3 in
           let terms : SpellsTerms (t.exprs_of (h.0 ∷ g.1)) g.0 ts = (h.1, h.2, h.3, h.4.0, h.4.1, is_more g.1 g.2, more.0) in
-          let span = ap (λ l. join (first_expr l) (last_expr no_span l)) (sym (exprs_list (h.0 ∷ g.1))) ∙ terms_span (t.exprs_of (h.0 ∷ g.1)) g.0 ts terms in
+          let span = ap (λ l. span_from_to (first_expr l) (last_expr no_span l)) (sym (exprs_list (h.0 ∷ g.1))) ∙ terms_span (t.exprs_of (h.0 ∷ g.1)) g.0 ts terms in
           subst Q (sym g.4) (refl, (terms, span), fits_max u n (depth h.0) (exprs_depth (t.exprs_of g.1)) h.4.2 more.1))
     ]
 
@@ -164,10 +165,10 @@ module _ (u : Bool) (n : ℕ) where
     -- ---- assignments
 
     abbrev ExprRest : t.Expr → t.Expr → List Token → Type 0
-    ExprRest e v b = ((b ≡ []) × (v ≡ e)) ⊎ ((x : Token) × (c : List Token) × (r : t.Expr) × (b ≡ x ∷ c) × (is_place e ≡ true) × (is_sign s.Assign x ≡ true) × ExprIn u (n - 1) r c × Fits u n 1 × (v ≡ t.assign e r (join (t.span_of e) (t.span_of r))))
+    ExprRest e v b = ((b ≡ []) × (v ≡ e)) ⊎ ((x : Token) × (c : List Token) × (r : t.Expr) × (b ≡ x ∷ c) × (is_place e ≡ true) × (is_sign s.Assign x ≡ true) × ExprIn u (n - 1) r c × Fits u n 1 × (v ≡ t.assign e r (span_from_to (t.span_of e) (t.span_of r))))
 
     abbrev AssignEnd : t.Expr → t.Expr → List Token → Type 0
-    AssignEnd e = Then (ExprIn u (n - 1)) (λ r. Only (t.assign e r (join (t.span_of e) (t.span_of r))))
+    AssignEnd e = Then (ExprIn u (n - 1)) (λ r. Only (t.assign e r (span_from_to (t.span_of e) (t.span_of r))))
 
     becomes_at : (e : t.Expr) (x : Token) → is_sign s.Assign x ≡ true → is_place e ≡ true → Fits u n 1 → (v : t.Expr) (a : List Token) → AssignEnd e v a → ExprRest e v (x ∷ a)
     becomes_at e x is place room v a h = inr (x, h.1, h.0, ap (λ l. x ∷ l) (ends_nil a h.1 h.2 h.3 h.5.0), place, is, h.4, room, h.5.1)
@@ -175,7 +176,7 @@ module _ (u : Bool) (n : ℕ) where
     explained_becomes : (e : t.Expr) (x : Token) (ts : List Token) → is_sign s.Assign x ≡ true → is_place e ≡ true → Explained u (ExprRest e) (x ∷ ts) (becomes n i.expr e (x ∷ ts))
     unfolding becomes
     explained_becomes e x ts is place =
-        let M = λ (r : t.Expr). Only (t.assign e r (join (t.span_of e) (t.span_of r))) in
+        let M = λ (r : t.Expr). Only (t.assign e r (span_from_to (t.span_of e) (t.span_of r))) in
         let some = some_then (ExprIn u (n - 1)) M (some_expr u (n - 1)) (λ r. some_only _) in
         explained_deeper u (ExprRest e) n _ x ts ([], e, inl (refl, refl)) (λ room. (some.0, some.1, becomes_at e x is place room some.1 some.0 some.2))
         (λ lt. rw (taken (is_sign s.Assign) x ts is) (explained_cons u (ExprRest e) (AssignEnd e) x ts (becomes_at e x is place (fits_some u n lt)) _ (explained_bind (ExprIn u (n - 1)) M u ts _ (i.expr ts) ((hi lt).1 ts) (λ r q e1. explained_only u _ q) (λ r. some_only _))))

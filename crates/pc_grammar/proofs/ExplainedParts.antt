@@ -4,8 +4,8 @@ use denote.Enum.Bare.{same_false, sameb}
 use Rattle.pc_caps.specs.declared.capability.Cap.{Cap}
 use Rattle.pc_tree.specs.Tree as t
 use Rattle.pc_tree.specs.Depths.{depth, exprs_depth, suffix_depth, arm_depth, other_depth, seq_depth, item_depth}
-use Rattle.pc_tree.specs.declared.names.Name.{Name}
-use Rattle.pc_tree.specs.declared.names.TypeRef.{TypeRef}
+use Rattle.pc_tree.specs.declared.written_names.Name.{Name}
+use Rattle.pc_tree.specs.declared.written_names.TypeRef.{TypeRef}
 use Rattle.pc_token.specs.contracts.words.Word.{the_type as word_type}
 use Rattle.pc_token.specs.contracts.signs.Sign.{the_type as sign_type}
 use Rattle.pc_token.specs.declared.kinds.Token.{Token}
@@ -17,12 +17,13 @@ use Rattle.pc_token.specs.declared.signs.Sign.TheVariants as s
 use Rattle.pc_token.specs.Asking.{is_sign, is_word, same_sign, same_word}
 use Rattle.pc_grammar.specs.Asking.{cap_of}
 use Rattle.pc_grammar.specs.Spells.{no_span, IsName, IsTypeName, SpellsCap, SpellsType, SpellsTyped, is_atom, is_term, is_infix, Spells, SpellsSuffix, SpellsArgs, SpellsArm, SpellsOther, SpellsSeq, SpellsItem}
-use Rattle.pc_grammar.specs.Reading.{Outcome, Parser, and_then, pure, ◌>>=◌, ◌>>◌, peek, take_if, name, name_at, type_name, type_name_at, cap_by, maybe_cap, written_type, maybe_type}
+use Rattle.pc_grammar.specs.Reading.{ReadingOutcome, Parser, and_then, pure, ◌>>=◌, ◌>>◌, peek, take_if, name, name_at, type_name, type_name_at, cap_by}
+use Rattle.pc_grammar.specs.Reading.{maybe_cap, written_type, maybe_type}
 use Rattle.pc_grammar.proofs.Explained.{Fits, fits_zero, Explained, Then, Tok, Only, Inhabited, some_tok, some_only, some_then, explained_bind, explained_weaker, explained_only, explained_refuse}
 
 -- ---- the first token is known
 
-pub explained_cons : (u : Bool) {A : Type 0} (M N : A → List Token → Type 0) (x : Token) (ts : List Token) → ((v : A) (a : List Token) → N v a → M v (x ∷ a)) → (o : Outcome A) → Explained u N ts o → Explained u M (x ∷ ts) o
+pub explained_cons : (u : Bool) {A : Type 0} (M N : A → List Token → Type 0) (x : Token) (ts : List Token) → ((v : A) (a : List Token) → N v a → M v (x ∷ a)) → (o : ReadingOutcome A) → Explained u N ts o → Explained u M (x ∷ ts) o
 explained_cons u M N x ts f (Ok r) h = (x ∷ h.0, ap (λ l. x ∷ l) h.1, f r.0 h.0 h.2)
 explained_cons u M N x ts f (Err e) h = (x ∷ h.0, h.1, h.2, ap (λ l. x ∷ l) h.3, f h.2 _ h.4, h.5)
 

@@ -1,7 +1,7 @@
 -- Items and sequences are explained if what is inside is.
 use Rattle.std.proofs.Common.{◌≡◌, ℕ, zero, suc, ◌-◌, Bool, true, false, ◌&&◌, List, [], ◌∷◌, ◌++◌, length, Option, Some, None, Ok, Err, refl, sym, ap, ◌∙◌, subst, arith, cond, append_assoc, ◌⊎◌, inl, inr}
-use Rattle.pc_tree.specs.declared.names.Name.{Name}
-use Rattle.pc_tree.specs.declared.names.TypeRef.{TypeRef}
+use Rattle.pc_tree.specs.declared.written_names.Name.{Name}
+use Rattle.pc_tree.specs.declared.written_names.TypeRef.{TypeRef}
 use Rattle.pc_tree.specs.Tree as t
 use Rattle.pc_tree.specs.Depths.{item_depth, items_depth}
 use Rattle.pc_token.specs.declared.kinds.Token.{Token}
@@ -10,8 +10,9 @@ use Rattle.pc_token.specs.declared.words.Word.TheVariants as w
 use Rattle.pc_token.specs.declared.signs.Sign.TheVariants as s
 use Rattle.pc_token.specs.Asking.{is_sign, is_word}
 use Rattle.pc_grammar.specs.Asking.{local_word}
-use Rattle.pc_grammar.specs.Spells.{no_span, join, over, IsNext, Spells, SpellsTyped, SpellsItems, SpellsMoreItems}
-use Rattle.pc_grammar.specs.Reading.{Fault, unexpected, too_deep, Outcome, Parser, Inner, pure, ◌>>=◌, ◌>>◌, peek, take_if, next_item, begins_item, name, maybe_type, local, item, expr_in, seq_in, seq_with, seq_of, first_item, last_item, inner}
+use Rattle.pc_grammar.specs.Spells.{no_span, span_from_to, over, IsNext, Spells, SpellsTyped, SpellsItems, SpellsMoreItems}
+use Rattle.pc_grammar.specs.Reading.{ReadingFault, unexpected, too_deep, ReadingOutcome, Parser, Inner, pure, ◌>>=◌, ◌>>◌, peek, take_if, next_item}
+use Rattle.pc_grammar.specs.Reading.{begins_item, name, maybe_type, local, item, expr_in, seq_in, seq_with, seq_of, first_item, last_item, inner}
 use Rattle.pc_grammar.proofs.First.{First, Item, first_item as item_first}
 use Rattle.pc_grammar.proofs.Lists.{items_list}
 use Rattle.pc_grammar.proofs.Spans.{over_local, items_span}
@@ -47,7 +48,7 @@ module _ (u : Bool) (n : ℕ) where
   some_more_item : MoreItem (t.plain (t.name a_name)) (first_name ∷ [])
   some_more_item = ([], first_name ∷ [], refl, refl, ((first_name, refl, (refl, refl)), fits_zero u n))
 
-  stay_by : (x : Token) (ts : List Token) → x.first ≡ true → (f : Fault) (b : Bool) → u ≡ b → (rest pre more : List Token) (v : t.Item) → x ∷ ts ≡ pre ++ rest → ItemIn u n v (pre ++ (shown f b rest ++ more))
+  stay_by : (x : Token) (ts : List Token) → x.first ≡ true → (f : ReadingFault) (b : Bool) → u ≡ b → (rest pre more : List Token) (v : t.Item) → x ∷ ts ≡ pre ++ rest → ItemIn u n v (pre ++ (shown f b rest ++ more))
       → (pre more : List Token) × (v : t.Item) × (x ∷ ts ≡ pre ++ rest) × MoreItem v (pre ++ (shown f b rest ++ more))
   stay_by x ts first f b is rest (y ∷ pre) more v cut m = let e : x ≡ y = cc in ((y ∷ pre), more, v, cut, ([], (y ∷ pre) ++ (shown f b rest ++ more), refl, subst (λ z. z.first ≡ true) e first, m))
   stay_by x ts first unexpected b is rest [] more v cut m = ([], first_name ∷ [], t.plain (t.name a_name), cut, some_more_item)
@@ -55,7 +56,7 @@ module _ (u : Bool) (n : ℕ) where
   stay_by x ts first too_deep false is [] [] more v cut m = absurd (omega (arith, ap length cut))
   stay_by x ts first too_deep false is (y ∷ rest) [] more v cut m = let e : x ≡ y = cc in ([], more, v, cut, ([], y ∷ more, refl, subst (λ z. z.first ≡ true) e first, m))
 
-  stay : (x : Token) (ts : List Token) → x.first ≡ true → (o : Outcome t.Item) → Explained u (ItemIn u n) (x ∷ ts) o → Explained u MoreItem (x ∷ ts) o
+  stay : (x : Token) (ts : List Token) → x.first ≡ true → (o : ReadingOutcome t.Item) → Explained u (ItemIn u n) (x ∷ ts) o → Explained u MoreItem (x ∷ ts) o
   stay x ts f (Ok r) h = (h.0, h.1, ([], h.0, refl, same_first x h.0 r.1 ts f h.1 (item_first r.0 h.0 h.2.0), h.2))
   stay x ts f (Err e) h = let r = stay_by x ts f e.0 u refl e.1 h.0 h.1 h.2 h.3 h.4 in (r.0, r.1, r.2, r.3, r.4, h.5)
 
@@ -72,7 +73,7 @@ module _ (u : Bool) (n : ℕ) where
     explained_valued ts = explained_bind (Tok (is_sign s.Assign)) (λ _. ExprIn u n) u ts (λ _. p) (take_if (is_sign s.Assign) ts) (explained_take u (is_sign s.Assign) (of_kind (k.Sign s.Assign)) (a_sign s.Assign) ts) (λ y r e. hp r) (λ _. some_expr u n)
 
     abbrev LocalEnd : Bool → Token → Name → Option TypeRef → t.Item → List Token → Type 0
-    LocalEnd f x m ty = Then Valued (λ v. Only (t.local f m ty v (join x.span (t.span_of v))))
+    LocalEnd f x m ty = Then Valued (λ v. Only (t.local f m ty v (span_from_to x.span (t.span_of v))))
 
     abbrev LocalTyped : Bool → Token → Name → t.Item → List Token → Type 0
     LocalTyped f x m = Then SpellsTyped (LocalEnd f x m)
@@ -89,7 +90,7 @@ module _ (u : Bool) (n : ℕ) where
         subst (λ v. ItemIn u n v (x ∷ a)) (sym e.5.1) ((x, y, z.0, g.1, z.2, cut, is, h.4.2, g.4, z.4.1, z.5.0, sym (ap over cut ∙ over_local x y z.0 e.0 g.1 z.2 z.5.0)), z.5.1)
 
     some_local_end : (f : Bool) (x : Token) (m : Name) (ty : Option TypeRef) → Inhabited (LocalEnd f x m ty)
-    some_local_end f x m ty = some_then Valued (λ v. Only (t.local f m ty v (join x.span (t.span_of v)))) some_valued (λ v. some_only _)
+    some_local_end f x m ty = some_then Valued (λ v. Only (t.local f m ty v (span_from_to x.span (t.span_of v)))) some_valued (λ v. some_only _)
 
     some_local_typed : (f : Bool) (x : Token) (m : Name) → Inhabited (LocalTyped f x m)
     some_local_typed f x m = some_then SpellsTyped (LocalEnd f x m) ([], None, refl) (some_local_end f x m)
@@ -100,7 +101,7 @@ module _ (u : Bool) (n : ℕ) where
         opened u (ItemIn u n) (Then NameAt (LocalTyped f x)) (is_word (local_word f)) x ts _ is (local_at f x is)
         (explained_bind NameAt (LocalTyped f x) u ts _ (name ts) (explained_name u ts)
         (λ m r e. explained_bind SpellsTyped (LocalEnd f x m) u r _ (maybe_type r) (explained_typed u r)
-        (λ ty q g. explained_bind Valued (λ v. Only (t.local f m ty v (join x.span (t.span_of v)))) u q _ _ (explained_valued q) (λ v l h. explained_only u _ l) (λ v. some_only _)) (some_local_end f x m)) (some_local_typed f x))
+        (λ ty q g. explained_bind Valued (λ v. Only (t.local f m ty v (span_from_to x.span (t.span_of v)))) u q _ _ (explained_valued q) (λ v l h. explained_only u _ l) (λ v. some_only _)) (some_local_end f x m)) (some_local_typed f x))
 
     -- ---- items
 
@@ -145,7 +146,8 @@ module _ (u : Bool) (n : ℕ) where
         let more = listed_items g.0 g.1 g.4 in
         let cut = joined a h.1 h.2 g.1 h.3 (ends_nil h.2 g.1 g.2 g.3 g.5.0) in
         let items : SpellsItems (t.items_of (h.0 ∷ g.0)) a = (h.1, g.1, cut, h.4.0, more.0) in
-        let span = ap (λ l. join (first_item l) (last_item no_span l)) (sym (items_list (h.0 ∷ g.0))) ∙ items_span (t.items_of (h.0 ∷ g.0)) a items in
+        let span = ap (λ l. span_from_to (first_item l) (last_item no_span l)) (sym (items_list (h.0 ∷ g.0)))
+            ∙ items_span (t.items_of (h.0 ∷ g.0)) a items in
         subst Q (sym g.5.1) ((items, span), fits_max u n (item_depth h.0) (items_depth (t.items_of g.0)) h.4.1 more.1)
 
     some_seq_rest : (i : t.Item) → Inhabited (SeqRest i)

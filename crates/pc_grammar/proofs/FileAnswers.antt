@@ -5,7 +5,7 @@ use Rattle.pc_tree.specs.Depths.{file_depth}
 use Rattle.pc_token.specs.declared.kinds.Token.{Token}
 use Rattle.pc_grammar.specs.SpellsFile.{SpellsFile}
 use Rattle.pc_grammar.specs.Begins.{Begins, IsStopped, IsTooDeep}
-use Rattle.pc_grammar.specs.Reading.{unexpected, too_deep, Outcome}
+use Rattle.pc_grammar.specs.Reading.{unexpected, too_deep, ReadingOutcome}
 use Rattle.pc_grammar.specs.ReadingFile.{file}
 use Rattle.pc_grammar.specs.FileAnswers as answer
 use Rattle.pc_grammar.specs.FileAnswers.{level_limit, IsUnexpected, OneFileAnswer}
@@ -15,7 +15,7 @@ use Rattle.pc_grammar.proofs.FileRight.{file_is_read, file_is_refused, file_is_t
 
 -- ---- reading gives it
 
-answered : (ts : List Token) (o : Outcome t.File) → file 199 ts ≡ o → AnswersFor ts o
+answered : (ts : List Token) (o : ReadingOutcome t.File) → file 199 ts ≡ o → AnswersFor ts o
 answered ts (Ok (f, [])) e =
     let h = file_is_read 199 ts [] f e in
     let P : List Token → Type 0 = λ l. SpellsFile f l in

@@ -4,9 +4,9 @@ use Rattle.pc_tree.specs.Tree as t
 use Rattle.pc_tree.specs.Depths.{file_depth}
 use Rattle.pc_token.specs.declared.kinds.Token.{Token}
 use Rattle.pc_grammar.specs.SpellsFile.{SpellsFile}
-use Rattle.pc_grammar.specs.Begins.{Begins, SpellsNone, IsOne, IsRead, IsRefused}
+use Rattle.pc_grammar.specs.Begins.{Begins, SpellsNoTree, IsOne, IsRead, IsRefused}
 use Rattle.pc_grammar.specs.Laws.{FileDeepRight}
-use Rattle.pc_grammar.specs.Reading.{unexpected, too_deep, Outcome}
+use Rattle.pc_grammar.specs.Reading.{unexpected, too_deep, ReadingOutcome}
 use Rattle.pc_grammar.specs.ReadingFile.{file}
 use Rattle.pc_grammar.proofs.Local.{rest_of}
 use Rattle.pc_grammar.proofs.LocalFile.{local_file}
@@ -50,12 +50,12 @@ file_is_read n ts rest f e =
     )
 
 -- if reading stops at the end of a prefix, the prefix spells no file
-is_none : (n : ℕ) (pre : List Token) (x : Token) (more : List Token) → file n (pre ++ x ∷ more) ≡ Err (unexpected, x ∷ more) → SpellsNone SpellsFile pre
+is_none : (n : ℕ) (pre : List Token) (x : Token) (more : List Token) → file n (pre ++ x ∷ more) ≡ Err (unexpected, x ∷ more) → SpellsNoTree SpellsFile pre
 is_none n pre x more e f spelled =
     let m = max n (file_depth f) in
     let whole : file m (pre ++ x ∷ more) ≡ Ok (f, x ∷ more) = file_reads m f pre (x ∷ more) spelled (omega arith) in
     elim (file_agrees n m (omega arith) (pre ++ x ∷ more)) [
-      | inl g ↦ (let same : ◌≡◌ {A = Outcome t.File} (Err (unexpected, x ∷ more)) (Ok (f, x ∷ more)) = sym e ∙ g ∙ whole in cc)
+      | inl g ↦ (let same : ◌≡◌ {A = ReadingOutcome t.File} (Err (unexpected, x ∷ more)) (Ok (f, x ∷ more)) = sym e ∙ g ∙ whole in cc)
       | inr g ↦ fault_apart (x ∷ more) g.0 (sym e ∙ g.1)
     ]
 

@@ -7,7 +7,8 @@ use Rattle.pc_token.specs.declared.words.Word.TheVariants as w
 use Rattle.pc_token.specs.declared.signs.Sign.TheVariants as s
 use Rattle.pc_token.specs.Asking.{is_sign, is_word}
 use Rattle.pc_grammar.specs.Asking.{op_of}
-use Rattle.pc_grammar.specs.Reading.{Outcome, Parser, Inner, and_then, pure, ◌>>=◌, peek, many, many_step, all, at, begins_suffix, expr_in, expr_with, expr_by, infix_in, infix_with, infix_by, term, atom, atom_at, suffix, postfix, chain_of}
+use Rattle.pc_grammar.specs.Reading.{ReadingOutcome, Parser, Inner, and_then, pure, ◌>>=◌, peek, many, many_step, all, at, begins_suffix, expr_in}
+use Rattle.pc_grammar.specs.Reading.{expr_with, expr_by, infix_in, infix_with, infix_by, term, atom, atom_at, suffix, postfix, chain_of}
 use Rattle.pc_grammar.proofs.Follow.{Stops_chain, kind_of_word}
 
 pub many_none : {A : Type 0} (next : List Token → Option (List Token)) (p : Parser A) (n : ℕ) (ts : List Token) → next ts ≡ None → many next p n ts ≡ Ok ([], ts)
@@ -40,7 +41,7 @@ module _ (n : ℕ) (i : Inner) (ts more : List Token) (y : Token) (e : t.Expr) w
       let go = λ (e : t.Expr). peek >>= λ x. expr_by n i.expr e x in
       ap (λ o. and_then o go) read ∙ rw ends
 
-pub bind_ok : {A B : Type 0} (o : Outcome A) (f : A → Parser B) (r : B × List Token) → and_then o f ≡ Ok r → (q : A × List Token) × (o ≡ Ok q) × (f q.0 q.1 ≡ Ok r)
+pub bind_ok : {A B : Type 0} (o : ReadingOutcome A) (f : A → Parser B) (r : B × List Token) → and_then o f ≡ Ok r → (q : A × List Token) × (o ≡ Ok q) × (f q.0 q.1 ≡ Ok r)
 bind_ok (Ok q) f r e = (q, refl, e)
 bind_ok (Err q) f r e = absurd (cc)
 

@@ -1,13 +1,13 @@
 -- A parser's result depends on the tokens up to and including the first that it leaves, and on no others.
 use Rattle.std.proofs.Common.{◌≡◌, ℕ, zero, suc, ◌<◌, Bool, true, false, List, [], ◌∷◌, ◌++◌, length, Ok, Err, refl, sym, ap, ap₂, ◌∙◌, arith, cond, append_assoc, length-append}
 use Rattle.pc_token.specs.declared.kinds.Token.{Token}
-use Rattle.pc_grammar.specs.Reading.{unexpected, too_deep, Outcome, Parser, and_then, pure, refuse, ◌>>=◌, peek, take_if, deeper}
+use Rattle.pc_grammar.specs.Reading.{unexpected, too_deep, ReadingOutcome, Parser, and_then, pure, refuse, ◌>>=◌, peek, take_if, deeper}
 
-abbrev pub rest_of : {A : Type 0} → Outcome A → List Token
+abbrev pub rest_of : {A : Type 0} → ReadingOutcome A → List Token
 rest_of (Ok p) = p.1
 rest_of (Err e) = e.1
 
-abbrev pub with_rest : {A : Type 0} → List Token → Outcome A → Outcome A
+abbrev pub with_rest : {A : Type 0} → List Token → ReadingOutcome A → ReadingOutcome A
 with_rest ts (Ok p) = Ok (p.0, ts)
 with_rest ts (Err e) = Err (e.0, ts)
 
@@ -29,7 +29,7 @@ cut (x ∷ a) (y ∷ b) c e =
     ap₂ (λ h t. h ∷ t) heads (cut a b c tails)
 
 module _ {A B : Type 0} (p : Parser A) (f : A → Parser B) (lp : Local p) (lf : (x : A) → Local (f x)) where
-  bind_suffix : (ts : List Token) (o : Outcome A) → p ts ≡ o → (pre : List Token) × (ts ≡ pre ++ rest_of (and_then o f))
+  bind_suffix : (ts : List Token) (o : ReadingOutcome A) → p ts ≡ o → (pre : List Token) × (ts ≡ pre ++ rest_of (and_then o f))
   bind_suffix ts (Ok q) e =
       let one = lp.suffix ts in
       let two = (lf q.0).suffix q.1 in
@@ -50,7 +50,7 @@ module _ {A B : Type 0} (p : Parser A) (f : A → Parser B) (lp : Local p) (lf :
       let next = (lf v).local (u ∷ us) x more others (ap (λ l. rest_of (f v l)) (sym tail) ∙ ends) in
       ap (λ l. and_then (p l) f) new ∙ ap (λ o. and_then o f) here ∙ next ∙ ap (λ l. with_rest (x ∷ others) (f v l)) (sym tail)
 
-  bind_local : (pre : List Token) (x : Token) (more others : List Token) (o : Outcome A) → p (pre ++ x ∷ more) ≡ o → rest_of (and_then o f) ≡ x ∷ more → and_then (p (pre ++ x ∷ others)) f ≡ with_rest (x ∷ others) (and_then o f)
+  bind_local : (pre : List Token) (x : Token) (more others : List Token) (o : ReadingOutcome A) → p (pre ++ x ∷ more) ≡ o → rest_of (and_then o f) ≡ x ∷ more → and_then (p (pre ++ x ∷ others)) f ≡ with_rest (x ∷ others) (and_then o f)
   bind_local pre x more others (Err q) e ends = ap (λ o. and_then o f) (lp.local pre x more others (ap rest_of e ∙ ends) ∙ ap (with_rest (x ∷ others)) e)
   bind_local pre x more others (Ok q) e ends =
       let two = (lf q.0).suffix q.1 in

@@ -3,7 +3,7 @@ use Rattle.std.proofs.Common.{◌≡◌, ℕ, zero, suc, ◌+◌, ◌<◌, ◌�
 use Rattle.pc_token.specs.declared.kinds.Token.{Token}
 use Rattle.pc_token.specs.declared.signs.Sign.TheVariants as s
 use Rattle.pc_token.specs.Asking.{is_sign}
-use Rattle.pc_grammar.specs.Reading.{Outcome, Parser, and_then, pure, ◌>>=◌, many, many_step, all, after, at, next_item, begins_item}
+use Rattle.pc_grammar.specs.Reading.{ReadingOutcome, Parser, and_then, pure, ◌>>=◌, many, many_step, all, after, at, next_item, begins_item}
 use Rattle.pc_grammar.proofs.Local.{rest_of, with_rest, Local, Takes, local_bind, local_pure}
 
 abbrev Next : Type 0
@@ -43,7 +43,7 @@ empty [] x more e = refl
 empty (y ∷ pre) x more e = absurd (omega (arith, ap length e, length-append pre (x ∷ more)))
 
 -- whether one more begins, and where
-abbrev goes_at : List Token → Option (List Token) → Outcome Bool
+abbrev goes_at : List Token → Option (List Token) → ReadingOutcome Bool
 goes_at ts None = Ok (false, ts)
 goes_at ts (Some begin) = Ok (true, begin)
 
@@ -111,7 +111,7 @@ module _ {A : Type 0} (next : Next) (p : Parser A) where
     ]
 
     module _ (takes : Takes p) where
-      fuel_turn : (m k : ℕ) (begin : List Token) (o : Outcome A) → p begin ≡ o → ((rest : List Token) → length rest < length begin → many next p m rest ≡ many next p k rest)
+      fuel_turn : (m k : ℕ) (begin : List Token) (o : ReadingOutcome A) → p begin ≡ o → ((rest : List Token) → length rest < length begin → many next p m rest ≡ many next p k rest)
           → and_then o (λ x. many next p m >>= λ xs. pure (x ∷ xs)) ≡ and_then o (λ x. many next p k >>= λ xs. pure (x ∷ xs))
       fuel_turn m k begin (Err q) e same = refl
       fuel_turn m k begin (Ok q) e same = ap (λ o. and_then o (λ xs. pure (q.0 ∷ xs))) (same q.1 (takes begin q.1 q.0 e))

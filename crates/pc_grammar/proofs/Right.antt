@@ -5,8 +5,8 @@ use Rattle.pc_tree.specs.Tree as t
 use Rattle.pc_tree.specs.Depths.{depth, seq_depth}
 use Rattle.pc_token.specs.declared.kinds.Token.{Token}
 use Rattle.pc_grammar.specs.Spells.{Spells, SpellsInfix, SpellsSeq}
-use Rattle.pc_grammar.specs.Begins.{Begins, SpellsNone, IsOne, IsTooDeep}
-use Rattle.pc_grammar.specs.Reading.{Fault, unexpected, too_deep, Outcome, Parser, seq, expr, infix_, inner}
+use Rattle.pc_grammar.specs.Begins.{Begins, SpellsNoTree, IsOne, IsTooDeep}
+use Rattle.pc_grammar.specs.Reading.{ReadingFault, unexpected, too_deep, ReadingOutcome, Parser, seq, expr, infix_, inner}
 use Rattle.pc_grammar.specs.Laws.{ReadsRight, RefusesRight, DeepRight, SeqIsOne, ExprIsOne, SeqReadsRight, SeqRefusesRight, SeqDeepRight, ExprReadsRight, ExprRefusesRight, ExprDeepRight, InfixReadsRight, InfixRefusesRight, InfixDeepRight}
 use Rattle.pc_grammar.proofs.Follow.{last_stops, to_expr, to_infix}
 use Rattle.pc_grammar.proofs.Complete.{complete, complete_seq, as_expr, as_infix}
@@ -20,15 +20,15 @@ use Rattle.pc_grammar.proofs.ExplainedParts.{InfixIn}
 use Rattle.pc_grammar.proofs.ExplainedExprs.{explained_expr, explained_infix}
 use Rattle.pc_grammar.proofs.ExplainedSeqs.{explained_inner, explained_seq}
 
-pub rest_with : {A : Type 0} (ts : List Token) (o : Outcome A) → rest_of (with_rest ts o) ≡ ts
+pub rest_with : {A : Type 0} (ts : List Token) (o : ReadingOutcome A) → rest_of (with_rest ts o) ≡ ts
 rest_with ts (Ok r) = refl
 rest_with ts (Err e) = refl
 
-pub ok_apart : {A : Type 0} (b : A) (rest r : List Token) → ◌≡◌ {A = Outcome A} (Ok (b, rest)) (Err (too_deep, r)) → ⊥
+pub ok_apart : {A : Type 0} (b : A) (rest r : List Token) → ◌≡◌ {A = ReadingOutcome A} (Ok (b, rest)) (Err (too_deep, r)) → ⊥
 ok_apart b rest r e = cc
 
-pub fault_apart : {A : Type 0} (rest r : List Token) → ◌≡◌ {A = Outcome A} (Err (unexpected, rest)) (Err (too_deep, r)) → ⊥
-fault_apart rest r e = let f : ◌≡◌ {A = Fault × List Token} (unexpected, rest) (too_deep, r) = cc in let g : unexpected ≡ too_deep = ap (λ p. p.0) f in cc
+pub fault_apart : {A : Type 0} (rest r : List Token) → ◌≡◌ {A = ReadingOutcome A} (Err (unexpected, rest)) (Err (too_deep, r)) → ⊥
+fault_apart rest r e = let f : ◌≡◌ {A = ReadingFault × List Token} (unexpected, rest) (too_deep, r) = cc in let g : unexpected ≡ too_deep = ap (λ p. p.0) f in cc
 
 module _ {A : Type 0} (spells : A → List Token → Type 0) (depth_of : A → ℕ) where
   abbrev pub In : Bool → ℕ → A → List Token → Type 0
@@ -58,7 +58,7 @@ module _ {A : Type 0} (spells : A → List Token → Type 0) (depth_of : A → �
         omega (arith, ap length lists, length-append others (the_end ∷ []))
 
     -- with as many levels as the tree has
-    nothing_begins : (n : ℕ) (pre : List Token) (x : Token) (more : List Token) (o : Outcome A) → reading n (pre ++ x ∷ more) ≡ o → ((r : List Token) → o ≡ Err (too_deep, r) → ⊥) → rest_of o ≡ x ∷ more → Begins spells (pre ++ x ∷ []) → ⊥
+    nothing_begins : (n : ℕ) (pre : List Token) (x : Token) (more : List Token) (o : ReadingOutcome A) → reading n (pre ++ x ∷ more) ≡ o → ((r : List Token) → o ≡ Err (too_deep, r) → ⊥) → rest_of o ≡ x ∷ more → Begins spells (pre ++ x ∷ []) → ⊥
     nothing_begins n pre x more o e apart ends begins =
         let m = max n (depth_of begins.1) in
         let spelled : spells begins.1 (pre ++ x ∷ begins.0) = subst (λ l. spells begins.1 l) (append_assoc pre (x ∷ []) begins.0) begins.2 in
@@ -75,13 +75,13 @@ module _ {A : Type 0} (spells : A → List Token → Type 0) (depth_of : A → �
     -- what is refused at a token would be refused at the end as well
     none_by : (m : ℕ) (pre : List Token) (x : Token) (more : List Token) (b : A) → reading m (pre ++ x ∷ more) ≡ Err (unexpected, x ∷ more) → spells b pre → depth_of b ≤ m → ⊥
     none_by m pre x more b e spelled fits =
-        let P : Outcome A → Type 0 = λ o. Plain o in
+        let P : ReadingOutcome A → Type 0 = λ o. Plain o in
         let read = whole b m pre spelled fits in
         let here = (steadies m).steady pre x more [] (ap rest_of e) (subst P (sym e) tt) ∙ ap (with_rest (the_end ∷ [])) e in
-        let same : ◌≡◌ {A = Outcome A} (Ok (b, the_end ∷ [])) (Err (unexpected, the_end ∷ [])) = sym read ∙ here in
+        let same : ◌≡◌ {A = ReadingOutcome A} (Ok (b, the_end ∷ [])) (Err (unexpected, the_end ∷ [])) = sym read ∙ here in
         cc
 
-    is_none : (n : ℕ) (pre : List Token) (x : Token) (more : List Token) → reading n (pre ++ x ∷ more) ≡ Err (unexpected, x ∷ more) → SpellsNone spells pre
+    is_none : (n : ℕ) (pre : List Token) (x : Token) (more : List Token) → reading n (pre ++ x ∷ more) ≡ Err (unexpected, x ∷ more) → SpellsNoTree spells pre
     is_none n pre x more e b spelled =
         let m = max n (depth_of b) in
         elim (agrees n m (omega arith) (pre ++ x ∷ more)) [

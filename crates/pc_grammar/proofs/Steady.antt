@@ -4,7 +4,8 @@ use Rattle.std.proofs.Common.{◌≡◌, ℕ, zero, suc, ◌+◌, ◌<◌, Bool,
 use Rattle.pc_token.specs.declared.kinds.Token.{Token}
 use Rattle.pc_token.specs.declared.kinds.TokenKind.TheVariants as k
 use Rattle.pc_grammar.specs.Spells.{no_span}
-use Rattle.pc_grammar.specs.Reading.{Fault, unexpected, too_deep, Outcome, Parser, and_then, pure, refuse, ◌>>=◌, peek, take_if, many, many_step, all, deeper}
+use Rattle.pc_grammar.specs.Reading.{ReadingFault, unexpected, too_deep, ReadingOutcome, Parser, and_then, pure, refuse, ◌>>=◌, peek, take_if, many}
+use Rattle.pc_grammar.specs.Reading.{many_step, all, deeper}
 use Rattle.pc_grammar.proofs.Lifts.{many_none}
 use Rattle.pc_grammar.proofs.Local.{rest_of, with_rest, Local, Takes, cut, local_bind, local_pure}
 use Rattle.pc_grammar.proofs.LocalLoops.{OneAhead, local_many, fuel}
@@ -12,12 +13,12 @@ use Rattle.pc_grammar.proofs.LocalLoops.{OneAhead, local_many, fuel}
 abbrev pub the_end : Token
 the_end = record { kind = k.End; first = false; span = no_span }
 
-abbrev pub Usual : Fault → Type 0
+abbrev pub Usual : ReadingFault → Type 0
 Usual unexpected = Unit {0}
 Usual too_deep = ⊥
 
 -- no level is too deep
-abbrev pub Plain : {A : Type 0} → Outcome A → Type 0
+abbrev pub Plain : {A : Type 0} → ReadingOutcome A → Type 0
 Plain (Ok r) = Unit {0}
 Plain (Err e) = Usual e.0
 
@@ -33,7 +34,7 @@ module _ {A B : Type 0} (p : Parser A) (f : A → Parser B) (lp : Local p) (lf :
     bind_at : (pre : List Token) (x : Token) (more others : List Token) (v : A) (pre2 r pre1 : List Token) → p (pre ++ x ∷ more) ≡ Ok (v, r) → r ≡ pre2 ++ x ∷ more → pre ≡ pre1 ++ pre2 → rest_of (f v r) ≡ x ∷ more → Plain (f v r)
         → and_then (p (pre ++ the_end ∷ others)) f ≡ with_rest (the_end ∷ others) (f v r)
     bind_at pre x more others v [] r pre1 e tail cuts ends plain =
-        let P : Outcome A → Type 0 = λ o. Plain o in
+        let P : ReadingOutcome A → Type 0 = λ o. Plain o in
         let Q : List Token → Type 0 = λ l. Plain (f v l) in
         let here = sp.steady pre x more others (ap rest_of e ∙ tail) (subst P (sym e) tt) ∙ ap (with_rest (the_end ∷ others)) e in
         let next = (sf v).steady [] x more others (ap (λ l. rest_of (f v l)) (sym tail) ∙ ends) (subst Q tail plain) in
@@ -47,9 +48,9 @@ module _ {A B : Type 0} (p : Parser A) (f : A → Parser B) (lp : Local p) (lf :
         let next = (sf v).steady (u ∷ us) x more others (ap (λ l. rest_of (f v l)) (sym tail) ∙ ends) (subst Q tail plain) in
         ap (λ l. and_then (p l) f) new ∙ ap (λ o. and_then o f) here ∙ next ∙ ap (λ l. with_rest (the_end ∷ others) (f v l)) (sym tail)
 
-    bind_by : (pre : List Token) (x : Token) (more others : List Token) (o : Outcome A) → p (pre ++ x ∷ more) ≡ o → rest_of (and_then o f) ≡ x ∷ more → Plain (and_then o f) → and_then (p (pre ++ the_end ∷ others)) f ≡ with_rest (the_end ∷ others) (and_then o f)
+    bind_by : (pre : List Token) (x : Token) (more others : List Token) (o : ReadingOutcome A) → p (pre ++ x ∷ more) ≡ o → rest_of (and_then o f) ≡ x ∷ more → Plain (and_then o f) → and_then (p (pre ++ the_end ∷ others)) f ≡ with_rest (the_end ∷ others) (and_then o f)
     bind_by pre x more others (Err q) e ends plain =
-        let P : Outcome A → Type 0 = λ o. Plain o in
+        let P : ReadingOutcome A → Type 0 = λ o. Plain o in
         ap (λ o. and_then o f) (sp.steady pre x more others (ap rest_of e ∙ ends) (subst P (sym e) plain) ∙ ap (with_rest (the_end ∷ others)) e)
     bind_by pre x more others (Ok q) e ends plain =
         let two = (lf q.0).suffix q.1 in
@@ -61,8 +62,8 @@ module _ {A B : Type 0} (p : Parser A) (f : A → Parser B) (lp : Local p) (lf :
     pub steady_bind : Steady (p >>= f)
     steady_bind = record { steady = λ pre x more others ends plain. bind_by pre x more others (p (pre ++ x ∷ more)) refl ends plain }
 
-  enters_by : (x : Token) (more : List Token) (o : Outcome A) → p (x ∷ more) ≡ o → Enters p x → Takes p → rest_of (and_then o f) ≡ x ∷ more → Plain (and_then o f) → ⊥
-  enters_by x more (Err q) e enters takes ends plain = let P : Outcome A → Type 0 = λ o. Plain o in enters.never more (ap rest_of e ∙ ends) (subst P (sym e) plain)
+  enters_by : (x : Token) (more : List Token) (o : ReadingOutcome A) → p (x ∷ more) ≡ o → Enters p x → Takes p → rest_of (and_then o f) ≡ x ∷ more → Plain (and_then o f) → ⊥
+  enters_by x more (Err q) e enters takes ends plain = let P : ReadingOutcome A → Type 0 = λ o. Plain o in enters.never more (ap rest_of e ∙ ends) (subst P (sym e) plain)
   enters_by x more (Ok q) e enters takes ends plain =
       let two = (lf q.0).suffix q.1 in
       omega (arith, takes (x ∷ more) q.1 q.0 e, ap length two.1, length-append two.0 (rest_of (f q.0 q.1)), ap length ends)
@@ -135,13 +136,13 @@ unfolding peek
 enters_peek g x e = record { never = λ more ends plain. e.never more ends plain }
 
 -- if the token decides: it is taken, or what is read without it has the same result at the end
-pub ends_cond : {A : Type 0} (p q : Parser A) (x : Token) (more others : List Token) (end : Outcome A) (b : Bool) → (b ≡ true → Enters p x) → (rest_of (q (x ∷ more)) ≡ x ∷ more → Plain (q (x ∷ more)) → end ≡ with_rest (the_end ∷ others) (q (x ∷ more)))
+pub ends_cond : {A : Type 0} (p q : Parser A) (x : Token) (more others : List Token) (end : ReadingOutcome A) (b : Bool) → (b ≡ true → Enters p x) → (rest_of (q (x ∷ more)) ≡ x ∷ more → Plain (q (x ∷ more)) → end ≡ with_rest (the_end ∷ others) (q (x ∷ more)))
     → rest_of (cond b p q (x ∷ more)) ≡ x ∷ more → Plain (cond b p q (x ∷ more)) → end ≡ with_rest (the_end ∷ others) (cond b p q (x ∷ more))
 ends_cond p q x more others end true enters same ends plain = absurd ((enters refl).never more ends plain)
 ends_cond p q x more others end false enters same ends plain = same ends plain
 
 -- what always takes a token, if the end is refused
-refused : {A : Type 0} (x : Token) (more others : List Token) (o : Outcome A) → ((r : A × List Token) → o ≡ Ok r → length r.1 < length (x ∷ more)) → rest_of o ≡ x ∷ more → Plain o → Err (unexpected, the_end ∷ others) ≡ with_rest (the_end ∷ others) o
+refused : {A : Type 0} (x : Token) (more others : List Token) (o : ReadingOutcome A) → ((r : A × List Token) → o ≡ Ok r → length r.1 < length (x ∷ more)) → rest_of o ≡ x ∷ more → Plain o → Err (unexpected, the_end ∷ others) ≡ with_rest (the_end ∷ others) o
 refused x more others (Ok r) takes ends plain = absurd (omega (arith, takes r refl, ap length ends))
 refused x more others (Err (unexpected, r)) takes ends plain = refl
 refused x more others (Err (too_deep, r)) takes ends plain = absurd plain
@@ -210,7 +211,7 @@ module _ {A : Type 0} (next : List Token → Option (List Token)) (p : Parser A)
         let m = length old + length new in
         let a = fuel next p ahead lp takes (length old) m old (omega arith) (omega arith) in
         let b = fuel next p ahead lp takes (length new) m new (omega arith) (omega arith) in
-        let P : Outcome (List A) → Type 0 = λ o. Plain o in
+        let P : ReadingOutcome (List A) → Type 0 = λ o. Plain o in
         b ∙ many_steady m pre x more others (ap rest_of (sym a) ∙ ends) (subst P a plain) ∙ ap (with_rest (the_end ∷ others)) (sym a);
   }
 

@@ -13,8 +13,12 @@ use Rattle.pc_token.specs.declared.signs.Sign.{Sign}
 use Rattle.pc_token.specs.declared.signs.Sign.TheVariants as s
 use Rattle.pc_token.specs.Asking.{is_sign, is_word, kind_is_word, same_word}
 use Rattle.pc_grammar.specs.Asking.{op_of, cap_of, local_word}
-use Rattle.pc_grammar.specs.Spells.{is_place, join}
-use Rattle.pc_grammar.specs.Reading.{Outcome, Parser, Inner, and_then, pure, refuse, ◌>>=◌, ◌>>◌, peek, take_if, deeper, all, name, name_at, type_name, type_name_at, cap_by, maybe_cap, written_type, maybe_type, typed_at, group, arm, if_, while_, recover_, other, other_at, leaf, atom, atom_at, args, arg_list, arg_list_at, suffix, suffix_at, postfix, negation, consume, term, term_at, infix_in, infix_with, infix_by, becomes, assigns, expr_by, expr_in, expr_with, local, item, item_at, seq_in, seq_with, inner, next_item, after, at, is_op, begins_suffix, begins_item, kind_begins}
+use Rattle.pc_grammar.specs.Spells.{is_place, span_from_to}
+use Rattle.pc_grammar.specs.Reading.{ReadingOutcome, Parser, Inner, and_then, pure, refuse, ◌>>=◌, ◌>>◌, peek, take_if, deeper, all, name, name_at}
+use Rattle.pc_grammar.specs.Reading.{type_name, type_name_at, cap_by, maybe_cap, written_type, maybe_type, typed_at, group, arm, if_, while_, recover_, other}
+use Rattle.pc_grammar.specs.Reading.{other_at, leaf, atom, atom_at, args, arg_list, arg_list_at, suffix, suffix_at, postfix, negation, consume, term, term_at}
+use Rattle.pc_grammar.specs.Reading.{infix_in, infix_with, infix_by, becomes, assigns, expr_by, expr_in, expr_with, local, item, item_at, seq_in, seq_with}
+use Rattle.pc_grammar.specs.Reading.{inner, next_item, after, at, is_op, begins_suffix, begins_item, kind_begins}
 use Rattle.pc_grammar.proofs.Follow.{after_op}
 use Rattle.pc_grammar.proofs.Local.{rest_of, with_rest, Local, Takes, local_bind, local_pure, local_refuse, local_peek, local_take, local_deeper}
 use Rattle.pc_grammar.proofs.LocalLoops.{OneAhead, after_ahead, at_ahead, item_ahead, local_all, local_same}
@@ -167,7 +171,7 @@ module _ (n : ℕ) (p : Parser t.Seq) (a : Fine p) where
   fine_other = fine_peek (other_at p) (λ y. fine_cond (is_word w.ElseWord y) _ _ (fine_behind (is_word w.ElseWord) p (λ b. t.other b) (fine_word w.ElseWord) a) (fine_pure t.no_other))
       (λ x more others ends plain. ends_cond _ _ x more others (Ok (t.no_other, the_end ∷ others)) (is_word w.ElseWord x) (λ is. enters_behind (is_word w.ElseWord) p (λ b. t.other b) x a is) (λ e q. refl) ends plain)
 
-  arm_inside : (x : Token) → Fine (p >>= λ c. take_if (is_word w.ThenWord) >> p >>= λ b. pure (t.arm_of c b (join x.span (t.seq_span b))))
+  arm_inside : (x : Token) → Fine (p >>= λ c. take_if (is_word w.ThenWord) >> p >>= λ b. pure (t.arm_of c b (span_from_to x.span (t.seq_span b))))
   arm_inside x = fine_bind _ _ a (λ c. fine_bind _ _ (fine_bind _ _ (fine_word w.ThenWord) (λ y. a)) (λ b. fine_pure _))
 
   fine_arm : (word : Word) → Fine (arm word p)
@@ -182,7 +186,7 @@ module _ (n : ℕ) (p : Parser t.Seq) (a : Fine p) where
   fine_arms = fine_all (at (is_word w.ElseifWord)) (arm w.ElseifWord p) (at_ahead _) (good_arm n p a.local w.ElseifWord).takes (fine_arm w.ElseifWord) (at_end (is_word w.ElseifWord) (no_end w.ElseifWord))
       (λ x more e. enters_arm w.ElseifWord x (at_is (is_word w.ElseifWord) x more (x ∷ more) e).1)
 
-  if_inside : (x : t.Arm) → Fine (all (at (is_word w.ElseifWord)) (arm w.ElseifWord p) >>= λ more. other p >>= λ o. take_if (is_word w.EndWord) >>= λ close. pure (t.if_ (t.arms_of (x ∷ more)) o (join (t.arm_span x) close.span)))
+  if_inside : (x : t.Arm) → Fine (all (at (is_word w.ElseifWord)) (arm w.ElseifWord p) >>= λ more. other p >>= λ o. take_if (is_word w.EndWord) >>= λ close. pure (t.if_ (t.arms_of (x ∷ more)) o (span_from_to (t.arm_span x) close.span)))
   if_inside x = fine_bind _ _ fine_arms (λ xs. fine_bind _ _ fine_other (λ o. fine_bind _ _ (fine_word w.EndWord) (λ z. fine_pure _)))
 
   fine_if : Fine (if_ n p)
@@ -193,7 +197,7 @@ module _ (n : ℕ) (p : Parser t.Seq) (a : Fine p) where
   unfolding if_
   enters_if x is = enters_deeper n _ x (enters_bind _ _ (fine_arm w.IfWord).local (λ v. (if_inside v).local) x (enters_arm w.IfWord x is) (good_arm n p a.local w.IfWord).takes)
 
-  while_inside : (x : Token) → Fine (p >>= λ c. take_if (is_word w.DoWord) >> p >>= λ b. take_if (is_word w.EndWord) >>= λ close. pure (t.while_ c b (join x.span close.span)))
+  while_inside : (x : Token) → Fine (p >>= λ c. take_if (is_word w.DoWord) >> p >>= λ b. take_if (is_word w.EndWord) >>= λ close. pure (t.while_ c b (span_from_to x.span close.span)))
   while_inside x = fine_bind _ _ a (λ c. fine_bind _ _ (fine_bind _ _ (fine_word w.DoWord) (λ y. a)) (λ b. fine_bind _ _ (fine_word w.EndWord) (λ z. fine_pure _)))
 
   fine_while : Fine (while_ n p)
@@ -204,7 +208,7 @@ module _ (n : ℕ) (p : Parser t.Seq) (a : Fine p) where
   unfolding while_
   enters_while x is = enters_deeper n _ x (enters_fine (is_word w.WhileWord) _ x while_inside is)
 
-  recover_inside : (x : Token) → Fine (maybe_cap >>= λ c. p >>= λ b. take_if (is_word w.EndWord) >>= λ close. pure (t.recover c b (join x.span close.span)))
+  recover_inside : (x : Token) → Fine (maybe_cap >>= λ c. p >>= λ b. take_if (is_word w.EndWord) >>= λ close. pure (t.recover c b (span_from_to x.span close.span)))
   recover_inside x = fine_bind _ _ fine_maybe_cap (λ c. fine_bind _ _ a (λ b. fine_bind _ _ (fine_word w.EndWord) (λ z. fine_pure _)))
 
   fine_recover : Fine (recover_ n p)
@@ -275,7 +279,7 @@ fine_same p q e a = record {
   local = local_same p q e a.local;
   steady = record {
     steady = λ pre x more others ends plain.
-        let P : Outcome _ → Type 0 = λ o. Plain o in
+        let P : ReadingOutcome _ → Type 0 = λ o. Plain o in
         e (pre ++ the_end ∷ others) ∙ a.steady.steady pre x more others (ap rest_of (sym (e (pre ++ x ∷ more))) ∙ ends) (subst P (e (pre ++ x ∷ more)) plain) ∙ ap (with_rest (the_end ∷ others)) (sym (e (pre ++ x ∷ more)));
   };
 }
@@ -320,8 +324,8 @@ module _ (e : Parser t.Expr) (a : Fine e) (takes : Takes e) where
         (fine_peek (λ y. chosen (is_sign s.CloseParen y)) (λ y. fine_chosen (is_sign s.CloseParen y)) (λ x more others ends plain. chosen_ends x more others (is_sign s.CloseParen x) refl ends plain))
 
 module _ (n : ℕ) (e : Parser t.Expr) (a : Fine e) (takes : Takes e) where
-  args_inside : (x : Token) → Fine (arg_list e >>= λ es. take_if (is_sign s.CloseParen) >>= λ close. pure (t.args es (join x.span close.span)))
-  args_inside x = fine_closed_args e a takes (λ es y. t.args es (join x.span y.span))
+  args_inside : (x : Token) → Fine (arg_list e >>= λ es. take_if (is_sign s.CloseParen) >>= λ close. pure (t.args es (span_from_to x.span close.span)))
+  args_inside x = fine_closed_args e a takes (λ es y. t.args es (span_from_to x.span y.span))
 
   fine_args : Fine (args n e)
   unfolding args
@@ -361,11 +365,11 @@ pub record FineInner (i : Inner) : Type 0 where
   pub expr : Fine i.expr
   pub term : Fine i.term
 
-rest_pure : {A B : Type 0} (o : Outcome A) (f : A → B) → rest_of (and_then o (λ v. pure (f v))) ≡ rest_of o
+rest_pure : {A B : Type 0} (o : ReadingOutcome A) (f : A → B) → rest_of (and_then o (λ v. pure (f v))) ≡ rest_of o
 rest_pure (Ok r) f = refl
 rest_pure (Err e) f = refl
 
-plain_pure : {A B : Type 0} (o : Outcome A) (f : A → B) → Plain (and_then o (λ v. pure (f v))) → Plain o
+plain_pure : {A B : Type 0} (o : ReadingOutcome A) (f : A → B) → Plain (and_then o (λ v. pure (f v))) → Plain o
 plain_pure (Ok r) f h = h
 plain_pure (Err e) f h = h
 
@@ -435,11 +439,13 @@ module _ (n : ℕ) (i : Inner) (a : FineInner i) (g : GoodInner i) where
 
   fine_becomes : (l : t.Expr) → Fine (becomes n i.expr l)
   unfolding becomes
-  fine_becomes l = fine_deeper n _ (fine_behind (is_sign s.Assign) i.expr (λ r. t.assign l r (join (t.span_of l) (t.span_of r))) (fine_sign s.Assign) a.expr)
+  fine_becomes l = fine_deeper n _
+      (fine_behind (is_sign s.Assign) i.expr (λ r. t.assign l r (span_from_to (t.span_of l) (t.span_of r))) (fine_sign s.Assign) a.expr)
 
   enters_becomes : (l : t.Expr) (x : Token) → is_sign s.Assign x ≡ true → Enters (becomes n i.expr l) x
   unfolding becomes
-  enters_becomes l x is = enters_deeper n _ x (enters_behind (is_sign s.Assign) i.expr (λ r. t.assign l r (join (t.span_of l) (t.span_of r))) x a.expr is)
+  enters_becomes l x is =
+      enters_deeper n _ x (enters_behind (is_sign s.Assign) i.expr (λ r. t.assign l r (span_from_to (t.span_of l) (t.span_of r))) x a.expr is)
 
   expr_inside : (e : t.Expr) → Fine (peek >>= λ x. expr_by n i.expr e x)
   unfolding is_sign
@@ -456,7 +462,7 @@ module _ (n : ℕ) (i : Inner) (a : FineInner i) (g : GoodInner i) where
 
   -- ---- items and sequences
 
-  local_inside : (f : Bool) (x : Token) → Fine (name >>= λ m. maybe_type >>= λ ty. take_if (is_sign s.Assign) >> expr_in n i >>= λ v. pure (t.local f m ty v (join x.span (t.span_of v))))
+  local_inside : (f : Bool) (x : Token) → Fine (name >>= λ m. maybe_type >>= λ ty. take_if (is_sign s.Assign) >> expr_in n i >>= λ v. pure (t.local f m ty v (span_from_to x.span (t.span_of v))))
   local_inside f x = fine_bind _ _ fine_name (λ m. fine_bind _ _ fine_maybe_type (λ ty. fine_bind _ _ (fine_bind _ _ (fine_sign s.Assign) (λ z. fine_expr)) (λ v. fine_pure _)))
 
   fine_local : (f : Bool) → Fine (local f (expr_in n i))

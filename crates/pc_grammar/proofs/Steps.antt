@@ -3,8 +3,8 @@ use Rattle.std.proofs.Common.{◌≡◌, ℕ, suc, ◌<◌, Bool, true, false, L
 use Rattle.pc_caps.specs.declared.span.Span.{Span}
 use Rattle.pc_caps.specs.declared.capability.Cap.{Cap}
 use Rattle.pc_tree.specs.Tree as t
-use Rattle.pc_tree.specs.declared.names.Name.{Name}
-use Rattle.pc_tree.specs.declared.names.TypeRef.{TypeRef}
+use Rattle.pc_tree.specs.declared.written_names.Name.{Name}
+use Rattle.pc_tree.specs.declared.written_names.TypeRef.{TypeRef}
 use Rattle.pc_tree.specs.declared.kinds.Op.{Op}
 use Rattle.pc_token.specs.declared.kinds.Token.{Token}
 use Rattle.pc_token.specs.declared.kinds.TokenKind.{TokenKind}
@@ -14,8 +14,11 @@ use Rattle.pc_token.specs.declared.words.Word.TheVariants as w
 use Rattle.pc_token.specs.declared.signs.Sign.TheVariants as s
 use Rattle.pc_token.specs.Asking.{is_sign, is_word}
 use Rattle.pc_grammar.specs.Asking.{op_of, cap_of, local_word, truth_word}
-use Rattle.pc_grammar.specs.Spells.{join, is_place, IsName, IsTypeName, SpellsCap, SpellsType, SpellsTyped}
-use Rattle.pc_grammar.specs.Reading.{Outcome, Parser, Inner, and_then, pure, ◌>>=◌, peek, take_if, many, all, next_item, after, at, is_op, begins_suffix, name, type_name, cap_by, maybe_cap, written_type, maybe_type, group, arm, if_, while_, recover_, leaf, negation, consume, becomes, args, arg_list, other, suffix, atom, atom_at, term, local, item, seq_with, seq_of, infix_in, infix_with, infix_of, expr_in, expr_with, postfix, chain_of}
+use Rattle.pc_grammar.specs.Spells.{span_from_to, is_place, IsName, IsTypeName, SpellsCap, SpellsType, SpellsTyped}
+use Rattle.pc_grammar.specs.Reading.{ReadingOutcome, Parser, Inner, and_then, pure, ◌>>=◌, peek, take_if, many, all, next_item, after, at, is_op}
+use Rattle.pc_grammar.specs.Reading.{begins_suffix, name, type_name, cap_by, maybe_cap, written_type, maybe_type, group, arm, if_, while_, recover_, leaf}
+use Rattle.pc_grammar.specs.Reading.{negation, consume, becomes, args, arg_list, other, suffix, atom, atom_at, term, local, item, seq_with, seq_of, infix_in}
+use Rattle.pc_grammar.specs.Reading.{infix_with, infix_of, expr_in, expr_with, postfix, chain_of}
 use Rattle.pc_grammar.proofs.Levels.{one_deeper}
 use Rattle.pc_grammar.proofs.Follow.{Leads, kind_of_word, consume_not_not, var_not_let}
 
@@ -63,7 +66,7 @@ module _ (n : ℕ) (p : Parser t.Seq) where
   type_name_atom x m rest h = ap (λ kk. atom_at n p kk (x ∷ rest)) h.0 ∙ ap (λ o. and_then o (λ m. pure (t.type_name m))) (type_name_read x m rest h)
 
   -- the rule that the kind of the first token chooses
-  pub atom_by : (x : Token) (kk : TokenKind) (ts : List Token) (r : Outcome t.Expr) → x.kind ≡ kk → atom_at n p kk (x ∷ ts) ≡ r → atom n p (x ∷ ts) ≡ r
+  pub atom_by : (x : Token) (kk : TokenKind) (ts : List Token) (r : ReadingOutcome t.Expr) → x.kind ≡ kk → atom_at n p kk (x ∷ ts) ≡ r → atom n p (x ∷ ts) ≡ r
   unfolding atom peek
   atom_by x kk ts r h read = ap (λ kk. atom_at n p kk (x ∷ ts)) h ∙ read
 
@@ -77,28 +80,28 @@ module _ (n : ℕ) (p : Parser t.Seq) where
   truth_atom false x ts h = atom_by x (k.Word w.FalseWord) ts _ (kind_of_word w.FalseWord x h) refl
 
   pub group_read : (x y : Token) (inside rest : List Token) (b : t.Seq) → 0 < n → is_sign s.OpenParen x ≡ true → p inside ≡ Ok (b, y ∷ rest) → is_sign s.CloseParen y ≡ true
-      → group n p (x ∷ inside) ≡ Ok (t.group b (join x.span y.span), rest)
+      → group n p (x ∷ inside) ≡ Ok (t.group b (span_from_to x.span y.span), rest)
   unfolding group take_if
   group_read x y inside rest b some opens read closes = rw (one_deeper, opens, read, closes)
 
   pub if_read : (ts second third rest : List Token) (z : Token) (a : t.Arm) (xs : List t.Arm) (o : t.Other) → 0 < n → arm w.IfWord p ts ≡ Ok (a, second) → all (at (is_word w.ElseifWord)) (arm w.ElseifWord p) second ≡ Ok (xs, third)
-      → other p third ≡ Ok (o, z ∷ rest) → is_word w.EndWord z ≡ true → if_ n p ts ≡ Ok (t.if_ (t.arms_of (a ∷ xs)) o (join (t.arm_span a) z.span), rest)
+      → other p third ≡ Ok (o, z ∷ rest) → is_word w.EndWord z ≡ true → if_ n p ts ≡ Ok (t.if_ (t.arms_of (a ∷ xs)) o (span_from_to (t.arm_span a) z.span), rest)
   unfolding if_ take_if
   if_read ts second third rest z a xs o some one two three ends = rw (one_deeper, one, two, three, ends)
 
   pub while_read : (x y z : Token) (first second rest : List Token) (c b : t.Seq) → 0 < n → is_word w.WhileWord x ≡ true → p first ≡ Ok (c, y ∷ second) → is_word w.DoWord y ≡ true → p second ≡ Ok (b, z ∷ rest) → is_word w.EndWord z ≡ true
-      → while_ n p (x ∷ first) ≡ Ok (t.while_ c b (join x.span z.span), rest)
+      → while_ n p (x ∷ first) ≡ Ok (t.while_ c b (span_from_to x.span z.span), rest)
   unfolding while_ take_if
   while_read x y z first second rest c b some opens one then two ends = rw (one_deeper, opens, one, then, two, ends)
 
   pub recover_read : (x z : Token) (first second rest : List Token) (c : Option Cap) (b : t.Seq) → 0 < n → is_word w.RecoverWord x ≡ true → maybe_cap first ≡ Ok (c, second) → p second ≡ Ok (b, z ∷ rest) → is_word w.EndWord z ≡ true
-      → recover_ n p (x ∷ first) ≡ Ok (t.recover c b (join x.span z.span), rest)
+      → recover_ n p (x ∷ first) ≡ Ok (t.recover c b (span_from_to x.span z.span), rest)
   unfolding recover_ take_if
   recover_read x z first second rest c b some opens one two ends = rw (one_deeper, opens, one, two, ends)
 
 module _ (p : Parser t.Seq) where
   pub arm_read : (word : Word) (x y : Token) (first second rest : List Token) (c b : t.Seq) → is_word word x ≡ true → p first ≡ Ok (c, y ∷ second) → is_word w.ThenWord y ≡ true → p second ≡ Ok (b, rest)
-      → arm word p (x ∷ first) ≡ Ok (t.arm_of c b (join x.span (t.seq_span b)), rest)
+      → arm word p (x ∷ first) ≡ Ok (t.arm_of c b (span_from_to x.span (t.seq_span b)), rest)
   unfolding arm take_if
   arm_read word x y first second rest c b opens one then two = rw (opens, one, then, two)
 
@@ -116,17 +119,17 @@ module _ (p : Parser t.Seq) where
 
 module _ (n : ℕ) (p : Parser t.Expr) where
   pub negation_read : (x : Token) (inside rest : List Token) (e : t.Expr) → 0 < n → is_word w.NotWord x ≡ true → p inside ≡ Ok (e, rest)
-      → negation n p (x ∷ inside) ≡ Ok (t.not_ e (join x.span (t.span_of e)), rest)
+      → negation n p (x ∷ inside) ≡ Ok (t.not_ e (span_from_to x.span (t.span_of e)), rest)
   unfolding negation take_if
   negation_read x inside rest e some opens read = rw (one_deeper, opens, read)
 
   pub becomes_read : (l : t.Expr) (x : Token) (inside rest : List Token) (e : t.Expr) → 0 < n → is_sign s.Assign x ≡ true → p inside ≡ Ok (e, rest)
-      → becomes n p l (x ∷ inside) ≡ Ok (t.assign l e (join (t.span_of l) (t.span_of e)), rest)
+      → becomes n p l (x ∷ inside) ≡ Ok (t.assign l e (span_from_to (t.span_of l) (t.span_of e)), rest)
   unfolding becomes take_if
   becomes_read l x inside rest e some opens read = rw (one_deeper, opens, read)
 
   pub args_read : (x y : Token) (inside rest : List Token) (es : t.Exprs) → 0 < n → is_sign s.OpenParen x ≡ true → arg_list p inside ≡ Ok (es, y ∷ rest) → is_sign s.CloseParen y ≡ true
-      → args n p (x ∷ inside) ≡ Ok (t.args es (join x.span y.span), rest)
+      → args n p (x ∷ inside) ≡ Ok (t.args es (span_from_to x.span y.span), rest)
   unfolding args take_if
   args_read x y inside rest es some opens read closes = rw (one_deeper, opens, read, closes)
 
@@ -144,7 +147,7 @@ module _ (n : ℕ) (p : Parser t.Expr) where
   unfolding arg_list peek
   no_args_read y rest closes = rw closes
 
-pub consume_read : (x y : Token) (m : Name) (rest : List Token) → is_word w.ConsumeWord x ≡ true → IsName y m → consume (x ∷ y ∷ rest) ≡ Ok (t.consume m (join x.span m.span), rest)
+pub consume_read : (x y : Token) (m : Name) (rest : List Token) → is_word w.ConsumeWord x ≡ true → IsName y m → consume (x ∷ y ∷ rest) ≡ Ok (t.consume m (span_from_to x.span m.span), rest)
 unfolding consume take_if
 consume_read x y m rest opens h = rw (opens, name_read y m rest h)
 
@@ -192,7 +195,7 @@ module _ (p : Parser t.Expr) where
   plain_read x ts rest e leads read = rw (leads.fixed, leads.free, read)
 
   pub local_read : (f : Bool) (x y z : Token) (m : Name) (ty : Option TypeRef) (third inside rest : List Token) (v : t.Expr) → is_word (local_word f) x ≡ true → IsName y m → maybe_type third ≡ Ok (ty, z ∷ inside) → is_sign s.Assign z ≡ true → p inside ≡ Ok (v, rest)
-      → local f p (x ∷ y ∷ third) ≡ Ok (t.local f m ty v (join x.span (t.span_of v)), rest)
+      → local f p (x ∷ y ∷ third) ≡ Ok (t.local f m ty v (span_from_to x.span (t.span_of v)), rest)
   unfolding local take_if
   local_read f x y z m ty third inside rest v opens h typed assigns read = rw (opens, name_read y m third h, typed, assigns, read)
 

@@ -5,10 +5,10 @@ use Rattle.pc_token.specs.declared.kinds.Token.{Token}
 
 -- the answers for a list of tokens: a tree and the tokens after it, or the tokens from the first unexpected one on, or
 -- from the first one on that opens a level too many
-pub data Answer (A : Type 0) : Type 0 where
-  read : A → List Token → Answer A
-  refused : List Token → Answer A
-  deep : List Token → Answer A
+pub data ParseAnswer (A : Type 0) : Type 0 where
+  read : A → List Token → ParseAnswer A
+  refused : List Token → ParseAnswer A
+  deep : List Token → ParseAnswer A
 
 module _ {A : Type 0} (spells : A → List Token → Type 0) where
   -- some list with this prefix spells some tree, of any depth
@@ -20,8 +20,8 @@ module _ {A : Type 0} (spells : A → List Token → Type 0) where
   IsStopped pre rest = (x : Token) (more : List Token) → rest ≡ x ∷ more → Begins (pre ++ x ∷ []) → ⊥
 
   -- no tree is spelled
-  abbrev pub SpellsNone : List Token → Type 0
-  SpellsNone ts = (tree : A) → spells tree ts → ⊥
+  abbrev pub SpellsNoTree : List Token → Type 0
+  SpellsNoTree ts = (tree : A) → spells tree ts → ⊥
 
   -- at most one tree is spelled
   abbrev pub IsOne : Type 0
@@ -38,18 +38,18 @@ module _ {A : Type 0} (spells : A → List Token → Type 0) where
 
     -- The tokens up to `rest` begin a tree within the levels but spell none, and with the next token none begins.
     abbrev pub IsRefused : List Token → List Token → Type 0
-    IsRefused ts rest = (pre : List Token) × (ts ≡ pre ++ rest) × BeginsWithin pre × SpellsNone pre × IsStopped pre rest
+    IsRefused ts rest = (pre : List Token) × (ts ≡ pre ++ rest) × BeginsWithin pre × SpellsNoTree pre × IsStopped pre rest
 
     -- The tokens up to `rest` begin a tree within the levels; with the next token a tree begins, but none within the
     -- levels.
     abbrev pub IsTooDeep : List Token → List Token → Type 0
     IsTooDeep ts rest = (pre more : List Token) × (x : Token) × (rest ≡ x ∷ more) × (ts ≡ pre ++ rest) × BeginsWithin pre × Begins (pre ++ x ∷ []) × (BeginsWithin (pre ++ x ∷ []) → ⊥)
 
-    abbrev pub IsAnswer : List Token → Answer A → Type 0
+    abbrev pub IsAnswer : List Token → ParseAnswer A → Type 0
     IsAnswer ts (read b rest) = IsRead ts b rest
     IsAnswer ts (refused rest) = IsRefused ts rest
     IsAnswer ts (deep rest) = IsTooDeep ts rest
 
     -- at most one answer
     abbrev pub IsOneAnswer : Type 0
-    IsOneAnswer = (ts : List Token) (one other : Answer A) → IsAnswer ts one → IsAnswer ts other → one ≡ other
+    IsOneAnswer = (ts : List Token) (one other : ParseAnswer A) → IsAnswer ts one → IsAnswer ts other → one ≡ other

@@ -9,7 +9,7 @@ use Rattle.pc_grammar.specs.ReadingFile.{file}
 use Rattle.pc_grammar.specs.Begins.{IsOne, IsOneAnswer, IsRead, IsRefused, IsTooDeep}
 use Rattle.pc_grammar.specs.FileAnswers as answer
 use Rattle.pc_grammar.specs.FileAnswers.{IsFileAnswer, inner_levels}
-use Rattle.pc_grammar.specs.Reading.{Outcome, Parser, unexpected, too_deep, seq, expr, infix_}
+use Rattle.pc_grammar.specs.Reading.{ReadingOutcome, Parser, unexpected, too_deep, seq, expr, infix_}
 
 module _ {A : Type 0} (spells : A → List Token → Type 0) (depth_of : A → ℕ) (reading : ℕ → Parser A) where
   -- What is read is what the tokens spell, within the levels, and the next token does not continue it.
@@ -82,7 +82,7 @@ FileIsOne = IsOne SpellsFile
 
 -- The answer of reading for the whole list. If the list ends before its file does, no token is at fault, and nothing is
 -- claimed.
-abbrev pub AnswersFor : List Token → Outcome t.File → Type 0
+abbrev pub AnswersFor : List Token → ReadingOutcome t.File → Type 0
 AnswersFor ts (Ok (f, [])) = IsFileAnswer ts (answer.spelled f)
 AnswersFor ts (Ok (f, x ∷ rest)) = IsFileAnswer ts (answer.unexpected (x ∷ rest))
 AnswersFor ts (Err (unexpected, [])) = Unit {0}

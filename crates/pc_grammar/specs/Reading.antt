@@ -3,8 +3,8 @@ use Rattle.std.specs.Prelude.{ℕ, zero, suc, Bool, true, false, not, ◌&&◌, 
 use Rattle.pc_caps.specs.declared.span.Span.{Span}
 use Rattle.pc_caps.specs.declared.capability.Cap.{Cap}
 use Rattle.pc_tree.specs.Tree as t
-use Rattle.pc_tree.specs.declared.names.Name.{Name}
-use Rattle.pc_tree.specs.declared.names.TypeRef.{TypeRef}
+use Rattle.pc_tree.specs.declared.written_names.Name.{Name}
+use Rattle.pc_tree.specs.declared.written_names.TypeRef.{TypeRef}
 use Rattle.pc_tree.specs.declared.kinds.Op.{Op}
 use Rattle.pc_token.specs.declared.kinds.Token.{Token}
 use Rattle.pc_token.specs.declared.kinds.TokenKind.{TokenKind}
@@ -14,20 +14,20 @@ use Rattle.pc_token.specs.declared.words.Word.TheVariants as w
 use Rattle.pc_token.specs.declared.signs.Sign.TheVariants as s
 use Rattle.pc_token.specs.Asking.{is_sign, is_word}
 use Rattle.pc_grammar.specs.Asking.{op_of, cap_of, same_op, local_word}
-use Rattle.pc_grammar.specs.Spells.{no_span, join, is_place}
+use Rattle.pc_grammar.specs.Spells.{no_span, span_from_to, is_place}
 
 -- Why reading stops: no rule continues with the next token, or it would open a level too many.
-pub data Fault : Type 0 where
-  unexpected : Fault
-  too_deep : Fault
+pub data ReadingFault : Type 0 where
+  unexpected : ReadingFault
+  too_deep : ReadingFault
 
 -- The outcome of a rule: what it has read and the tokens after that, or a fault and the tokens from the faulty one on.
-abbrev pub Outcome : Type 0 → Type 0
-Outcome A = Result (A × List Token) (Fault × List Token)
+abbrev pub ReadingOutcome : Type 0 → Type 0
+ReadingOutcome A = Result (A × List Token) (ReadingFault × List Token)
 
 -- A rule gives an outcome for any tokens.
 abbrev pub Parser : Type 0 → Type 0
-Parser A = List Token → Outcome A
+Parser A = List Token → ReadingOutcome A
 
 -- ---- one token. The end of a text is a token too, so the tokens of a text are never empty.
 
@@ -57,7 +57,7 @@ pure x ts = Ok (x, ts)
 
 -- What was read determines the next rule, which reads the tokens after it. A fault of the first rule is the fault of
 -- both.
-abbrev pub and_then : {A B : Type 0} → Outcome A → (A → Parser B) → Outcome B
+abbrev pub and_then : {A B : Type 0} → ReadingOutcome A → (A → Parser B) → ReadingOutcome B
 and_then (Err fault) next = Err fault
 and_then (Ok read) next = next read.0 read.1
 
@@ -89,7 +89,7 @@ after test [] = None
 after test (x ∷ ts) = if test x then Some ts else None
 
 -- One repetition: there is no more, or one is read from where it begins, and then the rest.
-abbrev pub many_step : {A : Type 0} → Parser A → Parser (List A) → List Token → Option (List Token) → Outcome (List A)
+abbrev pub many_step : {A : Type 0} → Parser A → Parser (List A) → List Token → Option (List Token) → ReadingOutcome (List A)
 many_step p more ts None = Ok ([], ts)
 many_step p more ts (Some begin) = and_then (p begin) (λ x. more >>= λ xs. pure (x ∷ xs))
 
@@ -202,7 +202,7 @@ last_suffix s [] = s
 last_suffix s (e ∷ es) = last_suffix (t.suffix_span e) es
 
 unfoldable pub seq_of : List t.Item → t.Seq
-seq_of is = t.seq (t.items_of is) (join (first_item is) (last_item no_span is))
+seq_of is = t.seq (t.items_of is) (span_from_to (first_item is) (last_item no_span is))
 
 -- Item {Next Item}
 unfoldable pub seq_with : Parser t.Item → Parser t.Seq
@@ -210,7 +210,7 @@ seq_with item = item >>= λ i. all next_item item >>= λ is. pure (seq_of (i ∷
 
 -- ("var" | "let") Name [":" Type] "=" Expr
 unfoldable pub local : Bool → Parser t.Expr → Parser t.Item
-local f e = take_if (is_word (local_word f)) >>= λ x. name >>= λ m. maybe_type >>= λ ty. take_if (is_sign s.Assign) >> e >>= λ v. pure (t.local f m ty v (join x.span (t.span_of v)))
+local f e = take_if (is_word (local_word f)) >>= λ x. name >>= λ m. maybe_type >>= λ ty. take_if (is_sign s.Assign) >> e >>= λ v. pure (t.local f m ty v (span_from_to x.span (t.span_of v)))
 
 abbrev pub item_at : Parser t.Expr → Token → Parser t.Item
 item_at e x = if is_word w.LetWord x then local true e else (if is_word w.VarWord x then local false e else (e >>= λ v. pure (t.plain v)))
@@ -227,7 +227,7 @@ arg_list e = peek >>= arg_list_at e
 
 -- "(" [Expr {"," Expr}] ")"
 unfoldable pub args : ℕ → Parser t.Expr → Parser t.Suffix
-args n e = deeper n (take_if (is_sign s.OpenParen) >>= λ opener. arg_list e >>= λ es. take_if (is_sign s.CloseParen) >>= λ close. pure (t.args es (join opener.span close.span)))
+args n e = deeper n (take_if (is_sign s.OpenParen) >>= λ opener. arg_list e >>= λ es. take_if (is_sign s.CloseParen) >>= λ close. pure (t.args es (span_from_to opener.span close.span)))
 
 abbrev pub suffix_at : ℕ → Parser t.Expr → Token → Parser t.Suffix
 suffix_at n e x = if is_sign s.Dot x then (take_if (is_sign s.Dot) >> name >>= λ m. pure (t.dot m)) else args n e
@@ -236,11 +236,11 @@ unfoldable pub suffix : ℕ → Parser t.Expr → Parser t.Suffix
 suffix n e = peek >>= suffix_at n e
 
 unfoldable pub group : ℕ → Parser t.Seq → Parser t.Expr
-group n body = deeper n (take_if (is_sign s.OpenParen) >>= λ opener. body >>= λ b. take_if (is_sign s.CloseParen) >>= λ close. pure (t.group b (join opener.span close.span)))
+group n body = deeper n (take_if (is_sign s.OpenParen) >>= λ opener. body >>= λ b. take_if (is_sign s.CloseParen) >>= λ close. pure (t.group b (span_from_to opener.span close.span)))
 
 -- "if" Seq "then" Seq, or the same with another keyword
 unfoldable pub arm : Word → Parser t.Seq → Parser t.Arm
-arm word body = take_if (is_word word) >>= λ opener. body >>= λ c. take_if (is_word w.ThenWord) >> body >>= λ b. pure (t.arm_of c b (join opener.span (t.seq_span b)))
+arm word body = take_if (is_word word) >>= λ opener. body >>= λ c. take_if (is_word w.ThenWord) >> body >>= λ b. pure (t.arm_of c b (span_from_to opener.span (t.seq_span b)))
 
 abbrev pub other_at : Parser t.Seq → Token → Parser t.Other
 other_at body x = if is_word w.ElseWord x then (take_if (is_word w.ElseWord) >> body >>= λ b. pure (t.other b)) else pure t.no_other
@@ -252,17 +252,17 @@ other body = peek >>= other_at body
 unfoldable pub if_ : ℕ → Parser t.Seq → Parser t.Expr
 if_ n body = deeper n (
     arm w.IfWord body >>= λ a. all (at (is_word w.ElseifWord)) (arm w.ElseifWord body) >>= λ more. other body >>= λ o.
-    take_if (is_word w.EndWord) >>= λ close. pure (t.if_ (t.arms_of (a ∷ more)) o (join (t.arm_span a) close.span)))
+    take_if (is_word w.EndWord) >>= λ close. pure (t.if_ (t.arms_of (a ∷ more)) o (span_from_to (t.arm_span a) close.span)))
 
 unfoldable pub while_ : ℕ → Parser t.Seq → Parser t.Expr
 while_ n body = deeper n (
     take_if (is_word w.WhileWord) >>= λ opener. body >>= λ c. take_if (is_word w.DoWord) >> body >>= λ b.
-    take_if (is_word w.EndWord) >>= λ close. pure (t.while_ c b (join opener.span close.span)))
+    take_if (is_word w.EndWord) >>= λ close. pure (t.while_ c b (span_from_to opener.span close.span)))
 
 unfoldable pub recover_ : ℕ → Parser t.Seq → Parser t.Expr
 recover_ n body = deeper n (
     take_if (is_word w.RecoverWord) >>= λ opener. maybe_cap >>= λ c. body >>= λ b.
-    take_if (is_word w.EndWord) >>= λ close. pure (t.recover c b (join opener.span close.span)))
+    take_if (is_word w.EndWord) >>= λ close. pure (t.recover c b (span_from_to opener.span close.span)))
 
 -- one token, as it is
 abbrev pub leaf : (Span → t.Expr) → Parser t.Expr
@@ -290,18 +290,18 @@ chain_at e [] sp = e
 chain_at e (s ∷ ss) sp = t.chain e (t.suffixes_of (s ∷ ss)) sp
 
 unfoldable pub chain_of : t.Expr → List t.Suffix → t.Expr
-chain_of e ss = chain_at e ss (join (t.span_of e) (last_suffix (t.span_of e) ss))
+chain_of e ss = chain_at e ss (span_from_to (t.span_of e) (last_suffix (t.span_of e) ss))
 
 unfoldable pub postfix : ℕ → Inner → Parser t.Expr
 postfix n i = atom n i.seq >>= λ e. all (at begins_suffix) (suffix n i.expr) >>= λ ss. pure (chain_of e ss)
 
 -- "not" Term
 unfoldable pub negation : ℕ → Parser t.Expr → Parser t.Expr
-negation n term = deeper n (take_if (is_word w.NotWord) >>= λ opener. term >>= λ e. pure (t.not_ e (join opener.span (t.span_of e))))
+negation n term = deeper n (take_if (is_word w.NotWord) >>= λ opener. term >>= λ e. pure (t.not_ e (span_from_to opener.span (t.span_of e))))
 
 -- "consume" Name
 unfoldable pub consume : Parser t.Expr
-consume = take_if (is_word w.ConsumeWord) >>= λ opener. name >>= λ m. pure (t.consume m (join opener.span m.span))
+consume = take_if (is_word w.ConsumeWord) >>= λ opener. name >>= λ m. pure (t.consume m (span_from_to opener.span m.span))
 
 abbrev pub term_at : ℕ → Inner → Token → Parser t.Expr
 term_at n i x = if is_word w.NotWord x then negation n i.term else (if is_word w.ConsumeWord x then consume else postfix n i)
@@ -310,7 +310,7 @@ unfoldable pub term : ℕ → Inner → Parser t.Expr
 term n i = peek >>= term_at n i
 
 unfoldable pub infix_of : Op → List t.Expr → t.Expr
-infix_of o es = t.infix_ o (t.exprs_of es) (join (first_expr es) (last_expr no_span es))
+infix_of o es = t.infix_ o (t.exprs_of es) (span_from_to (first_expr es) (last_expr no_span es))
 
 abbrev pub infix_by : Parser t.Expr → t.Expr → Option Op → Parser t.Expr
 infix_by term e None = pure e
@@ -325,7 +325,7 @@ assigns x e = is_sign s.Assign x && is_place e
 
 -- "=" Expr, after e
 unfoldable pub becomes : ℕ → Parser t.Expr → t.Expr → Parser t.Expr
-becomes n inner e = deeper n (take_if (is_sign s.Assign) >> inner >>= λ r. pure (t.assign e r (join (t.span_of e) (t.span_of r))))
+becomes n inner e = deeper n (take_if (is_sign s.Assign) >> inner >>= λ r. pure (t.assign e r (span_from_to (t.span_of e) (t.span_of r))))
 
 abbrev pub expr_by : ℕ → Parser t.Expr → t.Expr → Token → Parser t.Expr
 expr_by n inner e x = if assigns x e then becomes n inner e else pure e

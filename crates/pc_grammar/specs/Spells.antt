@@ -14,8 +14,8 @@ use Rattle.std.specs.Prelude.{◌≡◌, Bool, true, false, List, [], ◌∷◌,
 use Rattle.pc_caps.specs.declared.span.Span.{Span}
 use Rattle.pc_caps.specs.declared.capability.Cap.{Cap}
 use Rattle.pc_tree.specs.Tree as t
-use Rattle.pc_tree.specs.declared.names.Name.{Name}
-use Rattle.pc_tree.specs.declared.names.TypeRef.{TypeRef}
+use Rattle.pc_tree.specs.declared.written_names.Name.{Name}
+use Rattle.pc_tree.specs.declared.written_names.TypeRef.{TypeRef}
 use Rattle.pc_tree.specs.declared.kinds.Op.{Op}
 use Rattle.pc_token.specs.declared.kinds.Token.{Token}
 use Rattle.pc_token.specs.declared.kinds.TokenKind.TheVariants as k
@@ -39,12 +39,12 @@ last_span s [] = s
 last_span s (x ∷ ts) = last_span x.span ts
 
 -- from the start of one to the end of another
-abbrev pub join : Span → Span → Span
-join a b = record { start = a.start; end = b.end }
+abbrev pub span_from_to : Span → Span → Span
+span_from_to a b = record { start = a.start; end = b.end }
 
 -- from the first token to the last
 abbrev pub over : List Token → Span
-over ts = join (first_span ts) (last_span no_span ts)
+over ts = span_from_to (first_span ts) (last_span no_span ts)
 
 -- ---- names, capabilities and types
 

@@ -5,11 +5,11 @@ use Rattle.pc_tree.specs.Depths.{depth, seq_depth, file_depth}
 use Rattle.pc_token.specs.declared.kinds.Token.{Token}
 use Rattle.pc_grammar.specs.Spells.{Spells, SpellsInfix, SpellsSeq}
 use Rattle.pc_grammar.specs.SpellsFile.{SpellsFile}
-use Rattle.pc_grammar.specs.Begins.{Answer, read, refused, deep, IsAnswer, IsOneAnswer, IsTooDeep}
+use Rattle.pc_grammar.specs.Begins.{ParseAnswer, read, refused, deep, IsAnswer, IsOneAnswer, IsTooDeep}
 use Rattle.pc_grammar.specs.FileAnswers as answer
 use Rattle.pc_grammar.specs.FileAnswers.{FileAnswer, IsFileAnswer, level_limit}
 use Rattle.pc_grammar.specs.Laws.{ReadsRight, RefusesRight, DeepRight, AnswersFor}
-use Rattle.pc_grammar.specs.Reading.{unexpected, too_deep, Outcome, Parser, seq, expr, infix_, inner}
+use Rattle.pc_grammar.specs.Reading.{unexpected, too_deep, ReadingOutcome, Parser, seq, expr, infix_, inner}
 use Rattle.pc_grammar.specs.ReadingFile.{file}
 use Rattle.pc_grammar.proofs.Steady.{the_end}
 use Rattle.pc_grammar.proofs.Right.{seq_reads, seq_refuses, seq_deep, expr_reads, expr_refuses, expr_deep, infix_reads, infix_refuses, infix_deep}
@@ -49,10 +49,11 @@ opens_closed rest more x first h =
 module _ {A : Type 0} (spells : A → List Token → Type 0) (depth_of : A → ℕ) (reading : ℕ → Parser A) where
   module _ (reads : ReadsRight spells depth_of reading) (refuses : RefusesRight spells depth_of reading) (deepens : DeepRight spells depth_of reading)
       (one : (n : ℕ) → IsOneAnswer spells depth_of n) (leaves : (n : ℕ) → Leaves (reading n)) where
-    abbrev Holds : ℕ → List Token → Answer A → Type 0
+    abbrev Holds : ℕ → List Token → ParseAnswer A → Type 0
     Holds n ts a = IsAnswer spells depth_of n ts a
 
-    answer_by : (n : ℕ) (ts : List Token) (o : Outcome A) → reading n ts ≡ o → Left o → (a : Answer A) × EndsWithEnd (left a) × Holds n ts a
+    answer_by : (n : ℕ) (ts : List Token) (o : ReadingOutcome A) → reading n ts ≡ o → Left o
+        → (a : ParseAnswer A) × EndsWithEnd (left a) × Holds n ts a
     answer_by n ts (Ok (b, rest)) e h = (read b rest, h, reads n ts rest b e)
     answer_by n ts (Err (unexpected, [])) e h = absurd h
     answer_by n ts (Err (unexpected, x ∷ rest)) e h = (refused (x ∷ rest), h, refuses n ts x rest e)
@@ -63,7 +64,8 @@ module _ {A : Type 0} (spells : A → List Token → Type 0) (depth_of : A → �
         let a = answer_by n ts (reading n ts) refl ((leaves n).leaves ts ends) in
         (a.0, a.1, a.2, λ other h. one n ts other a.0 h a.2)
 
-    deep_by : (n : ℕ) (ts rest : List Token) (o : Outcome A) → reading n ts ≡ o → Left o → IsTooDeep spells depth_of n ts rest → OpensLevel rest
+    deep_by : (n : ℕ) (ts rest : List Token) (o : ReadingOutcome A) → reading n ts ≡ o → Left o → IsTooDeep spells depth_of n ts rest
+        → OpensLevel rest
     deep_by n ts rest (Ok (b, r)) e h d = let f : deep rest ≡ read b r = one n ts (deep rest) (read b r) d (reads n ts r b e) in absurd (cc f)
     deep_by n ts rest (Err (unexpected, [])) e h d = absurd h
     deep_by n ts rest (Err (unexpected, x ∷ r)) e h d = let f : deep rest ≡ refused (x ∷ r) = one n ts (deep rest) (refused (x ∷ r)) d (refuses n ts x r e) in absurd (cc f)
@@ -107,7 +109,7 @@ infix_deep_opens = deep_opens SpellsInfix depth infix_ infix_reads infix_refuses
 
 -- ---- files
 
-file_answer_by : (ts : List Token) (o : Outcome t.File) → AnswersFor ts o → Named o → (a : FileAnswer) × IsFileAnswer ts a
+file_answer_by : (ts : List Token) (o : ReadingOutcome t.File) → AnswersFor ts o → Named o → (a : FileAnswer) × IsFileAnswer ts a
 file_answer_by ts (Ok (f, [])) says h = (answer.spelled f, says)
 file_answer_by ts (Ok (f, x ∷ rest)) says h = (answer.unexpected (x ∷ rest), says)
 file_answer_by ts (Err (unexpected, [])) says h = absurd h
@@ -119,7 +121,7 @@ file_has_one ts ends =
     let a = file_answer_by ts (file 199 ts) (file_is_answered ts) ((names_file 199).names ts ends) in
     (a.0, a.1, λ other h. one_file_answer ts other a.0 h a.1)
 
-file_deep_by : (ts rest : List Token) (o : Outcome t.File) → AnswersFor ts o → Named o → IsFileAnswer ts (answer.too_deep rest) → OpensLevel rest
+file_deep_by : (ts rest : List Token) (o : ReadingOutcome t.File) → AnswersFor ts o → Named o → IsFileAnswer ts (answer.too_deep rest) → OpensLevel rest
 file_deep_by ts rest (Ok (f, [])) says h d = let g : answer.too_deep rest ≡ answer.spelled f = one_file_answer ts (answer.too_deep rest) (answer.spelled f) d says in absurd (cc g)
 file_deep_by ts rest (Ok (f, x ∷ r)) says h d = let g : answer.too_deep rest ≡ answer.unexpected (x ∷ r) = one_file_answer ts (answer.too_deep rest) (answer.unexpected (x ∷ r)) d says in absurd (cc g)
 file_deep_by ts rest (Err (unexpected, [])) says h d = absurd h

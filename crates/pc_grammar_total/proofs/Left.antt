@@ -3,13 +3,14 @@
 use Rattle.std.proofs.Common.{◌≡◌, ◌≢◌, ℕ, zero, suc, Bool, true, false, List, [], ◌∷◌, length, Option, Some, None, Ok, Err, refl, sym, subst, cond}
 use Rattle.pc_token.specs.declared.kinds.Token.{Token}
 use Rattle.pc_token.specs.declared.kinds.TokenKind.TheVariants as k
-use Rattle.pc_grammar.specs.Reading.{unexpected, too_deep, Outcome, Parser, and_then, pure, refuse, ◌>>=◌, peek, take_if, take_any, deeper, many, many_step, all, at, after}
+use Rattle.pc_grammar.specs.Reading.{unexpected, too_deep, ReadingOutcome, Parser, and_then, pure, refuse, ◌>>=◌, peek, take_if, take_any, deeper, many}
+use Rattle.pc_grammar.specs.Reading.{many_step, all, at, after}
 use Rattle.pc_grammar.proofs.ExplainedAtoms.{at_is}
 use Rattle.pc_grammar.proofs.ExplainedChains.{after_is}
 use Rattle.pc_expr.specs.Gives.{EndsWithEnd}
 use Rattle.pc_grammar_total.specs.Levels.{opens_level, OpensLevel}
 
-abbrev pub Left : {A : Type 0} → Outcome A → Type 0
+abbrev pub Left : {A : Type 0} → ReadingOutcome A → Type 0
 Left (Ok r) = EndsWithEnd r.1
 Left (Err (unexpected, rest)) = EndsWithEnd rest
 Left (Err (too_deep, rest)) = EndsWithEnd rest × OpensLevel rest
@@ -33,7 +34,7 @@ leaves_refuse = record { leaves = λ ts ends. ends }
 
 -- ---- one rule after another
 
-left_then : {A B : Type 0} (o : Outcome A) (f : A → Parser B) → Left o → ((v : A) → Leaves (f v)) → Left (and_then o f)
+left_then : {A B : Type 0} (o : ReadingOutcome A) (f : A → Parser B) → Left o → ((v : A) → Leaves (f v)) → Left (and_then o f)
 left_then (Ok r) f h b = (b r.0).leaves r.1 h
 left_then (Err (unexpected, rest)) f h b = h
 left_then (Err (too_deep, rest)) f h b = h

@@ -13,7 +13,7 @@ use Rattle.pc_token.specs.declared.signs.Sign.TheVariants as s
 use Rattle.pc_token.specs.Asking.{is_sign, is_word}
 use Rattle.pc_grammar.specs.Asking.{local_word}
 use Rattle.pc_grammar.specs.SpellsFile.{method_word, entity_word}
-use Rattle.pc_grammar.specs.Reading.{unexpected, too_deep, Outcome, Parser, and_then, pure, ◌>>=◌, ◌>>◌, take_if, type_name, inner}
+use Rattle.pc_grammar.specs.Reading.{unexpected, too_deep, ReadingOutcome, Parser, and_then, pure, ◌>>=◌, ◌>>◌, take_if, type_name, inner}
 use Rattle.pc_grammar.specs.ReadingFile.{kind_is_doc, is_doc, is_end, maybe_doc, maybe_hat, result_type, returns, param, param_list, params, value, field, begins_field, some_field, fields, written_body, maybe_body, body, cap_if, method_result, method_of, word_in, begins_method, some_method, type_names, provided, provides, entity_of, entity, begins_entity, file}
 use Rattle.pc_expr.proofs.Ends.{is_sign_not_end}
 use Rattle.pc_expr.specs.Gives.{EndsWithEnd}
@@ -127,7 +127,7 @@ leaves_entity n =
 
 -- ---- a file takes the `End`, and a fault is before it or at it
 
-abbrev pub Named : {A : Type 0} → Outcome A → Type 0
+abbrev pub Named : {A : Type 0} → ReadingOutcome A → Type 0
 Named (Ok r) = Unit {0}
 Named (Err (unexpected, rest)) = EndsWithEnd rest
 Named (Err (too_deep, rest)) = EndsWithEnd rest × OpensLevel rest
@@ -135,7 +135,7 @@ Named (Err (too_deep, rest)) = EndsWithEnd rest × OpensLevel rest
 pub record Names {A : Type 0} (p : Parser A) : Type 0 where
   pub names : (ts : List Token) → EndsWithEnd ts → Named (p ts)
 
-named_then : {A B : Type 0} (o : Outcome A) (f : A → Parser B) → Left o → ((v : A) → Names (f v)) → Named (and_then o f)
+named_then : {A B : Type 0} (o : ReadingOutcome A) (f : A → Parser B) → Left o → ((v : A) → Names (f v)) → Named (and_then o f)
 named_then (Ok r) f h b = (b r.0).names r.1 h
 named_then (Err (unexpected, rest)) f h b = h
 named_then (Err (too_deep, rest)) f h b = h

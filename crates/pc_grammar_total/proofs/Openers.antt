@@ -7,7 +7,9 @@ use Rattle.pc_token.specs.declared.words.Word.TheVariants as w
 use Rattle.pc_token.specs.declared.signs.Sign.TheVariants as s
 use Rattle.pc_token.specs.Asking.{is_sign, is_word, same_sign, same_word}
 use Rattle.pc_grammar.specs.Asking.{op_of, cap_of}
-use Rattle.pc_grammar.specs.Reading.{Fault, too_deep, Inner, peek, take_if, deeper, all, many, at, begins_suffix, name, group, if_, while_, recover_, atom, postfix, negation, term, chain_of, infix_in, infix_with, becomes, expr_in, expr_with, item, seq_in, seq_with, inner, seq, expr, infix_, type_name, maybe_cap}
+use Rattle.pc_grammar.specs.Reading.{ReadingFault, too_deep, Inner, peek, take_if, deeper, all, many, at, begins_suffix, name, group, if_, while_, recover_}
+use Rattle.pc_grammar.specs.Reading.{atom, postfix, negation, term, chain_of, infix_in, infix_with, becomes, expr_in, expr_with, item, seq_in, seq_with, inner}
+use Rattle.pc_grammar.specs.Reading.{seq, expr, infix_, type_name, maybe_cap}
 use Rattle.pc_grammar.specs.ReadingFile.{is_doc, file, maybe_doc, entity, entity_of, provides, begins_field, begins_method, some_method, method_of, params, param_list, returns, written_body}
 use Rattle.pc_grammar.proofs.Follow.{Leads, open_leads, name_leads, if_leads, while_leads, recover_leads, not_leads}
 use Rattle.pc_grammar.proofs.ExplainedParts.{of_kind}
@@ -46,11 +48,11 @@ at_once _ x e o = absurd (cc o)
 
 -- ---- one level more
 
-infix_deep : (n : ℕ) (i : Inner) (ts : List Token) (e : Fault × List Token) → i.seq ts ≡ Err e → infix_in (suc n) i (an_open ∷ ts) ≡ Err e
+infix_deep : (n : ℕ) (i : Inner) (ts : List Token) (e : ReadingFault × List Token) → i.seq ts ≡ Err e → infix_in (suc n) i (an_open ∷ ts) ≡ Err e
 unfolding infix_in infix_with term peek postfix atom group deeper take_if is_sign is_word same_sign
 infix_deep n i ts e h = rw h
 
-expr_deep : (n : ℕ) (i : Inner) (ts : List Token) (e : Fault × List Token) → i.seq ts ≡ Err e → expr_in (suc n) i (an_open ∷ ts) ≡ Err e
+expr_deep : (n : ℕ) (i : Inner) (ts : List Token) (e : ReadingFault × List Token) → i.seq ts ≡ Err e → expr_in (suc n) i (an_open ∷ ts) ≡ Err e
 unfolding expr_in expr_with
 expr_deep n i ts e h = rw (infix_deep n i ts e h)
 

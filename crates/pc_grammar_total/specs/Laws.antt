@@ -4,13 +4,13 @@ use Rattle.pc_tree.specs.Depths.{depth, seq_depth, file_depth}
 use Rattle.pc_token.specs.declared.kinds.Token.{Token}
 use Rattle.pc_grammar.specs.Spells.{Spells, SpellsInfix, SpellsSeq}
 use Rattle.pc_grammar.specs.SpellsFile.{SpellsFile}
-use Rattle.pc_grammar.specs.Begins.{Answer, read, refused, deep, IsAnswer, IsTooDeep}
+use Rattle.pc_grammar.specs.Begins.{ParseAnswer, read, refused, deep, IsAnswer, IsTooDeep}
 use Rattle.pc_grammar.specs.FileAnswers.{FileAnswer, IsFileAnswer, level_limit}
 use Rattle.pc_expr.specs.Gives.{EndsWithEnd}
 use Rattle.pc_grammar_total.specs.Levels.{opens_level, OpensLevel}
 
 -- the tokens from the place on at which an answer ends
-abbrev pub left : {A : Type 0} → Answer A → List Token
+abbrev pub left : {A : Type 0} → ParseAnswer A → List Token
 left (read tree rest) = rest
 left (refused rest) = rest
 left (deep rest) = rest
@@ -19,8 +19,8 @@ module _ {A : Type 0} (spells : A → List Token → Type 0) (depth_of : A → �
   -- For a list of tokens that ends with `End`, exactly one answer holds, and it ends at the `End` or before.
   abbrev pub HasOneAnswer : Type 0
   HasOneAnswer =
-      (ts : List Token) → EndsWithEnd ts → (one : Answer A) × EndsWithEnd (left one) × IsAnswer spells depth_of n ts one
-      × ((other : Answer A) → IsAnswer spells depth_of n ts other → other ≡ one)
+      (ts : List Token) → EndsWithEnd ts → (one : ParseAnswer A) × EndsWithEnd (left one) × IsAnswer spells depth_of n ts one
+      × ((other : ParseAnswer A) → IsAnswer spells depth_of n ts other → other ≡ one)
 
   -- A token that is too deep opens a level. The list may end with any token.
   abbrev pub DeepOpens : Type 0

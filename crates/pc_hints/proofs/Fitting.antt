@@ -17,7 +17,7 @@ use Rattle.pc_parts.specs.declared.parts.Role.TheVariants as role
 use Rattle.pc_sentences.specs.Stop.{StopData, child_form}
 use Rattle.pc_hints.specs.Choice as choice
 use Rattle.pc_hints.specs.Laws.{HintEnters, HintFits, HintIsBelow, promised}
-use Rattle.pc_hints.specs.Nodes.{child_node, is_box_this, is_new, is_tag_this, local_cap, old_form, own_method}
+use Rattle.pc_hints.specs.Nodes.{child_node, is_box_this, is_new_node, is_tag_this, local_cap, old_form, own_method}
 use Rattle.pc_hints.specs.declared.choice.Wanted.{Wanted}
 use Rattle.pc_hints.specs.declared.choice.Wanted.TheVariants as wanted
 use Rattle.pc_hints.specs.declared.hint.Hint.{Hint}
@@ -38,11 +38,11 @@ one_suits w g s h e = subst (Suits w) (same_Some g h e) s
 
 -- ---- several hints
 
-when_suits : (w : Wanted) (b : Bool) (h : Hint) → (b ≡ true → Suits w h) → AllSuit w (choice.when b h)
+when_suits : (w : Wanted) (b : Bool) (h : Hint) → (b ≡ true → Suits w h) → AllSuit w (choice.hint_if b h)
 when_suits w true h s = one_suits w h (s refl)
 when_suits w false h s = none_suits w
 
-or_suits : (w : Wanted) (o p : Option Hint) → AllSuit w o → AllSuit w p → AllSuit w (choice.or_else o p)
+or_suits : (w : Wanted) (o p : Option Hint) → AllSuit w o → AllSuit w p → AllSuit w (choice.hint_or_else o p)
 or_suits w None p s t = t
 or_suits w (Some h) p s t = s
 
@@ -69,7 +69,7 @@ old i k (Some g) = when_suits (wanted.Fits k) (fits g k) (hint.OldValue i g) (λ
 
 declared : (box : Bool) (w : Wanted) → AllSuit w (choice.declare_if box w)
 declared box w =
-    or_suits w (choice.when (box && choice.suits w form.Ref) (hint.DeclareFunction cap.Ref)) (choice.when (box && choice.suits w form.Val) (hint.DeclareFunction cap.Val))
+    or_suits w (choice.hint_if (box && choice.suits w form.Ref) (hint.DeclareFunction cap.Ref)) (choice.hint_if (box && choice.suits w form.Val) (hint.DeclareFunction cap.Val))
     (when_suits w (box && choice.suits w form.Ref) (hint.DeclareFunction cap.Ref) (λ s f e. promises w form.Ref f (and_parts box (choice.suits w form.Ref) s).1 e))
     (when_suits w (box && choice.suits w form.Val) (hint.DeclareFunction cap.Val) (λ s f e. promises w form.Val f (and_parts box (choice.suits w form.Val) s).1 e))
 
@@ -84,7 +84,7 @@ object_by w false true i g f e = promises w form.IsoE f (iso_suits w) e
 object_by w false false i g f e = absurd (none-some f e)
 
 object : (i : ℕ) (x : Node) (g : Form) (k : Cap) → Suits (wanted.Fits k) (choice.object_hint i x g k)
-object i x g k = object_by (wanted.Fits k) (is_new x.kind && (choice.is_ref_form g && fits form.IsoE k)) (choice.is_mutable_form g && choice.is_recovered_cap k) i g
+object i x g k = object_by (wanted.Fits k) (is_new_node x.kind && (choice.is_ref_form g && fits form.IsoE k)) (choice.is_mutable_form g && choice.is_recovered_cap k) i g
 
 -- ---- a form that does not fit
 
@@ -103,13 +103,13 @@ fitting_of st i k (Some x) = one_suits (wanted.Fits k) (choice.fitting_node st i
 box_suits : (w : Wanted) → Suits w hint.DeclareBox
 box_suits w f e = absurd (none-some f e)
 
-tag_by : (w : Wanted) (a b : Bool) → AllSuit w (if a then Some hint.TagInRecover else choice.when b hint.TagUntilSet)
+tag_by : (w : Wanted) (a b : Bool) → AllSuit w (if a then Some hint.TagInRecover else choice.hint_if b hint.TagUntilSet)
 tag_by w true b = one_suits w hint.TagInRecover (λ f e. absurd (none-some f e))
 tag_by w false b = when_suits w b hint.TagUntilSet (λ s f e. absurd (none-some f e))
 
 tag_of : (w : Wanted) (recovered : Bool) (o : Option Method) → AllSuit w (choice.tag_hint_of recovered o)
 tag_of w recovered None = none_suits w
-tag_of w recovered (Some m) = tag_by w (recovered && not (sendable m.receiver)) (choice.is_constructor m.kind)
+tag_of w recovered (Some m) = tag_by w (recovered && not (sendable m.receiver)) (choice.is_constructor_kind m.kind)
 
 if_suits : (w : Wanted) (a : Bool) (o : Option Hint) → AllSuit w o → AllSuit w (if a then o else None)
 if_suits w true o s = s
@@ -118,18 +118,18 @@ if_suits w false o s = none_suits w
 tagged : (w : Wanted) (st : StopData) (i : ℕ) → AllSuit w (choice.tag_this st i)
 tagged w st i = if_suits w (is_tag_this st i) (choice.tag_hint_of (nat_lt 0 st.at.depth) (own_method st)) (tag_of w (nat_lt 0 st.at.depth) (own_method st))
 
-receiver_of : (st : StopData) (i : ℕ) (k : Cap) (o : Option Node) → AllSuit (wanted.Fits k) (choice.receiver_of st i k o)
+receiver_of : (st : StopData) (i : ℕ) (k : Cap) (o : Option Node) → AllSuit (wanted.Fits k) (choice.receiver_hint st i k o)
 receiver_of st i k None = none_suits (wanted.Fits k)
 receiver_of st i k (Some x) =
     let w = wanted.Fits k in
     let g = child_form st i in
-    let seen = choice.when (choice.is_seen_form g && choice.is_ref_cap k) hint.DeclareBox in
-    let last = choice.or_else seen (choice.tag_this st i) in
-    or_suits w (choice.consume_if w true i (local_cap st x)) (choice.or_else (choice.declare_if (is_box_this st x g) w) last) (consumed w true i (local_cap st x))
+    let seen = choice.hint_if (choice.is_seen_form g && choice.is_ref_cap k) hint.DeclareBox in
+    let last = choice.hint_or_else seen (choice.tag_this st i) in
+    or_suits w (choice.consume_if w true i (local_cap st x)) (choice.hint_or_else (choice.declare_if (is_box_this st x g) w) last) (consumed w true i (local_cap st x))
     (or_suits w (choice.declare_if (is_box_this st x g) w) last (declared (is_box_this st x g) w)
     (or_suits w seen (choice.tag_this st i) (when_suits w (choice.is_seen_form g && choice.is_ref_cap k) hint.DeclareBox (λ s. box_suits w)) (tagged w st i)))
 
-unfit_by : (st : StopData) (i : ℕ) (k : Cap) (r : Role) → AllSuit (wanted.Fits k) (choice.unfit_by st i k r)
+unfit_by : (st : StopData) (i : ℕ) (k : Cap) (r : Role) → AllSuit (wanted.Fits k) (choice.unfit_hint_by st i k r)
 unfit_by st i k role.Receiver = receiver_of st i k (child_node st i)
 unfit_by st i k r = fitting_of st i k (child_node st i)
 
@@ -143,7 +143,7 @@ below_of st i v None = none_suits (wanted.Below v)
 below_of st i v (Some x) =
     let w = wanted.Below v in
     let g = child_form st i in
-    let object = choice.when (choice.is_ref_form g && is_below form.IsoE v) hint.RecoverObject in
+    let object = choice.hint_if (choice.is_ref_form g && is_below form.IsoE v) hint.RecoverObject in
     let rest = choice.or_this object (hint.DeclareResult i) in
     one_suits w (choice.below_node st i v x g)
     (this_suits w (choice.declare_if (is_box_this st x g) w) (choice.or_this (choice.consume_if w false i (local_cap st x)) rest) (declared (is_box_this st x g) w)

@@ -26,19 +26,19 @@ use Rattle.pc_tree.specs.declared.kinds.EntityKind.TheVariants as kind
 use Rattle.pc_words.specs.Scene.{is_param}
 use Rattle.pc_sentences.specs.Sentences.{is_assign}
 use Rattle.pc_sentences.specs.Slots.{lost_slot}
-use Rattle.pc_sentences.specs.Stop.{StopData, child_form, child_type, receiver_index}
-use Rattle.pc_hints.specs.Nodes.{child_node, is_assigned, is_box_this, is_new, is_tag_this, local_cap, old_form, own_method}
+use Rattle.pc_sentences.specs.Stop.{StopData, child_form, child_type, receiver_child_index}
+use Rattle.pc_hints.specs.Nodes.{child_node, is_assigned, is_box_this, is_new_node, is_tag_this, local_cap, old_form, own_method}
 use Rattle.pc_hints.specs.declared.hint.Hint.{Hint}
 use Rattle.pc_hints.specs.declared.choice.Wanted.{Wanted}
 use Rattle.pc_hints.specs.declared.choice.Wanted.TheVariants as wanted
 use Rattle.pc_hints.specs.declared.hint.Hint.TheVariants as hint
 
-abbrev pub or_else : Option Hint → Option Hint → Option Hint
-or_else None other = other
-or_else (Some h) other = Some h
+abbrev pub hint_or_else : Option Hint → Option Hint → Option Hint
+hint_or_else None other = other
+hint_or_else (Some h) other = Some h
 
-abbrev pub when : Bool → Hint → Option Hint
-when b h = if b then Some h else None
+abbrev pub hint_if : Bool → Hint → Option Hint
+hint_if b h = if b then Some h else None
 
 -- ---- a form that does not fit a capability
 
@@ -53,16 +53,17 @@ consume_hint receiver i own = if receiver then hint.ConsumeReceiver i own else h
 -- A local of iso or trn is consumed, if the result suits.
 abbrev pub consume_if : Wanted → (receiver : Bool) → ℕ → Option Cap → Option Hint
 consume_if w receiver i None = None
-consume_if w receiver i (Some own) = when (suits w (unalias own)) (consume_hint receiver i own)
+consume_if w receiver i (Some own) = hint_if (suits w (unalias own)) (consume_hint receiver i own)
 
 -- The old value of a `var` field is taken, if it fits.
 abbrev pub old_if : ℕ → Cap → Option Form → Option Hint
 old_if i k None = None
-old_if i k (Some f) = when (fits f k) (hint.OldValue i f)
+old_if i k (Some f) = hint_if (fits f k) (hint.OldValue i f)
 
 -- A box `this` is declared ref, or else val, if that suits.
 abbrev pub declare_if : (box : Bool) → Wanted → Option Hint
-declare_if box w = or_else (when (box && suits w form.Ref) (hint.DeclareFunction cap.Ref)) (when (box && suits w form.Val) (hint.DeclareFunction cap.Val))
+declare_if box w = hint_or_else (hint_if (box && suits w form.Ref) (hint.DeclareFunction cap.Ref))
+    (hint_if (box && suits w form.Val) (hint.DeclareFunction cap.Val))
 
 abbrev pub is_ref_form : Form → Bool
 is_ref_form form.Ref = true
@@ -82,7 +83,7 @@ is_recovered_cap k = false
 -- value can go.
 abbrev pub object_hint : ℕ → Node → Form → Cap → Hint
 object_hint i x f k =
-    if is_new x.kind && (is_ref_form f && fits form.IsoE k) then hint.RecoverNew i
+    if is_new_node x.kind && (is_ref_form f && fits form.IsoE k) then hint.RecoverNew i
     else (if is_mutable_form f && is_recovered_cap k then hint.RecoverObject else hint.GoesTo f)
 
 -- The first hint if there is one, or else this one.
@@ -99,8 +100,8 @@ abbrev pub fitting_of : StopData → ℕ → Cap → Option Node → Option Hint
 fitting_of st i k None = None
 fitting_of st i k (Some x) = Some (fitting_node st i k x (child_form st i))
 
-abbrev pub fitting : StopData → ℕ → Cap → Option Hint
-fitting st i k = fitting_of st i k (child_node st i)
+abbrev pub fitting_hint : StopData → ℕ → Cap → Option Hint
+fitting_hint st i k = fitting_of st i k (child_node st i)
 
 abbrev pub is_seen_form : Form → Bool
 is_seen_form form.Box = true
@@ -111,15 +112,15 @@ abbrev pub is_ref_cap : Cap → Bool
 is_ref_cap cap.Ref = true
 is_ref_cap k = false
 
-abbrev pub is_constructor : MethodKind → Bool
-is_constructor method.New = true
-is_constructor method.Spawn = true
-is_constructor k = false
+abbrev pub is_constructor_kind : MethodKind → Bool
+is_constructor_kind method.New = true
+is_constructor_kind method.Spawn = true
+is_constructor_kind k = false
 
 -- Why `this` of a method is a tag: in a recover, because its capability is not sendable; in a constructor, until all
 -- fields are set. In a tag function it is one by declaration.
 abbrev pub tag_hint : (recovered : Bool) → Method → Option Hint
-tag_hint recovered m = if recovered && not (sendable m.receiver) then Some hint.TagInRecover else when (is_constructor m.kind) hint.TagUntilSet
+tag_hint recovered m = if recovered && not (sendable m.receiver) then Some hint.TagInRecover else hint_if (is_constructor_kind m.kind) hint.TagUntilSet
 
 abbrev pub tag_hint_of : (recovered : Bool) → Option Method → Option Hint
 tag_hint_of recovered None = None
@@ -131,22 +132,22 @@ tag_this st i = if is_tag_this st i then tag_hint_of (nat_lt 0 st.at.depth) (own
 
 abbrev pub receiver_node : StopData → ℕ → Cap → Node → Form → Option Hint
 receiver_node st i k x f =
-    or_else (consume_if (wanted.Fits k) true i (local_cap st x))
-    (or_else (declare_if (is_box_this st x f) (wanted.Fits k)) (or_else (when (is_seen_form f && is_ref_cap k) hint.DeclareBox) (tag_this st i)))
+    hint_or_else (consume_if (wanted.Fits k) true i (local_cap st x))
+    (hint_or_else (declare_if (is_box_this st x f) (wanted.Fits k)) (hint_or_else (hint_if (is_seen_form f && is_ref_cap k) hint.DeclareBox) (tag_this st i)))
 
-abbrev pub receiver_of : StopData → ℕ → Cap → Option Node → Option Hint
-receiver_of st i k None = None
-receiver_of st i k (Some x) = receiver_node st i k x (child_form st i)
+abbrev pub receiver_hint : StopData → ℕ → Cap → Option Node → Option Hint
+receiver_hint st i k None = None
+receiver_hint st i k (Some x) = receiver_node st i k x (child_form st i)
 
 abbrev pub receiver : StopData → ℕ → Cap → Option Hint
-receiver st i k = receiver_of st i k (child_node st i)
+receiver st i k = receiver_hint st i k (child_node st i)
 
-abbrev pub unfit_by : StopData → ℕ → Cap → Role → Option Hint
-unfit_by st i k role.Receiver = receiver st i k
-unfit_by st i k r = fitting st i k
+abbrev pub unfit_hint_by : StopData → ℕ → Cap → Role → Option Hint
+unfit_hint_by st i k role.Receiver = receiver st i k
+unfit_hint_by st i k r = fitting_hint st i k
 
-abbrev pub unfit : StopData → ℕ → Cap → Option Hint
-unfit st i k = unfit_by st i k (child_role st.at i)
+abbrev pub unfit_hint : StopData → ℕ → Cap → Option Hint
+unfit_hint st i k = unfit_hint_by st i k (child_role st.at i)
 
 -- ---- a result
 
@@ -154,7 +155,7 @@ abbrev pub below_node : StopData → ℕ → Form → Node → Form → Hint
 below_node st i w x f =
     or_this (declare_if (is_box_this st x f) (wanted.Below w))
     (or_this (consume_if (wanted.Below w) false i (local_cap st x))
-    (or_this (when (is_ref_form f && is_below form.IsoE w) hint.RecoverObject) (hint.DeclareResult i)))
+    (or_this (hint_if (is_ref_form f && is_below form.IsoE w) hint.RecoverObject) (hint.DeclareResult i)))
 
 abbrev pub below_of : StopData → ℕ → Form → Option Node → Option Hint
 below_of st i w None = None
@@ -165,18 +166,18 @@ below st i w = below_of st i w (child_node st i)
 
 -- ---- an entity
 
-abbrev pub is_condition : Role → Bool
-is_condition role.Condition = true
-is_condition r = false
+abbrev pub is_condition_role : Role → Bool
+is_condition_role role.Condition = true
+is_condition_role r = false
 
 -- The entity of a number or a truth value.
-abbrev pub is_plain : Option (ℕ × Form) → Bool
-is_plain None = false
-is_plain (Some ty) = nat_eq ty.0 u64_entity || nat_eq ty.0 bool_entity
+abbrev pub is_number_or_truth : Option (ℕ × Form) → Bool
+is_number_or_truth None = false
+is_number_or_truth (Some ty) = nat_eq ty.0 u64_entity || nat_eq ty.0 bool_entity
 
-abbrev pub entity : StopData → ℕ → ℕ → Option Hint
-entity st i other =
-    or_else (when (is_condition (child_role st.at i) && is_assigned st i) hint.Compare) (when (nat_eq other string_entity && is_plain (child_type st i)) hint.ToString)
+abbrev pub entity_hint : StopData → ℕ → ℕ → Option Hint
+entity_hint st i other =
+    hint_or_else (hint_if (is_condition_role (child_role st.at i) && is_assigned st i) hint.Compare) (hint_if (nat_eq other string_entity && is_number_or_truth (child_type st i)) hint.ToString)
 
 abbrev pub is_trait_kind : EntityKind → Bool
 is_trait_kind kind.Trait = true
@@ -195,8 +196,8 @@ abbrev pub says_is : CoreData → Option (ℕ × Form) → Bool
 says_is core None = false
 says_is core (Some ty) = may_say ty.0 (slice_get core.entities ty.0)
 
-abbrev pub under : StopData → ℕ → ℕ → Option Hint
-under st i e = when (is_trait (slice_get st.scene.core.entities e) && says_is st.scene.core (child_type st i)) (hint.SayIs i e)
+abbrev pub under_hint : StopData → ℕ → ℕ → Option Hint
+under_hint st i e = hint_if (is_trait (slice_get st.scene.core.entities e) && says_is st.scene.core (child_type st i)) (hint.SayIs i e)
 
 -- ---- members
 
@@ -208,13 +209,13 @@ abbrev pub has_field : CoreData → Option ℕ → ℕ → Bool
 has_field core None name = false
 has_field core (Some e) name = is_some (field_named core e name)
 
-abbrev pub entity_in : Option (ℕ × Form) → Option ℕ
-entity_in None = None
-entity_in (Some ty) = Some ty.0
+abbrev pub type_entity : Option (ℕ × Form) → Option ℕ
+type_entity None = None
+type_entity (Some ty) = Some ty.0
 
-abbrev pub entity_by : Option Method → Option ℕ
-entity_by None = None
-entity_by (Some m) = Some m.entity
+abbrev pub method_entity : Option Method → Option ℕ
+method_entity None = None
+method_entity (Some m) = Some m.entity
 
 -- ---- the rest
 
@@ -223,7 +224,7 @@ shows_box st i None = false
 shows_box st i (Some x) = is_box_this st x (child_form st i)
 
 abbrev pub writable : StopData → ℕ → Option Hint
-writable st i = or_else (when (shows_box st i (child_node st i)) (hint.DeclareFunction cap.Ref)) (tag_this st i)
+writable st i = hint_or_else (hint_if (shows_box st i (child_node st i)) (hint.DeclareFunction cap.Ref)) (tag_this st i)
 
 -- The capability with which a value is written into an origin of this form.
 abbrev pub entered_cap : Form → Cap
@@ -236,41 +237,41 @@ entered_cap form.Val = cap.Iso
 entered_cap form.Box = cap.Iso
 entered_cap form.Tag = cap.Iso
 
-abbrev pub reached : (assigned : Bool) → Hint
-reached assigned = if assigned then hint.GiveOut else hint.MakeInside
+abbrev pub reached_hint : (assigned : Bool) → Hint
+reached_hint assigned = if assigned then hint.GiveOut else hint.MakeInside
 
-abbrev pub variable : (param : Bool) → ℕ → Hint
-variable param k = if param then hint.CopyFirst else hint.DeclareSlot k
+abbrev pub variable_hint : (param : Bool) → ℕ → Hint
+variable_hint param k = if param then hint.CopyFirst else hint.DeclareSlot k
 
 -- What to do about a condition, if there is a hint.
-abbrev pub chosen : StopData → Condition → Option Hint
-chosen st (asks.Under i e) = under st i e
-chosen st (asks.Fits i k) = unfit st i k
-chosen st (asks.Below i f) = below st i f
-chosen st (asks.IsA i e) = entity st i e
-chosen st (asks.Comparable i) = Some hint.CompareObjects
-chosen st (asks.Live k) = Some (hint.UseBefore k)
-chosen st (asks.Reached k) = Some (reached (is_assign st.at.kind))
-chosen st (asks.Variable k) = Some (variable (is_param st.scene st.at.method k) k)
-chosen st (asks.HasField i name) = when (has_method st.scene.core (entity_in (child_type st i)) name) (hint.CallMethod name)
-chosen st (asks.HasOwnField name) = when (has_method st.scene.core (entity_by (own_method st)) name) (hint.CallMethod name)
-chosen st (asks.Seen i k) = tag_this st i
-chosen st (asks.NotFixed b) = Some hint.DeclareField
-chosen st (asks.Writable i k) = writable st i
-chosen st (asks.Enters k) = fitting st 0 (entered_cap (child_form st 1))
-chosen st (asks.Set i) = Some (hint.SetBefore i)
-chosen st (asks.SetOnce b i) = Some (hint.DeclareOwnField i)
-chosen st (asks.HasMethod name) = when (has_field st.scene.core (entity_in (child_type st (receiver_index st))) name) (hint.CallValue name)
-chosen st (asks.Function k) = Some hint.CallConstructor
-chosen st (asks.Sent i k) = Some hint.SendArgument
-chosen st asks.KeepsLive = Some (hint.ConsumeAfter (lost_slot st))
-chosen st asks.KeepsSet = Some hint.SetBeforeLoop
-chosen st (asks.Lifted k) = Some hint.RecoverValue
-chosen st (asks.Typed i) = None
-chosen st (asks.Printable i) = None
-chosen st (asks.Readable i) = None
-chosen st (asks.Behaviour k) = None
-chosen st (asks.Counted n k) = None
-chosen st (asks.Unfit i k) = None
-chosen st (asks.Isolated i) = None
-chosen st (asks.Lent k) = None
+abbrev pub hint_for : StopData → Condition → Option Hint
+hint_for st (asks.Under i e) = under_hint st i e
+hint_for st (asks.Fits i k) = unfit_hint st i k
+hint_for st (asks.Below i f) = below st i f
+hint_for st (asks.IsA i e) = entity_hint st i e
+hint_for st (asks.Comparable i) = Some hint.CompareObjects
+hint_for st (asks.Live k) = Some (hint.UseBefore k)
+hint_for st (asks.Reached k) = Some (reached_hint (is_assign st.at.kind))
+hint_for st (asks.Variable k) = Some (variable_hint (is_param st.scene st.at.method k) k)
+hint_for st (asks.HasField i name) = hint_if (has_method st.scene.core (type_entity (child_type st i)) name) (hint.CallMethod name)
+hint_for st (asks.HasOwnField name) = hint_if (has_method st.scene.core (method_entity (own_method st)) name) (hint.CallMethod name)
+hint_for st (asks.Seen i k) = tag_this st i
+hint_for st (asks.NotFixed b) = Some hint.DeclareField
+hint_for st (asks.Writable i k) = writable st i
+hint_for st (asks.Enters k) = fitting_hint st 0 (entered_cap (child_form st 1))
+hint_for st (asks.Set i) = Some (hint.SetBefore i)
+hint_for st (asks.SetOnce b i) = Some (hint.DeclareOwnField i)
+hint_for st (asks.HasMethod name) = hint_if (has_field st.scene.core (type_entity (child_type st (receiver_child_index st))) name) (hint.CallValue name)
+hint_for st (asks.Function k) = Some hint.CallConstructor
+hint_for st (asks.Sent i k) = Some hint.SendArgument
+hint_for st asks.KeepsLive = Some (hint.ConsumeAfter (lost_slot st))
+hint_for st asks.KeepsSet = Some hint.SetBeforeLoop
+hint_for st (asks.Lifted k) = Some hint.RecoverValue
+hint_for st (asks.Typed i) = None
+hint_for st (asks.Printable i) = None
+hint_for st (asks.Readable i) = None
+hint_for st (asks.Behaviour k) = None
+hint_for st (asks.Counted n k) = None
+hint_for st (asks.Unfit i k) = None
+hint_for st (asks.Isolated i) = None
+hint_for st (asks.Lent k) = None

@@ -8,7 +8,7 @@ use Rattle.pc_caps.specs.declared.capability.Form.{Form}
 use Rattle.pc_caps.specs.declared.capability.Form.TheVariants as form
 use Rattle.pc_conditions.specs.declared.condition.Condition.TheVariants as asks
 use Rattle.pc_sentences.specs.Stop.{StopData, child_form}
-use Rattle.pc_hints.specs.Choice.{chosen, entered_cap}
+use Rattle.pc_hints.specs.Choice.{hint_for, entered_cap}
 use Rattle.pc_hints.specs.declared.hint.Hint.{Hint}
 use Rattle.pc_hints.specs.declared.hint.Hint.TheVariants as hint
 
@@ -25,13 +25,13 @@ promised h = None
 
 -- If a form does not fit a capability, what the hint promises fits it.
 abbrev pub HintFits : Type 0
-HintFits = (st : StopData) (i : ℕ) (k : Cap) (h : Hint) (f : Form) → chosen st (asks.Fits i k) ≡ Some h → promised h ≡ Some f → fits f k ≡ true
+HintFits = (st : StopData) (i : ℕ) (k : Cap) (h : Hint) (f : Form) → hint_for st (asks.Fits i k) ≡ Some h → promised h ≡ Some f → fits f k ≡ true
 
 -- If a form is not below that of the result, what the hint promises is.
 abbrev pub HintIsBelow : Type 0
-HintIsBelow = (st : StopData) (i : ℕ) (w : Form) (h : Hint) (f : Form) → chosen st (asks.Below i w) ≡ Some h → promised h ≡ Some f → is_below f w ≡ true
+HintIsBelow = (st : StopData) (i : ℕ) (w : Form) (h : Hint) (f : Form) → hint_for st (asks.Below i w) ≡ Some h → promised h ≡ Some f → is_below f w ≡ true
 
 -- If a value may not enter a field, what the hint promises fits the capability with which it is written.
 abbrev pub HintEnters : Type 0
 HintEnters =
-    (st : StopData) (k : Cap) (h : Hint) (f : Form) → chosen st (asks.Enters k) ≡ Some h → promised h ≡ Some f → fits f (entered_cap (child_form st 1)) ≡ true
+    (st : StopData) (k : Cap) (h : Hint) (f : Form) → hint_for st (asks.Enters k) ≡ Some h → promised h ≡ Some f → fits f (entered_cap (child_form st 1)) ≡ true

@@ -11,10 +11,10 @@ use Rattle.pc_core.specs.declared.nodes.Node.{Node}
 use Rattle.pc_core.specs.declared.nodes.NodeKind.{NodeKind}
 use Rattle.pc_core.specs.declared.nodes.NodeKind.TheVariants as node
 use Rattle.pc_lists.specs.Options.{◌>>=◌}
-use Rattle.pc_parts.specs.Members.{field_at}
+use Rattle.pc_parts.specs.Members.{field_of_node}
 use Rattle.pc_parts.specs.Parts.{child_role, last_value, shown_node}
 use Rattle.pc_rules.specs.Calls.{is_function}
-use Rattle.pc_words.specs.Scene.{child, is_this, slot_type, type_of}
+use Rattle.pc_words.specs.Scene.{child, is_this_kind, noted_slot_type, noted_type}
 use Rattle.pc_sentences.specs.Stop.{StopData, child_form}
 
 -- The node that the child with this index shows.
@@ -54,11 +54,11 @@ gives_box (Some m) = is_function m.kind && is_box_cap m.receiver
 
 -- A box `this` in a box function.
 abbrev pub is_box_this : StopData → Node → Form → Bool
-is_box_this st x f = is_this x.kind && (is_box_form f && gives_box (own_method st))
+is_box_this st x f = is_this_kind x.kind && (is_box_form f && gives_box (own_method st))
 
 abbrev pub shows_this : Option Node → Bool
 shows_this None = false
-shows_this (Some x) = is_this x.kind
+shows_this (Some x) = is_this_kind x.kind
 
 -- The child is `this`, which is seen as tag.
 abbrev pub is_tag_this : StopData → ℕ → Bool
@@ -71,7 +71,7 @@ isolated_cap None = None
 isolated_cap (Some ty) = if is_isolated_cap ty.1 then Some ty.1 else None
 
 abbrev pub local_by : StopData → Node → NodeKind → Option Cap
-local_by st x (node.Local k) = isolated_cap (slot_type st.scene x.method k)
+local_by st x (node.Local k) = isolated_cap (noted_slot_type st.scene x.method k)
 local_by st x k = None
 
 -- The capability of the node, if it is a local of iso or trn.
@@ -83,8 +83,8 @@ old_of f field = if field.fixed then None else taken f field.cap
 
 abbrev pub old_in : StopData → (origin name : ℕ) → Option Form
 old_in st c name = do
-  ty ← type_of st.scene c
-  field ← field_at st.scene (Some c) name
+  ty ← noted_type st.scene c
+  field ← field_of_node st.scene (Some c) name
   old_of ty.1 field
 
 abbrev pub old_from : StopData → Option ℕ → (name : ℕ) → Option Form
@@ -101,18 +101,18 @@ old_form st x = old_by st x x.kind
 
 -- ---- new objects and assignments
 
-abbrev pub is_new : NodeKind → Bool
-is_new (node.New m) = true
-is_new k = false
+abbrev pub is_new_node : NodeKind → Bool
+is_new_node (node.New m) = true
+is_new_node k = false
 
-abbrev pub assigns : NodeKind → Bool
-assigns (node.Assign k) = true
-assigns (node.SetField name) = true
-assigns k = false
+abbrev pub is_assigning : NodeKind → Bool
+is_assigning (node.Assign k) = true
+is_assigning (node.SetField name) = true
+is_assigning k = false
 
 abbrev pub node_assigns : Option Node → Bool
 node_assigns None = false
-node_assigns (Some x) = assigns x.kind
+node_assigns (Some x) = is_assigning x.kind
 
 abbrev pub ends_assigned : StopData → Option ℕ → Bool
 ends_assigned st None = false

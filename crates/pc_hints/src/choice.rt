@@ -25,14 +25,14 @@ pub enum Wanted {
 }
 
 fn when(holds: bool, hint: Hint) -> Option<Hint>
-    ensures { result ≡ spec.when holds hint }
+    ensures { result ≡ spec.hint_if holds hint }
 {
     if holds { Some(hint) } else { None }
 }
 
 // The first hint, or else the other.
 fn or_else(first: Option<Hint>, other: Option<Hint>) -> Option<Hint>
-    ensures { result ≡ spec.or_else first other }
+    ensures { result ≡ spec.hint_or_else first other }
 {
     match first {
         Some(hint) => Some(hint),
@@ -157,7 +157,7 @@ fn fitting_node(stop: &Stop, index: usize, cap: Cap, node: &Node, form: Form) ->
 
 // What to do about a part whose form does not fit.
 fn fitting(stop: &Stop, index: usize, cap: Cap) -> Option<Hint>
-    ensures { result ≡ spec.fitting stop.now index cap }
+    ensures { result ≡ spec.fitting_hint stop.now index cap }
 {
     match child_node(stop, index) {
         Some(node) => Some(fitting_node(stop, index, cap, node, stop.child_form(index))),
@@ -178,7 +178,7 @@ fn is_ref_cap(cap: Cap) -> bool
 }
 
 fn is_constructor(kind: MethodKind) -> bool
-    ensures { result ≡ spec.is_constructor kind }
+    ensures { result ≡ spec.is_constructor_kind kind }
 {
     match kind {
         MethodKind::New | MethodKind::Spawn => true,
@@ -235,7 +235,7 @@ fn receiver(stop: &Stop, index: usize, cap: Cap) -> Option<Hint>
 }
 
 fn unfit(stop: &Stop, index: usize, cap: Cap) -> Option<Hint>
-    ensures { result ≡ spec.unfit stop.now index cap }
+    ensures { result ≡ spec.unfit_hint stop.now index cap }
 {
     match child_role(stop.node(), index) {
         Role::Receiver => receiver(stop, index, cap),
@@ -279,14 +279,14 @@ fn not_below(stop: &Stop, index: usize, upper: Form) -> Option<Hint>
 }
 
 fn is_condition(role: Role) -> bool
-    ensures { result ≡ spec.is_condition role }
+    ensures { result ≡ spec.is_condition_role role }
 {
     matches!(role, Role::Condition)
 }
 
 // Whether the entity is that of numbers or of truth values.
 fn is_plain(ty: Option<(u32, Form)>) -> bool
-    ensures { result ≡ spec.is_plain ty }
+    ensures { result ≡ spec.is_number_or_truth ty }
 {
     match ty {
         Some(found) => found.0 == U64_ENTITY || found.0 == BOOL_ENTITY,
@@ -295,7 +295,7 @@ fn is_plain(ty: Option<(u32, Form)>) -> bool
 }
 
 fn entity_hint(stop: &Stop, index: usize, other: u32) -> Option<Hint>
-    ensures { result ≡ spec.entity stop.now index other }
+    ensures { result ≡ spec.entity_hint stop.now index other }
 {
     let assigned = is_condition(child_role(stop.node(), index)) && is_assigned(stop, index);
     or_else(
@@ -332,7 +332,7 @@ fn says_is(core: &Core, ty: Option<(u32, Form)>) -> bool
 
 // What to do about a part whose entity is not below this one.
 fn under(stop: &Stop, index: usize, above: u32) -> Option<Hint>
-    ensures { result ≡ spec.under stop.now index above }
+    ensures { result ≡ spec.under_hint stop.now index above }
 {
     let core = stop.core();
     when(
@@ -360,7 +360,7 @@ fn has_field(core: &Core, entity: Option<u32>, name: u32) -> bool
 }
 
 fn entity_in(ty: Option<(u32, Form)>) -> Option<u32>
-    ensures { result ≡ spec.entity_in ty }
+    ensures { result ≡ spec.type_entity ty }
 {
     match ty {
         Some(found) => Some(found.0),
@@ -370,7 +370,7 @@ fn entity_in(ty: Option<(u32, Form)>) -> Option<u32>
 
 // The entity of the method with this number.
 fn entity_by(core: &Core, method: u32) -> Option<u32>
-    ensures { result ≡ spec.entity_by (slice_get core.now.methods method) }
+    ensures { result ≡ spec.method_entity (slice_get core.now.methods method) }
 {
     match core.method_at(method) {
         Some(found) => Some(found.entity),
@@ -413,7 +413,7 @@ fn is_assign(kind: &NodeKind) -> bool
 }
 
 fn reached(assigned: bool) -> Hint
-    ensures { result ≡ spec.reached assigned }
+    ensures { result ≡ spec.reached_hint assigned }
 {
     if assigned {
         Hint::GiveOut
@@ -423,7 +423,7 @@ fn reached(assigned: bool) -> Hint
 }
 
 fn variable(param: bool, slot: u32) -> Hint
-    ensures { result ≡ spec.variable param slot }
+    ensures { result ≡ spec.variable_hint param slot }
 {
     if param {
         Hint::CopyFirst
@@ -434,7 +434,7 @@ fn variable(param: bool, slot: u32) -> Hint
 
 /// What to do about a condition that does not hold, if there is a hint.
 pub fn chosen(stop: &Stop, condition: Condition) -> Option<Hint>
-    ensures { result ≡ spec.chosen stop.now condition }
+    ensures { result ≡ spec.hint_for stop.now condition }
 {
     let core = stop.core();
     let node = stop.node();

@@ -21,7 +21,7 @@ use std::alloc::{AllocError, Global};
 
 // The source's text of a child.
 fn source_of<'a>(stop: &Stop<'a>, index: usize) -> &'a [u8]
-    ensures { result.now ≡ spec.source_of stop.now (node_is stop.now index) }
+    ensures { result.now ≡ spec.source_text_of stop.now (node_is stop.now index) }
 {
     match child_node(stop, index) {
         Some(node) => piece_of(stop.scene().bytes(), node.span),
@@ -30,16 +30,16 @@ fn source_of<'a>(stop: &Stop<'a>, index: usize) -> &'a [u8]
 }
 
 // Appends the source's text of a child.
-#[tactic(auto, unfolding(crate::specs::Hints::shown))]
+#[tactic(auto, unfolding(crate::specs::Hints::shown_child))]
 fn push_shown(alloc: Global, out: &mut Vec<u8>, stop: &Stop, index: usize) -> Result<(), AllocError>
-    ensures { OnOk result (out.new.items ≡ out.old.items ++ spec.shown stop.now index) }
+    ensures { OnOk result (out.new.items ≡ out.old.items ++ spec.shown_child stop.now index) }
 {
     push_piece(alloc, out, source_of(stop, index))
 }
 
 // The name of the method with this number.
 fn method_text(core: &Core, method: u32) -> &[u8]
-    ensures { result.now ≡ spec.method_text core.now (slice_get core.now.methods method) }
+    ensures { result.now ≡ spec.method_name_text core.now (slice_get core.now.methods method) }
 {
     match core.method_at(method) {
         Some(found) => name_text(core, found.name),
@@ -144,7 +144,7 @@ fn push_consume_receiver(
     push_used_up(out, own)
 }
 
-#[tactic(auto, unfolding(crate::specs::Hints::old_value))]
+#[tactic(auto, unfolding(crate::specs::Hints::old_value_words))]
 fn push_old_value(
     alloc: Global,
     out: &mut Vec<u8>,
@@ -152,7 +152,7 @@ fn push_old_value(
     index: usize,
     form: Form,
 ) -> Result<(), AllocError>
-    ensures { OnOk result (out.new.items ≡ out.old.items ++ spec.old_value stop.now index form) }
+    ensures { OnOk result (out.new.items ≡ out.old.items ++ spec.old_value_words stop.now index form) }
 {
     push_bytes(out, b"an assignment gives the old value: `")?;
     push_shown(alloc, out, stop, index)?;
@@ -200,9 +200,9 @@ fn push_recover_new(
     )
 }
 
-#[tactic(auto, unfolding(crate::specs::Hints::goes_to))]
+#[tactic(auto, unfolding(crate::specs::Hints::goes_to_words))]
 fn push_goes_to(out: &mut Vec<u8>, form: Form) -> Result<(), AllocError>
-    ensures { OnOk result (out.new.items ≡ out.old.items ++ spec.goes_to form) }
+    ensures { OnOk result (out.new.items ≡ out.old.items ++ spec.goes_to_words form) }
 {
     push_bytes(out, b"a value of ")?;
     push_bytes(out, form_word(form))?;
@@ -353,7 +353,7 @@ fn push_call_constructor(alloc: Global, out: &mut Vec<u8>, stop: &Stop) -> Resul
 
 // Appends a hint.
 fn push_words(alloc: Global, out: &mut Vec<u8>, stop: &Stop, hint: Hint) -> Result<(), AllocError>
-    ensures { OnOk result (out.new.items ≡ out.old.items ++ spec.words stop.now hint) }
+    ensures { OnOk result (out.new.items ≡ out.old.items ++ spec.hint_words stop.now hint) }
 {
     let core = stop.core();
     match hint {

@@ -195,13 +195,13 @@ pub(crate) fn old_form(stop: &Stop, node: &Node) -> Option<Form>
 
 /// Whether a node of this kind makes an object of a class.
 pub(crate) fn is_new(kind: &NodeKind) -> bool
-    ensures { result ≡ spec.is_new kind.now }
+    ensures { result ≡ spec.is_new_node kind.now }
 {
     matches!(kind, NodeKind::New(_))
 }
 
 fn assigns(kind: &NodeKind) -> bool
-    ensures { result ≡ spec.assigns kind.now }
+    ensures { result ≡ spec.is_assigning kind.now }
 {
     matches!(kind, NodeKind::Assign(_) | NodeKind::SetField(_))
 }

@@ -4,7 +4,7 @@ use Rattle.std.proofs.Math.Seq.{take-append-add, take-append_seam}
 use Rattle.std.proofs.lemmas.List.{take-append-drop}
 use Rattle.std.proofs.KnownBytes.{Appends-trans}
 use Rattle.std.specs.Io.KnownBytes.{Appends}
-use Rattle.pc_io.specs.Sink.{Rose, GrowsByPrefix}
+use Rattle.pc_io.specs.Sink.{HasRisen, GrowsByPrefix}
 
 -- A prefix of a is a prefix of what begins with a.
 pub grows_more : (w x : Option (List ℕ)) (a b : List ℕ) → GrowsByPrefix w x a → GrowsByPrefix w x (a ++ b)
@@ -19,5 +19,5 @@ pub grows_on : (w x y : Option (List ℕ)) (a b : List ℕ) → Appends w x a �
 grows_on w x y a b h (n, k) = (length a + n, subst (Appends w y) (sym (take-append-add a b n)) (Appends-trans w x y a (take n b) h k))
 
 -- Failures that came after others.
-pub rose_before : (f g h : ℕ) → f ≤ g → Rose g h → Rose f h
+pub rose_before : (f g h : ℕ) → f ≤ g → HasRisen g h → HasRisen f h
 rose_before f g h l r = omega (arith, l, r)

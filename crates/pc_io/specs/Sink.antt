@@ -5,8 +5,8 @@ use Rattle.std.specs.Io.KnownBytes.{Appends}
 use Rattle.pc_io.specs.Count.{one_more}
 
 -- A counter rose, or is at its last value.
-abbrev pub Rose : (before now : ℕ) → Type 0
-Rose before now = one_more before ≤ now
+abbrev pub HasRisen : (before now : ℕ) → Type 0
+HasRisen before now = one_more before ≤ now
 
 -- What is known to be written grew by a prefix of the piece.
 abbrev pub GrowsByPrefix : Option (List ℕ) → Option (List ℕ) → List ℕ → Type 0

@@ -16,9 +16,9 @@ pub struct HostSink<W: Write> {
 }
 
 impl<W: Write> Model for HostSink<W> {
-    ghost use Rattle.pc_io.specs.HostSink.{Told};
+    ghost use Rattle.pc_io.specs.HostSink.{ToldWriter};
 
-    ghost Value = { Told };
+    ghost Value = { ToldWriter };
 
     ghost view = { λ s. record { written = W.contents s.inner; faults = s.faults } };
 }

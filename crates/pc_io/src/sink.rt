@@ -2,7 +2,7 @@
 ghost use Rattle.std.specs.Prelude.{◌≡◌, ◌≤◌, List, ℕ, [], Ok, OnOk, IsErrOf};
 ghost use Rattle.std.specs.declared.option.Option.{Option};
 ghost use Rattle.std.specs.Io.KnownBytes.{Appends, Keeps};
-ghost use Rattle.pc_io.specs.Sink.{Rose, GrowsByPrefix};
+ghost use Rattle.pc_io.specs.Sink.{HasRisen, GrowsByPrefix};
 ghost use Rattle.pc_io.specs.declared.sink.SinkFault.TheVariants.{Memory};
 
 use std::alloc::{AllocError, AllocFailed};
@@ -52,7 +52,7 @@ pub trait Sink {
     fn put(&mut self, piece: &[u8]) -> Result<(), SinkFault>
         ensures later { faults self.old ≤ faults self.new }
         ensures ok { OnOk result (Appends (written self.old) (written self.new) piece.now) }
-        ensures failed { IsErrOf result SinkFault.Failed → Rose (faults self.old) (faults self.new) }
+        ensures failed { IsErrOf result SinkFault.Failed → HasRisen (faults self.old) (faults self.new) }
         ensures part { IsErrOf result SinkFault.Failed → GrowsByPrefix (written self.old) (written self.new) piece.now }
         ensures memory { IsErrOf result SinkFault.Memory → Keeps (written self.old) (written self.new) }
         ensures empty { piece.now ≡ [] → (result ≡ Ok tt) × (written self.new ≡ written self.old) × (faults self.new ≡ faults self.old) };

@@ -17,7 +17,7 @@ use Rattle.pc_lists.proofs.Options.{bind_some}
 use Rattle.pc_types.proofs.Growth.{object_of}
 use Rattle.pc_regions.proofs.World.{InField, World, Frozen, in_ice, under_ice, FitsIn}
 use Rattle.pc_regions.proofs.Fitting.{FieldsFit}
-use Rattle.pc_isolation.specs.Isolated.{Leads, keeps, shows, Reaches, itself, further}
+use Rattle.pc_isolation.specs.Isolated.{FieldLeads, keeps, shows, FieldsReach, itself, further}
 use Rattle.pc_isolation.proofs.Mailed.{Mailed, in_it, part, Shown, seen_cold, seen_shown, mailed_is_warm, holder_mailed, parent_mailed, seer_mailed}
 
 -- ---- one field
@@ -71,7 +71,7 @@ value_there (Some o) v e = ap Some e
 
 module _ (core : CoreData) (w : World) (objects : ObjectMap) (fields : FieldsFit core w objects) where
   -- What a field leads to fits there.
-  led : (q : Cap) (a b : Address) (l : Leads core objects q a b) → FitsIn w (InField a l.place) (unalias q) (w.region b)
+  led : (q : Cap) (a b : Address) (l : FieldLeads core objects q a b) → FitsIn w (InField a l.place) (unalias q) (w.region b)
   led q a b l =
       let number = bind_some (class_at objects a) _ q l.declared in
       let entity = bind_some (slice_get core.entities number.0) _ q number.2 in
@@ -85,16 +85,16 @@ module _ (core : CoreData) (w : World) (objects : ObjectMap) (fields : FieldsFit
   -- If no field of an allowed capability leads out of these regions, nothing that is reached from one is in another.
   reached : (P : ℕ → Type 0) (allowed : Cap → Bool)
       → ((o : Address) (n r : ℕ) (q : Cap) → allowed q ≡ true → FitsIn w (InField o n) (unalias q) r → P (w.region o) → P r)
-      → (a b : Address) → P (w.region a) → Reaches core objects allowed a b → P (w.region b)
+      → (a b : Address) → P (w.region a) → FieldsReach core objects allowed a b → P (w.region b)
   reached P allowed next a b p (itself e) = subst (λ (x : Address). P (w.region x)) (sym e) p
   reached P allowed next a b p (further o q x e l) = next o l.place (w.region b) q e (led q o b l) (reached P allowed next a o p x)
 
-  pub inside_mailed : (j t k : ℕ) (a b : Address) → Mailed w j t k (w.region a) → Reaches core objects keeps a b → Mailed w j t k (w.region b)
+  pub inside_mailed : (j t k : ℕ) (a b : Address) → Mailed w j t k (w.region a) → FieldsReach core objects keeps a b → Mailed w j t k (w.region b)
   inside_mailed j t k = reached (Mailed w j t k) keeps (λ o n r q. kept_mailed w o n r j t k q)
 
-  pub seen_shown_from : (j t k : ℕ) (a b : Address) → Shown w j t k (w.region a) → Reaches core objects shows a b → Shown w j t k (w.region b)
+  pub seen_shown_from : (j t k : ℕ) (a b : Address) → Shown w j t k (w.region a) → FieldsReach core objects shows a b → Shown w j t k (w.region b)
   seen_shown_from j t k = reached (Shown w j t k) shows (λ o n r q. field_shown w o n r j t k q)
 
-  pub leads_from_mailed : (j t k : ℕ) (a b : Address) → Mailed w j t k (w.region b) → Reaches core objects shows a b → Mailed w j t k (w.region a)
+  pub leads_from_mailed : (j t k : ℕ) (a b : Address) → Mailed w j t k (w.region b) → FieldsReach core objects shows a b → Mailed w j t k (w.region a)
   leads_from_mailed j t k a b m (itself e) = subst (λ (x : Address). Mailed w j t k (w.region x)) e m
   leads_from_mailed j t k a b m (further o q x e l) = leads_from_mailed j t k a o (shown_behind w o l.place (w.region b) j t k q e (led q o b l) m) x

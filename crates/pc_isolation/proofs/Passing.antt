@@ -19,7 +19,7 @@ use Rattle.pc_events.proofs.OnlyAccesses.{step_accessed}
 use Rattle.pc_events.proofs.Changes.{applied}
 use Rattle.pc_events.proofs.Plans.{plans, step_is}
 use Rattle.pc_events.proofs.Reach.{run_placed, after_placed}
-use Rattle.pc_isolation.specs.Isolated.{keeps, shows, Reaches, waiting_at, Waits, Inside, SeenFrom, Isolated}
+use Rattle.pc_isolation.specs.Isolated.{keeps, shows, FieldsReach, waiting_at, Waits, Inside, SeenFrom, Isolated}
 use Rattle.pc_isolation.specs.Passed.{Whole}
 use Rattle.pc_isolation.specs.ValidLaws.{ValidIsPassedWhole}
 use Rattle.pc_isolation.proofs.Reaching.{Unwritten, values_kept, reach_on, reach_back, shown}
@@ -45,10 +45,10 @@ module _ (core : CoreData) (c d : Configuration) (i : ℕ) (iso : Isolated core 
   argument_back n a (inl w) = inl (waits_too core d c j l k n m there here cap.Iso a w)
   argument_back n a (inr w) = inr (waits_too core d c j l k n m there here cap.Val a w)
 
-  seen_free : (n : ℕ) (a : Address) → Argument c k n a → (o : Address) → Reaches core c.objects shows a o → Unwritten core c i o
+  seen_free : (n : ℕ) (a : Address) → Argument c k n a → (o : Address) → FieldsReach core c.objects shows a o → Unwritten core c i o
   seen_free n a w o r x e writes = iso.unwritten j k n o (a, w, r) i x e writes
 
-  kept_free : (n : ℕ) (a : Address) → Argument c k n a → (o : Address) → Reaches core c.objects keeps a o → Unwritten core c i o
+  kept_free : (n : ℕ) (a : Address) → Argument c k n a → (o : Address) → FieldsReach core c.objects keeps a o → Unwritten core c i o
   kept_free n a w o r = seen_free n a w o (shown core c a o r)
 
   inside_on : (n : ℕ) (b : Address) → Inside core c j k n b → Inside core d j l n b

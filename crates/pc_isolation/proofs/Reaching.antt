@@ -16,7 +16,7 @@ use Rattle.pc_semantics.specs.Configurations.{Configuration}
 use Rattle.pc_semantics.specs.Safety.{access}
 use Rattle.pc_events.specs.Accesses.{OnlyAccessed}
 use Rattle.pc_events.proofs.OnlyAccesses.{absent_empty}
-use Rattle.pc_isolation.specs.Isolated.{field_cap, Leads, keeps, shows, Reaches, itself, further}
+use Rattle.pc_isolation.specs.Isolated.{field_cap, FieldLeads, keeps, shows, FieldsReach, itself, further}
 
 -- The next step of actor i does not write this object.
 abbrev pub Unwritten : CoreData → Configuration → ℕ → Address → Type 0
@@ -37,7 +37,7 @@ module _ (core : CoreData) (c d : Configuration) (i : ℕ) (only : OnlyAccessed 
   pub values_kept : (a : Address) → Unwritten core c i a → (place : ℕ) → value_at d.objects a place ≡ value_at c.objects a place
   values_kept a free place = values_by a free place (class_at c.objects a) refl
 
-  lead_on : (q : Cap) (a b : Address) → Unwritten core c i a → Leads core c.objects q a b → Leads core d.objects q a b
+  lead_on : (q : Cap) (a b : Address) → Unwritten core c i a → FieldLeads core c.objects q a b → FieldLeads core d.objects q a b
   lead_on q a b free l =
       let e = bind_some (class_at c.objects a) _ q l.declared in
       record {
@@ -50,19 +50,19 @@ module _ (core : CoreData) (c d : Configuration) (i : ℕ) (only : OnlyAccessed 
   declared_by q a b place f v None is = absurd (none-some (At b) (sym (absent_empty (get c.objects a) place is) ∙ v))
   declared_by q a b place f v (Some e) is = bind_is (class_at c.objects a) _ e is ∙ sym (bind_is (class_at d.objects a) _ e (only.stays a e is)) ∙ f
 
-  lead_back : (q : Cap) (a b : Address) → Unwritten core c i a → Leads core d.objects q a b → Leads core c.objects q a b
+  lead_back : (q : Cap) (a b : Address) → Unwritten core c i a → FieldLeads core d.objects q a b → FieldLeads core c.objects q a b
   lead_back q a b free l =
       let value : value_at c.objects a l.place ≡ Some (At b) = sym (values_kept a free l.place) ∙ l.holds in
       record { place = l.place; declared = declared_by q a b l.place l.declared value (class_at c.objects a) refl; holds = value }
 
   -- ---- chains of fields
 
-  module _ (allowed : Cap → Bool) (a : Address) (free : (o : Address) → Reaches core c.objects allowed a o → Unwritten core c i o) where
-    pub reach_on : (b : Address) → Reaches core c.objects allowed a b → Reaches core d.objects allowed a b
+  module _ (allowed : Cap → Bool) (a : Address) (free : (o : Address) → FieldsReach core c.objects allowed a o → Unwritten core c i o) where
+    pub reach_on : (b : Address) → FieldsReach core c.objects allowed a b → FieldsReach core d.objects allowed a b
     reach_on b (itself e) = itself e
     reach_on b (further o q x e l) = further o q (reach_on o x) e (lead_on q o b (free o x) l)
 
-    pub reach_back : (b : Address) → Reaches core d.objects allowed a b → Reaches core c.objects allowed a b
+    pub reach_back : (b : Address) → FieldsReach core d.objects allowed a b → FieldsReach core c.objects allowed a b
     reach_back b (itself e) = itself e
     reach_back b (further o q x e l) = let y = reach_back o x in further o q y e (lead_back q o b (free o y) l)
 
@@ -76,6 +76,6 @@ kept_shown cap.Val e = refl
 kept_shown cap.Box e = refl
 kept_shown cap.Tag e = absurd (false_true e)
 
-pub shown : (core : CoreData) (c : Configuration) (a b : Address) → Reaches core c.objects keeps a b → Reaches core c.objects shows a b
+pub shown : (core : CoreData) (c : Configuration) (a b : Address) → FieldsReach core c.objects keeps a b → FieldsReach core c.objects shows a b
 shown core c a b (itself e) = itself e
 shown core c a b (further o q x e l) = further o q (shown core c a o x) (kept_shown q e) l

@@ -23,16 +23,16 @@ field_cap core objects a place = do
   Some field.cap
 
 -- A field of the object at a, declared with capability q, holds the object at b.
-pub record Leads (core : CoreData) (objects : ObjectMap) (q : Cap) (a b : Address) : Type 0 where
+pub record FieldLeads (core : CoreData) (objects : ObjectMap) (q : Cap) (a b : Address) : Type 0 where
   pub place : ℕ
   pub declared : field_cap core objects a place ≡ Some q
   pub holds : value_at objects a place ≡ Some (At b)
 
 -- Fields of allowed capabilities lead, one after another, from the object at a to the one at b; an object reaches
 -- itself without any.
-pub data Reaches (core : CoreData) (objects : ObjectMap) (allowed : Cap → Bool) (a : Address) : Address → Type 0 where
-  itself : {b : Address} → b ≡ a → Reaches core objects allowed a b
-  further : {b : Address} → (o : Address) (q : Cap) → Reaches core objects allowed a o → allowed q ≡ true → Leads core objects q o b → Reaches core objects allowed a b
+pub data FieldsReach (core : CoreData) (objects : ObjectMap) (allowed : Cap → Bool) (a : Address) : Address → Type 0 where
+  itself : {b : Address} → b ≡ a → FieldsReach core objects allowed a b
+  further : {b : Address} → (o : Address) (q : Cap) → FieldsReach core objects allowed a o → allowed q ≡ true → FieldLeads core objects q o b → FieldsReach core objects allowed a b
 
 -- A field keeps its contents with its object if it is declared `iso`, `trn` or `ref`. The columns are iso, trn, ref,
 -- val, box and tag.
@@ -65,18 +65,18 @@ pub record Waits (core : CoreData) (c : Configuration) (j k n : ℕ) (q : Cap) (
 
 -- The object at b is inside this argument, which is `iso`: fields that keep their contents lead to it.
 abbrev pub Inside : CoreData → Configuration → (j k n : ℕ) → Address → Type 0
-Inside core c j k n b = (a : Address) × Waits core c j k n cap.Iso a × Reaches core c.objects keeps a b
+Inside core c j k n b = (a : Address) × Waits core c j k n cap.Iso a × FieldsReach core c.objects keeps a b
 
 -- The object at b is seen from this argument, which is `iso` or `val`: fields that show their contents lead to it.
 abbrev pub SeenFrom : CoreData → Configuration → (j k n : ℕ) → Address → Type 0
-SeenFrom core c j k n b = (a : Address) × (Waits core c j k n cap.Iso a ⊎ Waits core c j k n cap.Val a) × Reaches core c.objects shows a b
+SeenFrom core c j k n b = (a : Address) × (Waits core c j k n cap.Iso a ⊎ Waits core c j k n cap.Val a) × FieldsReach core c.objects shows a b
 
 -- Waiting messages are isolated in depth.
 pub record Isolated (core : CoreData) (c : Configuration) : Type 0 where
   -- No actor's next step touches what is inside a waiting argument,
   pub untouched : (j k n : ℕ) (b : Address) → Inside core c j k n b → (i : ℕ) (x : Access) → access core c i ≡ Some x → x.address ≢ b
   -- or an object from which fields that show their contents lead there;
-  pub unreached : (j k n : ℕ) (b : Address) → Inside core c j k n b → (i : ℕ) (x : Access) → access core c i ≡ Some x → Reaches core c.objects shows x.address b → ⊥
+  pub unreached : (j k n : ℕ) (b : Address) → Inside core c j k n b → (i : ℕ) (x : Access) → access core c i ≡ Some x → FieldsReach core c.objects shows x.address b → ⊥
   -- none writes what is seen from a waiting argument;
   pub unwritten : (j k n : ℕ) (b : Address) → SeenFrom core c j k n b → (i : ℕ) (x : Access) → access core c i ≡ Some x → x.write ≡ true → x.address ≢ b
   -- no object is inside two waiting arguments: they are the same actor, message and parameter;

@@ -62,7 +62,7 @@ fails_rule core ann n x g h = (refl, get_below core.nodes n x g, h)
 pub fails_set : (core : CoreData) (ann : Ann) (n m : ℕ) → Formed core → MeetsRule core ann n → computed.leaves_unset core ann n m ≡ true → spec.FailsAt core ann n (fault.Unset m)
 fails_set core ann n m f h e = (h, unset_method core ann n m (slice_get core.methods m) (slice_get ann.notes n) f refl refl e)
 
-pub passes : (core : CoreData) (ann : Ann) (n : ℕ) (y : Node) → Formed core → slice_get core.nodes n ≡ Some y → MeetsRule core ann n → computed.leaves_unset core ann n y.method ≡ false → spec.Passes core ann n
+pub passes : (core : CoreData) (ann : Ann) (n : ℕ) (y : Node) → Formed core → slice_get core.nodes n ≡ Some y → MeetsRule core ann n → computed.leaves_unset core ann n y.method ≡ false → spec.NodePasses core ann n
 passes core ann n y f g h e = (
   h,
   λ m x there body.

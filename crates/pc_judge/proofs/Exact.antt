@@ -17,7 +17,8 @@ use Rattle.pc_judge.proofs.Bodies.{body_within, one_body}
 
 -- ---- from node to node
 
-pub before_next : (core : CoreData) (ann : Ann) (n : ℕ) → spec.Before core ann n → spec.Passes core ann n → spec.Before core ann (n + 1)
+pub before_next : (core : CoreData) (ann : Ann) (n : ℕ) → spec.NothingWrongBefore core ann n → spec.NodePasses core ann n
+    → spec.NothingWrongBefore core ann (n + 1)
 before_next core ann n b p =
     record {
       declarations = b.declarations;
@@ -27,7 +28,7 @@ before_next core ann n b p =
       sets = λ k l. elim (cases_lt k n) [ inl m ↦ b.sets k m | inr m ↦ let at : n ≡ k = omega (arith, l, m) in subst (spec.SetsBehind core ann) at p.1 ];
     }
 
-pub before_all : (core : CoreData) (ann : Ann) (n : ℕ) → Formed core → n ≡ length core.nodes → spec.Before core ann n → Valid core ann
+pub before_all : (core : CoreData) (ann : Ann) (n : ℕ) → Formed core → n ≡ length core.nodes → spec.NothingWrongBefore core ann n → Valid core ann
 before_all core ann n f e b =
     record {
       declarations = b.declarations;
@@ -39,7 +40,7 @@ before_all core ann n f e b =
     }
 
 -- The same for a list that was looked at to its end.
-pub before_seen : (core : CoreData) (ann : Ann) (ys : List Node) (n i : ℕ) → Formed core → ys ≡ core.nodes → length ys ≤ i → n ≡ i → i ≤ length ys → spec.Before core ann n → Valid core ann
+pub before_seen : (core : CoreData) (ann : Ann) (ys : List Node) (n i : ℕ) → Formed core → ys ≡ core.nodes → length ys ≤ i → n ≡ i → i ≤ length ys → spec.NothingWrongBefore core ann n → Valid core ann
 before_seen core ann ys n i f same l at m b =
     let count : length ys ≡ length core.nodes = ap (λ (zs : List Node). length zs) same in
     before_all core ann n f (omega (arith, count, l, at, m)) b
@@ -63,7 +64,7 @@ slot_clash : (core : CoreData) (ann : Ann) (k : ℕ) → spec.FirstWrong core an
 slot_clash core ann k h w = h.0.2 (w k h.0.0 h.0.1)
 
 -- A constructor that leaves a field unset contradicts what comes after its body.
-unset_clash : (core : CoreData) (ann : Ann) (m n : ℕ) (h : spec.LeavesUnset core ann m) → h.1 < n → spec.Before core ann n → ⊥
+unset_clash : (core : CoreData) (ann : Ann) (m n : ℕ) (h : spec.LeavesUnset core ann m) → h.1 < n → spec.NothingWrongBefore core ann n → ⊥
 unset_clash core ann m n h l b = h.6 (b.sets h.1 l m h.0 h.2 h.3)
 
 two_slots : (core : CoreData) (ann : Ann) (k j : ℕ) → spec.FirstWrong core ann k → spec.FirstWrong core ann j → k ≡ j
@@ -135,10 +136,10 @@ not_err f v e = cc e
 same_err : (f g : JudgeFault) → ◌≡◌ {A = Answer} (Err f) (Err g) → f ≡ g
 same_err f g e = cc e
 
-pub exact_ok : (core : CoreData) (ann : Ann) (r : Answer) → Formed core → MatchResult r (λ v. Valid core ann) (λ f. spec.FirstFault core ann f) → IsOk r ↔ Valid core ann
+pub exact_ok : (core : CoreData) (ann : Ann) (r : Answer) → Formed core → MatchResult r (λ v. Valid core ann) (λ f. spec.FirstAnnotationFault core ann f) → IsOk r ↔ Valid core ann
 exact_ok core ann (Ok v) f h = (λ o. h, λ o. refl)
 exact_ok core ann (Err g) f h = (λ o. absurd (let bad : false ≡ true = o in cc), λ o. absurd (not_valid core ann g f h o))
 
-pub exact_fault : (core : CoreData) (ann : Ann) (r : Answer) → Formed core → MatchResult r (λ v. Valid core ann) (λ f. spec.FirstFault core ann f) → (f : JudgeFault) → (r ≡ Err f) ↔ spec.FirstFault core ann f
+pub exact_fault : (core : CoreData) (ann : Ann) (r : Answer) → Formed core → MatchResult r (λ v. Valid core ann) (λ f. spec.FirstAnnotationFault core ann f) → (f : JudgeFault) → (r ≡ Err f) ↔ spec.FirstAnnotationFault core ann f
 exact_fault core ann (Ok v) f h g = (λ e. absurd (not_err g v e), λ i. absurd (not_valid core ann g f i h))
-exact_fault core ann (Err j) f h g = (λ e. subst (spec.FirstFault core ann) (same_err j g e) h, λ i. ap Err (one_first core ann j g f h i))
+exact_fault core ann (Err j) f h g = (λ e. subst (spec.FirstAnnotationFault core ann) (same_err j g e) h, λ i. ap Err (one_first core ann j g f h i))

@@ -23,7 +23,7 @@ use Rattle.pc_core.specs.Conforms.{Conforms}
 use Rattle.pc_sub.specs.Declarations.{TakesSendable, DeclOk}
 use Rattle.pc_masks.specs.declared.mask.Mask.{Mask}
 use Rattle.pc_masks.specs.Masks.{has}
-use Rattle.pc_valid.specs.Words.{before, after, AllSet}
+use Rattle.pc_valid.specs.Words.{before, masks_after, AllSet}
 use Rattle.pc_valid.specs.Valid.{Meets, MeetsRule, KeepsWritten}
 use Rattle.pc_rules.specs.Parts.{constructs}
 use Rattle.pc_rules.proofs.RecordWords.{constructs_iff, starts_to, ends_to}
@@ -99,9 +99,9 @@ rules_met (suc zero) l = (
       last = prim_note;
       children = refl;
       type = refl;
-      after_children = after prim_note;
+      after_children = masks_after prim_note;
       in_order = (refl, refl);
-      live = ends_to four_slots (0 ∷ []) (after prim_note).0 (after prim_note).0 refl;
+      live = ends_to four_slots (0 ∷ []) (masks_after prim_note).0 (masks_after prim_note).0 refl;
       set = refl;
     },
   ),
@@ -204,9 +204,9 @@ one_rules (suc zero) l = (
       last = prim_note;
       children = refl;
       type = refl;
-      after_children = after prim_note;
+      after_children = masks_after prim_note;
       in_order = (refl, refl);
-      live = ends_to example.one_field (0 ∷ []) (after prim_note).0 (after prim_note).0 refl;
+      live = ends_to example.one_field (0 ∷ []) (masks_after prim_note).0 (masks_after prim_note).0 refl;
       set = refl;
     },
   ),

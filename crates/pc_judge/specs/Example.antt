@@ -17,7 +17,7 @@ use Rattle.pc_ann.specs.declared.annotation.Ann.{Ann}
 use Rattle.pc_ann.specs.declared.annotation.Rule.TheVariants as rule
 use Rattle.pc_rules.specs.Example.{four_slots, derivation, at, node_of, noted}
 use Rattle.pc_judge.specs.declared.faults.JudgeFault.TheVariants as fault
-use Rattle.pc_judge.specs.Faults.{FirstFault}
+use Rattle.pc_judge.specs.Faults.{FirstAnnotationFault}
 
 -- The note of the new object has `ref` instead of `iso^`.
 abbrev pub noted_as_ref : Ann
@@ -64,7 +64,7 @@ nothing_set = record {
 
 abbrev pub FaultsNamed : Type 0
 FaultsNamed =
-    FirstFault four_slots noted_as_ref (fault.Node 3)
-    × FirstFault four_slots held_as_val (fault.Slot 3)
-    × FirstFault four_slots without_notes fault.Shape
-    × FirstFault one_field nothing_set (fault.Unset 0)
+    FirstAnnotationFault four_slots noted_as_ref (fault.Node 3)
+    × FirstAnnotationFault four_slots held_as_val (fault.Slot 3)
+    × FirstAnnotationFault four_slots without_notes fault.Shape
+    × FirstAnnotationFault one_field nothing_set (fault.Unset 0)

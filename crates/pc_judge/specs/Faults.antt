@@ -12,8 +12,8 @@ use Rattle.pc_judge.specs.declared.faults.JudgeFault.{JudgeFault}
 use Rattle.pc_judge.specs.declared.faults.JudgeFault.TheVariants as fault
 
 -- The faults of the code.
-abbrev pub Fault : Type 0
-Fault = JudgeFault
+abbrev pub AnnotationFault : Type 0
+AnnotationFault = JudgeFault
 
 -- There is one entry for each slot and one note for each node.
 abbrev pub HasShape : CoreData → Ann → Type 0
@@ -34,7 +34,7 @@ abbrev pub SetsBehind : CoreData → Ann → ℕ → Type 0
 SetsBehind core ann n = Each (λ m x. x.body ≡ Some n → SetsFields core ann x) core.methods
 
 -- There is no fault before node n.
-pub record Before (core : CoreData) (ann : Ann) (n : ℕ) : Type 0 where
+pub record NothingWrongBefore (core : CoreData) (ann : Ann) (n : ℕ) : Type 0 where
   pub declarations : DeclOk core
   pub shape : HasShape core ann
   pub written : KeepsWritten core ann
@@ -43,28 +43,28 @@ pub record Before (core : CoreData) (ann : Ann) (n : ℕ) : Type 0 where
 
 -- There is no fault before node n, and the node does not satisfy its rule.
 abbrev pub FailsRule : CoreData → Ann → ℕ → Type 0
-FailsRule core ann n = (n < length core.nodes) × Before core ann n × (MeetsRule core ann n → ⊥)
+FailsRule core ann n = (n < length core.nodes) × NothingWrongBefore core ann n × (MeetsRule core ann n → ⊥)
 
 -- There is no fault before the body of method m, a constructor, and the body satisfies its rule; but after it some
 -- field is not set.
 abbrev pub LeavesUnset : CoreData → Ann → ℕ → Type 0
 LeavesUnset core ann m =
-    (x : Method) × (b : ℕ) × (slice_get core.methods m ≡ Some x) × (x.body ≡ Some b) × Before core ann b × MeetsRule core ann b
+    (x : Method) × (b : ℕ) × (slice_get core.methods m ≡ Some x) × (x.body ≡ Some b) × NothingWrongBefore core ann b × MeetsRule core ann b
     × (SetsFields core ann x → ⊥)
 
 -- The first fault.
-abbrev pub FirstFault : CoreData → Ann → JudgeFault → Type 0
-FirstFault core ann (fault.Decl f) = first_fault core ≡ Some f
-FirstFault core ann fault.Shape = DeclOk core × (HasShape core ann → ⊥)
-FirstFault core ann (fault.Slot k) = DeclOk core × HasShape core ann × FirstWrong core ann k
-FirstFault core ann (fault.Node n) = FailsRule core ann n
-FirstFault core ann (fault.Unset m) = LeavesUnset core ann m
+abbrev pub FirstAnnotationFault : CoreData → Ann → JudgeFault → Type 0
+FirstAnnotationFault core ann (fault.Decl f) = first_fault core ≡ Some f
+FirstAnnotationFault core ann fault.Shape = DeclOk core × (HasShape core ann → ⊥)
+FirstAnnotationFault core ann (fault.Slot k) = DeclOk core × HasShape core ann × FirstWrong core ann k
+FirstAnnotationFault core ann (fault.Node n) = FailsRule core ann n
+FirstAnnotationFault core ann (fault.Unset m) = LeavesUnset core ann m
 
 -- ---- one node
 
 -- There is no fault at node n.
-abbrev pub Passes : CoreData → Ann → ℕ → Type 0
-Passes core ann n = MeetsRule core ann n × SetsBehind core ann n
+abbrev pub NodePasses : CoreData → Ann → ℕ → Type 0
+NodePasses core ann n = MeetsRule core ann n × SetsBehind core ann n
 
 -- Node n has this fault.
 abbrev pub FailsAt : CoreData → Ann → ℕ → JudgeFault → Type 0

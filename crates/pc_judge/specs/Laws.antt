@@ -5,12 +5,12 @@ use Rattle.pc_core.specs.Formed.{Formed}
 use Rattle.pc_ann.specs.declared.annotation.Ann.{Ann}
 use Rattle.pc_valid.specs.Valid.{Valid}
 use Rattle.pc_judge.specs.declared.faults.JudgeFault.{JudgeFault}
-use Rattle.pc_judge.specs.Faults.{FirstFault}
+use Rattle.pc_judge.specs.Faults.{FirstAnnotationFault}
 
 -- There is at most one first fault.
 abbrev pub OneFirst : Type 0
-OneFirst = (core : CoreData) (ann : Ann) (f g : JudgeFault) → Formed core → FirstFault core ann f → FirstFault core ann g → f ≡ g
+OneFirst = (core : CoreData) (ann : Ann) (f g : JudgeFault) → Formed core → FirstAnnotationFault core ann f → FirstAnnotationFault core ann g → f ≡ g
 
 -- If there is one, the annotation is not valid.
 abbrev pub NotValid : Type 0
-NotValid = (core : CoreData) (ann : Ann) (f : JudgeFault) → Formed core → FirstFault core ann f → Valid core ann → ⊥
+NotValid = (core : CoreData) (ann : Ann) (f : JudgeFault) → Formed core → FirstAnnotationFault core ann f → Valid core ann → ⊥

@@ -18,14 +18,14 @@ use pc_sub::declarations;
 /// allocate.
 pub fn judge(core: &Core, ann: &Ann) -> Result<(), JudgeFault>
     ensures ok { IsOk result ↔ Valid core.now ann.now }
-    ensures fault { (f : spec.Fault) → (result ≡ Err f) ↔ spec.FirstFault core.now ann.now f }
+    ensures fault { (f : spec.AnnotationFault) → (result ≡ Err f) ↔ spec.FirstAnnotationFault core.now ann.now f }
 {
     core.formed();
     judge_declarations(core, ann)
 }
 
 fn judge_declarations(core: &Core, ann: &Ann) -> Result<(), JudgeFault>
-    ensures { MatchResult result (λ v. Valid core.now ann.now) (λ f. spec.FirstFault core.now ann.now f) }
+    ensures { MatchResult result (λ v. Valid core.now ann.now) (λ f. spec.FirstAnnotationFault core.now ann.now f) }
 {
     match declarations(core) {
         Err(fault) => Err(JudgeFault::Decl(fault)),
@@ -42,7 +42,7 @@ fn has_shape(core: &Core, ann: &Ann) -> bool
 
 fn judge_shape(core: &Core, ann: &Ann) -> Result<(), JudgeFault>
     requires { DeclOk core.now }
-    ensures { MatchResult result (λ v. Valid core.now ann.now) (λ f. spec.FirstFault core.now ann.now f) }
+    ensures { MatchResult result (λ v. Valid core.now ann.now) (λ f. spec.FirstAnnotationFault core.now ann.now f) }
 {
     if has_shape(core, ann) {
         judge_slots(core, ann)
@@ -54,7 +54,7 @@ fn judge_shape(core: &Core, ann: &Ann) -> Result<(), JudgeFault>
 fn judge_slots(core: &Core, ann: &Ann) -> Result<(), JudgeFault>
     requires declarations { DeclOk core.now }
     requires shape { spec.HasShape core.now ann.now }
-    ensures { MatchResult result (λ v. Valid core.now ann.now) (λ f. spec.FirstFault core.now ann.now f) }
+    ensures { MatchResult result (λ v. Valid core.now ann.now) (λ f. spec.FirstAnnotationFault core.now ann.now f) }
 {
     match wrong_slot(core, ann) {
         Some(slot) => Err(JudgeFault::Slot(slot)),

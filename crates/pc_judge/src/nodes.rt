@@ -43,7 +43,7 @@ fn fault_at(core: &Core, ann: &Ann, number: u32, node: &Node) -> Option<JudgeFau
     requires slots { length ann.now.slots ≡ length core.now.slots }
     requires notes { length ann.now.notes ≡ length core.now.nodes }
     requires node { slice_get core.now.nodes number ≡ Some node.now }
-    ensures { MatchOption result (spec.Passes core.now ann.now number) (λ f. spec.FailsAt core.now ann.now number f) }
+    ensures { MatchOption result (spec.NodePasses core.now ann.now number) (λ f. spec.FailsAt core.now ann.now number f) }
 {
     core.formed();
     if !rule_holds(core, ann, number) {
@@ -57,8 +57,8 @@ fn fault_at(core: &Core, ann: &Ann, number: u32, node: &Node) -> Option<JudgeFau
 
 // Node by node.
 pub(crate) fn judge_nodes(core: &Core, ann: &Ann) -> Result<(), JudgeFault>
-    requires { spec.Before core.now ann.now 0 }
-    ensures { MatchResult result (λ v. Valid core.now ann.now) (λ f. spec.FirstFault core.now ann.now f) }
+    requires { spec.NothingWrongBefore core.now ann.now 0 }
+    ensures { MatchResult result (λ v. Valid core.now ann.now) (λ f. spec.FirstAnnotationFault core.now ann.now f) }
 {
     core.formed();
     let mut number = 0;

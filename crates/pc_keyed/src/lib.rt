@@ -6,7 +6,7 @@
 #![tactic(auto)]
 
 mod key;
-mod names;
+mod name_keys;
 
 pub use key::KeyedBy;
-pub use names::keyed_by_names;
+pub use name_keys::keyed_by_names;

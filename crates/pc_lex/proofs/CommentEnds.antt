@@ -4,7 +4,7 @@ use Rattle.std.proofs.lemmas.Bool.{and_parts, eqb-true}
 use Rattle.std.proofs.lemmas.Bool.Decides.{nat_tests}
 use Rattle.std.specs.List.{prefix_len}
 use Rattle.pc_lex.specs.Bytes.{is_line, begins, open_mark, line_mark}
-use Rattle.pc_lex.specs.Pieces.{Closes, close, inner, other, AtLineEnd, IsGap}
+use Rattle.pc_lex.specs.Pieces.{ClosesComment, close, inner, other, AtLineEnd, IsGap}
 use Rattle.pc_lex.specs.Reading.{behind}
 use Rattle.pc_lex.proofs.Runs.{begins_cut}
 use Rattle.pc_lists.proofs.Prefixes.{run_all}
@@ -20,12 +20,12 @@ and_true false = refl
 pair : (b c x y : ℕ) (bs : List ℕ) → begins (b ∷ c ∷ bs) (x ∷ y ∷ []) ≡ (b == x && c == y)
 pair b c x y bs = rw (and_true (y == c), eq_sym x b, eq_sym y c) refl
 
-pub closes_some : {text rest : List ℕ} → Closes text rest → text ≡ [] → ⊥
+pub closes_some : {text rest : List ℕ} → ClosesComment text rest → text ≡ [] → ⊥
 closes_some close e = cc
 closes_some (inner h more) e = cc
 closes_some (other no_open no_close h) e = cc
 
-pub closes_behind : {text rest : List ℕ} → Closes text rest → (n : ℕ) → behind (suc n) text ≡ behind n rest
+pub closes_behind : {text rest : List ℕ} → ClosesComment text rest → (n : ℕ) → behind (suc n) text ≡ behind n rest
 unfolding behind
 closes_behind close n = refl
 closes_behind (inner h more) n = closes_behind h (suc n) ∙ closes_behind more n
@@ -36,7 +36,7 @@ closes_behind (other {b = b} {text = c ∷ bs} no_open no_close h) n =
 -- this number of comments end, one after the other
 abbrev pub ClosesAll : ℕ → List ℕ → List ℕ → Type 0
 ClosesAll zero text rest = text ≡ rest
-ClosesAll (suc n) text rest = (mid : List ℕ) × Closes text mid × ClosesAll n mid rest
+ClosesAll (suc n) text rest = (mid : List ℕ) × ClosesComment text mid × ClosesAll n mid rest
 
 all_step : (n b c : ℕ) (bs rest : List ℕ) (s t : Bool) → (b == 47 && c == 42) ≡ s → (b == 42 && c == 47) ≡ t
     → cond s (behind (suc (suc n)) bs) (cond t (behind n bs) (behind (suc n) (c ∷ bs))) ≡ Some rest
@@ -48,11 +48,11 @@ all_step n b c bs rest true t opens e2 e deep out more =
     let h = deep e in
     let (x, y) = and_parts (b == 47) (c == 42) opens in
     let same : 47 ∷ 42 ∷ bs ≡ b ∷ c ∷ bs = ap₂ (λ p q. p ∷ q ∷ bs) (sym (eqb-true b 47 x)) (sym (eqb-true c 42 y)) in
-    (h.2.0, subst (λ l. Closes l h.2.0) same (inner h.1 h.2.1), h.2.2)
+    (h.2.0, subst (λ l. ClosesComment l h.2.0) same (inner h.1 h.2.1), h.2.2)
 all_step n b c bs rest false true e1 closes e deep out more =
     let (x, y) = and_parts (b == 42) (c == 47) closes in
     let same : 42 ∷ 47 ∷ bs ≡ b ∷ c ∷ bs = ap₂ (λ p q. p ∷ q ∷ bs) (sym (eqb-true b 42 x)) (sym (eqb-true c 47 y)) in
-    (bs, subst (λ l. Closes l bs) same close, out e)
+    (bs, subst (λ l. ClosesComment l bs) same close, out e)
 all_step n b c bs rest false false e1 e2 e deep out more =
     let h = more e in
     (h.0, other (pair b c 47 42 bs ∙ e1) (pair b c 42 47 bs ∙ e2) h.1, h.2)
@@ -65,7 +65,7 @@ behind_closes (suc n) (b ∷ []) rest e = absurd (none_some e)
 behind_closes (suc n) (b ∷ c ∷ bs) rest e =
     all_step n b c bs rest (b == 47 && c == 42) (b == 42 && c == 47) refl refl e (behind_closes (suc (suc n)) bs rest) (behind_closes n bs rest) (behind_closes (suc n) (c ∷ bs) rest)
 
-pub closes_suffix : {text rest : List ℕ} → Closes text rest → (pre : List ℕ) × (text ≡ pre ++ rest)
+pub closes_suffix : {text rest : List ℕ} → ClosesComment text rest → (pre : List ℕ) × (text ≡ pre ++ rest)
 closes_suffix close = (42 ∷ 47 ∷ [], refl)
 closes_suffix (inner h more) =
     let one = closes_suffix h in
@@ -100,11 +100,11 @@ pub block_gap : (text rest : List ℕ) → begins text open_mark ≡ true → be
 block_gap text rest is read =
     let t = drop 2 text in
     let all = behind_closes 1 t rest read in
-    let closes : Closes t rest = subst (λ r. Closes t r) all.2 all.1 in
+    let closes : ClosesComment t rest = subst (λ r. ClosesComment t r) all.2 all.1 in
     let cut = closes_suffix closes in
     let whole : text ≡ 47 ∷ 42 ∷ t = behind_word text open_mark is in
     let parts : text ≡ (47 ∷ 42 ∷ cut.0) ++ rest = whole ∙ ap (λ l. 47 ∷ 42 ∷ l) cut.1 in
     let count : length text - length rest ≡ length (47 ∷ 42 ∷ cut.0) = omega (arith, ap length parts, length-append (47 ∷ 42 ∷ cut.0) rest) in
     let back : drop (length text - length rest) text ≡ rest = ap (λ l. drop (length text - length rest) l) parts ∙ drop_at (47 ∷ 42 ∷ cut.0) rest _ (sym count) in
     let same : take (length text - length rest) text ++ drop (length text - length rest) text ≡ 47 ∷ 42 ∷ t = take-append-drop (length text - length rest) text ∙ whole in
-    (omega arith, omega (arith, count), inr (inr (t, same, subst (λ r. Closes t r) (sym back) closes)))
+    (omega arith, omega (arith, count), inr (inr (t, same, subst (λ r. ClosesComment t r) (sym back) closes)))

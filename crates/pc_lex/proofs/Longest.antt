@@ -10,7 +10,7 @@ use Rattle.pc_token.specs.declared.kinds.TokenKind.{TokenKind}
 use Rattle.pc_token.specs.declared.kinds.TokenKind.TheVariants as kinds
 use Rattle.pc_token.specs.Signs.{sign_at, sign_text}
 use Rattle.pc_lex.specs.Bytes.{is_letter, first_test}
-use Rattle.pc_lex.specs.Pieces.{NameText, Spells, NumberText}
+use Rattle.pc_lex.specs.Pieces.{NameText, SpellsToken, NumberText}
 use Rattle.pc_lex.specs.Texts.{is_quote, TextBytes, DocBytes}
 use Rattle.pc_lex.specs.Reading.{letter_len, under_len, name_len}
 use Rattle.pc_lists.proofs.Prefixes.{begins_own}
@@ -80,7 +80,7 @@ not_quoted p text more after other is e q = true≢false (sym is ∙ quoted_firs
 named : (h : ℕ → Bool) (text more after : List ℕ) → ((b : ℕ) → h b ≡ true → is_letter b ≡ true) → text ≡ more ++ after → NameText h more → length more ≤ name_len text
 named h text more after letters e t = subst (λ l. length more ≤ name_len l) (sym e) (name_max h more after letters t)
 
-pub name_longest : (text : List ℕ) → 0 < name_len text → (other : TokenKind) (more after : List ℕ) → text ≡ more ++ after → Spells other more → length more ≤ name_len text
+pub name_longest : (text : List ℕ) → 0 < name_len text → (other : TokenKind) (more after : List ℕ) → text ≡ more ++ after → SpellsToken other more → length more ≤ name_len text
 name_longest text some (kinds.Name v) more after e h = named is_ascii_lowercase text more after small_letter e h.0
 name_longest text some (kinds.TypeName v) more after e h = named is_ascii_uppercase text more after capital_letter e h.0
 name_longest text some (kinds.Word w) more after e h = named is_ascii_lowercase text more after small_letter e (spelled_word w more h)
@@ -93,7 +93,7 @@ name_longest text some (kinds.Sign s) more after e h =
 name_longest text some kinds.End more after e h = absurd h
 
 -- if no name begins here, a token is a sign
-pub sign_longest : (text : List ℕ) → first_test is_ascii_digit text ≡ false → first_test is_quote text ≡ false → name_len text ≡ 0 → (other : TokenKind) (more after : List ℕ) → text ≡ more ++ after → Spells other more
+pub sign_longest : (text : List ℕ) → first_test is_ascii_digit text ≡ false → first_test is_quote text ≡ false → name_len text ≡ 0 → (other : TokenKind) (more after : List ℕ) → text ≡ more ++ after → SpellsToken other more
     → (length more ≡ 0) ⊎ ((r : Sign × ℕ) × (sign_at text ≡ Some r) × (length more ≤ r.1))
 sign_longest text digit quote none (kinds.Name v) more after e h = inl (omega (arith, none, named is_ascii_lowercase text more after small_letter e h.0))
 sign_longest text digit quote none (kinds.TypeName v) more after e h = inl (omega (arith, none, named is_ascii_uppercase text more after capital_letter e h.0))
@@ -116,7 +116,7 @@ no_name h text more after digit letters e t =
     apart text (name_starts text some) digit
 
 -- a token has bytes
-pub spelled_some : (kind : TokenKind) (b : List ℕ) → Spells kind b → 0 < length b
+pub spelled_some : (kind : TokenKind) (b : List ℕ) → SpellsToken kind b → 0 < length b
 spelled_some (kinds.Name v) b h = name_some is_ascii_lowercase b h.0
 spelled_some (kinds.TypeName v) b h = name_some is_ascii_uppercase b h.0
 spelled_some (kinds.Word w) b h = name_some is_ascii_lowercase b (spelled_word w b h)
@@ -127,7 +127,7 @@ spelled_some (kinds.Sign s) b h = (sign_some b s h).1
 spelled_some kinds.End b h = absurd h
 
 -- if there is a digit, a token is a number
-pub digit_only : (text : List ℕ) → first_test is_ascii_digit text ≡ true → (other : TokenKind) (more after : List ℕ) → text ≡ more ++ after → Spells other more → (v : ℕ) × (other ≡ kinds.Number v) × NumberText more v × (v < 2 ^ 64)
+pub digit_only : (text : List ℕ) → first_test is_ascii_digit text ≡ true → (other : TokenKind) (more after : List ℕ) → text ≡ more ++ after → SpellsToken other more → (v : ℕ) × (other ≡ kinds.Number v) × NumberText more v × (v < 2 ^ 64)
 digit_only text digit (kinds.Name v) more after e h = absurd (no_name is_ascii_lowercase text more after digit small_letter e h.0)
 digit_only text digit (kinds.TypeName v) more after e h = absurd (no_name is_ascii_uppercase text more after digit capital_letter e h.0)
 digit_only text digit (kinds.Word w) more after e h = absurd (no_name is_ascii_lowercase text more after digit small_letter e (spelled_word w more h))
@@ -155,7 +155,7 @@ quote_no_name h text more after quote letters e t =
     true≢false (sym (name_starts text some) ∙ (quote_none text quote).0)
 
 -- if there is a quote, a token is a text literal or a doc
-pub quote_only : (text : List ℕ) → first_test is_quote text ≡ true → (other : TokenKind) (more after : List ℕ) → text ≡ more ++ after → Spells other more
+pub quote_only : (text : List ℕ) → first_test is_quote text ≡ true → (other : TokenKind) (more after : List ℕ) → text ≡ more ++ after → SpellsToken other more
     → ((v : List ℕ) × (other ≡ kinds.Text v) × TextBytes more v) ⊎ ((other ≡ kinds.Doc) × DocBytes more)
 quote_only text quote (kinds.Name v) more after e h = absurd (quote_no_name is_ascii_lowercase text more after quote small_letter e h.0)
 quote_only text quote (kinds.TypeName v) more after e h = absurd (quote_no_name is_ascii_uppercase text more after quote capital_letter e h.0)

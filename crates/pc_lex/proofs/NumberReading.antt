@@ -5,7 +5,7 @@ use Rattle.std.proofs.lemmas.Bool.Decides.{nat_tests}
 use Rattle.std.specs.List.{list_all}
 use Rattle.std.specs.Char.{is_digit, digit_value, is_ascii_digit}
 use Rattle.pc_lex.specs.Bytes.{first_test, is_tail, is_joined, hex_mark, bin_mark, begins}
-use Rattle.pc_lex.specs.Pieces.{Digits, one, next, spaced, value, DigitsOf, NumberText}
+use Rattle.pc_lex.specs.Pieces.{Digits, one, next, spaced, value_of_digits, DigitsOf, NumberText}
 use Rattle.pc_lex.specs.Reading.{more_len, digits_len, value_of, base_at}
 use Rattle.pc_lex.proofs.DigitSteps.{step, space, ends, len_first}
 use Rattle.pc_lex.proofs.CommentEnds.{behind_word}
@@ -42,7 +42,7 @@ len_is base (b ∷ bs) d = len_first base (b ∷ bs) ∙ (rw d (sym (step base b
 pub digits_max : (base : ℕ) (b ds after : List ℕ) → base ≤ 36 → Digits base b ds → length b ≤ digits_len base (b ++ after)
 digits_max base b ds after small h = omega (arith, len_is base (b ++ after) (digits_first h after), more_max small h after)
 
-pub digits_value : {base : ℕ} {b ds : List ℕ} → base ≤ 36 → Digits base b ds → (acc : ℕ) → value_of base acc b ≡ value base acc ds
+pub digits_value : {base : ℕ} {b ds : List ℕ} → base ≤ 36 → Digits base b ds → (acc : ℕ) → value_of base acc b ≡ value_of_digits base acc ds
 digits_value {base = base} small (one {b = b} e) acc = rw (digit_no_under b base small e) refl
 digits_value {base = base} small (next {b = b} e h) acc = rw (digit_no_under b base small e) (digits_value small h (acc * base + digit_value b))
 digits_value {base = base} small (spaced {b = b} e h) acc = rw (digit_no_under b base small e) (digits_value small h (acc * base + digit_value b))

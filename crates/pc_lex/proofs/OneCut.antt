@@ -17,7 +17,7 @@ use Rattle.pc_lex.specs.declared.pieces.LexStop.TheVariants as stop
 use Rattle.pc_lex.specs.Bytes.{first_test, is_blank, is_line, is_letter, begins_comment}
 use Rattle.pc_lex.specs.Texts.{is_quote, begins_doc, TextBytes}
 use Rattle.pc_lex.specs.TextReading.{unescape}
-use Rattle.pc_lex.specs.Pieces.{NameText, Spells, Piece, gap, token, bytes_of, IsPiece, IsToken, NoPiece, IsGap, AtLineEnd, Pieces, tokens_of, Tokens}
+use Rattle.pc_lex.specs.Pieces.{NameText, SpellsToken, Piece, gap, token, bytes_of, IsPiece, IsToken, NoPiece, IsGap, AtLineEnd, Pieces, tokens_of, Tokens}
 use Rattle.pc_lex.specs.Reading.{is_type, name_kind, behind, value_of, digits_len, base_at, between, piece_at}
 use Rattle.pc_lists.proofs.Prefixes.{run_app}
 use Rattle.pc_lex.proofs.CommentSteps.{behind_all}
@@ -129,7 +129,7 @@ number_is b base n (inr h) = h.1
 sign_kind_is : (b : List ℕ) (s : Sign) → b ≡ sign_text s → kinds.Sign s ≡ sign_kind (sign_at b)
 sign_kind_is b s e = ap sign_kind (sym (sign_own s) ∙ ap sign_at (sym e))
 
-kind_is : (kind : TokenKind) (b : List ℕ) → Spells kind b → kind ≡ kind_at b
+kind_is : (kind : TokenKind) (b : List ℕ) → SpellsToken kind b → kind ≡ kind_at b
 unfolding name_kind
 kind_is (kinds.Name v) b h =
     let none : word_of b ≡ None = none_found b h.1 in
@@ -161,7 +161,7 @@ kind_is (kinds.Sign s) b h =
     rw (digit, start, unquoted) (sign_kind_is b s h)
 kind_is kinds.End b h = absurd h
 
-pub kind_one : (x y : TokenKind) (b : List ℕ) → Spells x b → Spells y b → x ≡ y
+pub kind_one : (x y : TokenKind) (b : List ℕ) → SpellsToken x b → SpellsToken y b → x ≡ y
 kind_one x y b h i = kind_is x b h ∙ sym (kind_is y b i)
 
 -- no token begins with a blank
@@ -176,7 +176,7 @@ digit_blank : (b : List ℕ) → first_test is_ascii_digit b ≡ true → first_
 digit_blank [] e = refl
 digit_blank (b ∷ bs) e = grind (arith, nat_tests)
 
-spelled_blank : (kind : TokenKind) (b : List ℕ) → Spells kind b → first_test is_blank b ≡ false
+spelled_blank : (kind : TokenKind) (b : List ℕ) → SpellsToken kind b → first_test is_blank b ≡ false
 spelled_blank (kinds.Name v) b h = start_blank b (name_first is_ascii_lowercase b small_letter h.0)
 spelled_blank (kinds.TypeName v) b h = start_blank b (name_first is_ascii_uppercase b capital_letter h.0)
 spelled_blank (kinds.Word w) b h = start_blank b (name_first is_ascii_lowercase b small_letter (spelled_word w b h))
@@ -209,7 +209,7 @@ token_found kind b r (found.Token other) n h e right =
     let down = right.2.longest kind b r (sym same) h.spelled in
     let equal : length b ≡ n = omega (arith, up, down, len) in
     let bytes : b ≡ take n (b ++ r) = (same_cut b r (take n (b ++ r)) (drop n (b ++ r)) same (equal ∙ sym len)).0 in
-    let kinds : other ≡ kind = kind_one other kind b (subst (λ l. Spells other l) (sym bytes) right.2.spelled) h.spelled in
+    let kinds : other ≡ kind = kind_one other kind b (subst (λ l. SpellsToken other l) (sym bytes) right.2.spelled) h.spelled in
     (found.Token other, e ∙ ap (λ n. Ok (found.Token other, n)) (sym equal), ap (λ x. token x b) kinds)
 
 token_read : (kind : TokenKind) (b r : List ℕ) (o : Result (Found × ℕ) LexStop) → IsToken kind b r → piece_at (b ++ r) ≡ o → Right (b ++ r) o → Read (token kind b) r

@@ -9,7 +9,7 @@ use Rattle.pc_lex.specs.Bytes.{first_test, begins, open_mark}
 use Rattle.pc_lex.specs.Texts.{is_quote, begins_doc, NeverEnds, BadEscapeIn}
 use Rattle.pc_lex.specs.TextReading.{text_behind, unescape}
 use Rattle.pc_lex.specs.Reading.{between}
-use Rattle.pc_lex.specs.Pieces.{Opens, Piece, gap, token, IsToken, NoPiece, Pieces, count, Faulty, FaultBehind, TokenBehind, FirstFault}
+use Rattle.pc_lex.specs.Pieces.{OpensCommentOrText, Piece, gap, token, IsToken, NoPiece, Pieces, count, Faulty, FaultBehind, TokenBehind, FirstLexFault}
 use Rattle.pc_lex.proofs.Longest.{quote_none}
 use Rattle.pc_lex.proofs.QuoteEnds.{behind_covered}
 use Rattle.pc_lex.proofs.QuotedBytes.{no_doc, doc_quote, quote_cut}
@@ -87,7 +87,7 @@ none_behind text (Some rest) e quote never =
     let (body, cut, covered) = behind_covered (drop 1 text) rest e in
     absurd (never body rest (quote_cut text quote ∙ ap (λ l. 34 ∷ l) cut) covered)
 
-unclosed_is : (text : List ℕ) (at p : ℕ) → p ≡ at → Opens text → fault.Unclosed p ≡ fault_of text at
+unclosed_is : (text : List ℕ) (at p : ℕ) → p ≡ at → OpensCommentOrText text → fault.Unclosed p ≡ fault_of text at
 unclosed_is text at p e (inl opens) = rw opens (ap fault.Unclosed e)
 unclosed_is text at p e (inr (inl doc)) =
     let quote = doc_quote text doc in
@@ -145,7 +145,7 @@ many_many text p q h i =
 abbrev pub Cases : List ℕ → LexFault → Type 0
 Cases text f = ((p : ℕ) × (f ≡ fault.TooMany p) × TokenBehind text p) ⊎ FaultBehind text f
 
-pub fault_cases : (text : List ℕ) (f : LexFault) → FirstFault text f → Cases text f
+pub fault_cases : (text : List ℕ) (f : LexFault) → FirstLexFault text f → Cases text f
 fault_cases text (fault.TooMany p) h = inl (p, refl, h)
 fault_cases text (fault.BadByte p) h = inr h
 fault_cases text (fault.Unclosed p) h = inr h
@@ -160,5 +160,5 @@ cases_one text f g (inr h) (inl i) = absurd (told_many text f i.0 h i.2)
 cases_one text f g (inr h) (inr i) = told_one text f g h i
 
 -- a text has at most one first fault
-pub fault_one : (text : List ℕ) (f g : LexFault) → FirstFault text f → FirstFault text g → f ≡ g
+pub fault_one : (text : List ℕ) (f g : LexFault) → FirstLexFault text f → FirstLexFault text g → f ≡ g
 fault_one text f g h i = cases_one text f g (fault_cases text f h) (fault_cases text g i)

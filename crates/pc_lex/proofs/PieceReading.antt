@@ -14,7 +14,7 @@ use Rattle.pc_lex.specs.declared.pieces.Found.TheVariants as found
 use Rattle.pc_lex.specs.declared.pieces.LexStop.TheVariants as stop
 use Rattle.pc_lex.specs.Bytes.{first_test, is_joined, is_blank, is_line, begins, begins_comment, line_mark, open_mark}
 use Rattle.pc_lex.specs.Texts.{begins_doc, is_quote}
-use Rattle.pc_lex.specs.Pieces.{EndsWell, NameText, Spells, gap, token, NoPiece, IsGap}
+use Rattle.pc_lex.specs.Pieces.{EndsWell, NameText, SpellsToken, gap, token, NoPiece, IsGap}
 use Rattle.pc_lex.specs.Reading.{value_of, digits_len, number_or, number_of, number_at, name_len, is_type, word_kind, name_kind, behind, block_at, sign_or, name_or_sign, doc_at, text_at, piece_at}
 use Rattle.std.proofs.lemmas.List.Sums.{prefix_len-le-length}
 use Rattle.pc_lex.proofs.CommentSteps.{behind_all}
@@ -38,7 +38,7 @@ digit_doc : (text : List ℕ) (kind : TokenKind) → first_test is_ascii_digit t
 digit_doc text kind digit d = absurd (true≢false (sym digit ∙ (quote_none text (doc_quote text d)).1))
 
 -- the kind of a name is the one that it spells
-kind_step : (b : List ℕ) (t : Bool) (w : Option Word) → word_of b ≡ w → NameText (head_test t) b → Spells (cond t (kinds.TypeName b) (word_kind b w)) b
+kind_step : (b : List ℕ) (t : Bool) (w : Option Word) → word_of b ≡ w → NameText (head_test t) b → SpellsToken (cond t (kinds.TypeName b) (word_kind b w)) b
 kind_step b true w e h = (h, refl)
 kind_step b false None e h = (h, word_none b e, refl)
 kind_step b false (Some w) e h = word_sound b w e
@@ -52,7 +52,7 @@ kind_ends : (b rest : List ℕ) → EndsWell (name_kind b) rest
 unfolding name_kind
 kind_ends b rest = kind_ends_step b rest (is_type b) (word_of b)
 
-kind_spelled : (b : List ℕ) → NameText (head_test (is_type b)) b → Spells (name_kind b) b
+kind_spelled : (b : List ℕ) → NameText (head_test (is_type b)) b → SpellsToken (name_kind b) b
 unfolding name_kind
 kind_spelled b h = kind_step b (is_type b) (word_of b) refl h
 
@@ -63,7 +63,8 @@ longest_sign text r e more (inr h) =
     let equal : r ≡ h.0 = cc in
     omega (arith, ap (λ x. x.1) equal, h.2)
 
-no_token : (text : List ℕ) (other : TokenKind) (b rest : List ℕ) → sign_at text ≡ None → name_len text ≡ 0 → text ≡ b ++ rest → Spells other b
+no_token : (text : List ℕ) (other : TokenKind) (b rest : List ℕ) → sign_at text ≡ None → name_len text ≡ 0 → text ≡ b ++ rest
+    → SpellsToken other b
     → (length b ≡ 0) ⊎ ((q : Sign × ℕ) × (sign_at text ≡ Some q) × (length b ≤ q.1)) → ⊥
 no_token text other b rest e none same h (inl zero_len) = let some = spelled_some other b h in omega (arith, zero_len, some)
 no_token text other b rest e none same h (inr q) = none_some (sym e ∙ q.1)

@@ -10,7 +10,7 @@ use Rattle.pc_lex.specs.declared.pieces.LexStop.{LexStop}
 use Rattle.pc_lex.specs.declared.pieces.LexStop.TheVariants as stop
 use Rattle.pc_lex.specs.Bytes.{first_test, is_blank, begins, begins_comment, line_mark, open_mark}
 use Rattle.pc_lex.specs.Texts.{begins_doc, is_quote, BadEscapeIn}
-use Rattle.pc_lex.specs.Pieces.{Opens, EndsWell, Spells, Piece, gap, token, IsPiece, NoPiece, IsGap, Closes}
+use Rattle.pc_lex.specs.Pieces.{OpensCommentOrText, EndsWell, SpellsToken, Piece, gap, token, IsPiece, NoPiece, IsGap, ClosesComment}
 
 abbrev pub piece_of : Found → List ℕ → Piece
 piece_of found.Gap b = gap b
@@ -21,7 +21,7 @@ abbrev pub Right : List ℕ → Result (Found × ℕ) LexStop → Type 0
 Right text (Ok r) = (0 < r.1) × (r.1 ≤ length text) × IsPiece (piece_of r.0 (take r.1 text)) (drop r.1 text)
 Right text (Err stop.BadByte) = NoPiece text × (begins text open_mark ≡ false) × (first_test is_ascii_digit text ≡ false) × (first_test is_quote text ≡ false)
 Right text (Err stop.BadNumber) = NoPiece text × (first_test is_ascii_digit text ≡ true)
-Right text (Err stop.Unclosed) = NoPiece text × Opens text
+Right text (Err stop.Unclosed) = NoPiece text × OpensCommentOrText text
 Right text (Err (stop.BadEscape offset)) = NoPiece text × (begins_doc text ≡ false) × BadEscapeIn text offset
 Right text (Err stop.Memory) = ⊥
 
@@ -29,8 +29,8 @@ no_comment : (text : List ℕ) (n : ℕ) → begins text line_mark ≡ false →
 no_comment text n line opens = subst (λ l. begins_comment l ≡ false) (sym (take-append-drop n text)) (rw (line, opens) refl)
 
 -- a token of n bytes
-pub token_right : (text : List ℕ) (kind : TokenKind) (n : ℕ) → 0 < n → n ≤ length text → begins text line_mark ≡ false → begins text open_mark ≡ false → (begins_doc text ≡ true → kind ≡ kinds.Doc) → Spells kind (take n text)
-    → EndsWell kind (drop n text) → ((other : TokenKind) (more after : List ℕ) → text ≡ more ++ after → Spells other more → length more ≤ n) → Right text (Ok (found.Token kind, n))
+pub token_right : (text : List ℕ) (kind : TokenKind) (n : ℕ) → 0 < n → n ≤ length text → begins text line_mark ≡ false → begins text open_mark ≡ false → (begins_doc text ≡ true → kind ≡ kinds.Doc) → SpellsToken kind (take n text)
+    → EndsWell kind (drop n text) → ((other : TokenKind) (more after : List ℕ) → text ≡ more ++ after → SpellsToken other more → length more ≤ n) → Right text (Ok (found.Token kind, n))
 token_right text kind n some within line opens doc spelled ends longest = (
   some,
   within,
@@ -47,7 +47,7 @@ abbrev pub first_blank : List ℕ → Bool
 first_blank [] = false
 first_blank (b ∷ bs) = is_blank b
 
-pub gap_no : (text b rest : List ℕ) → first_blank text ≡ false → begins text line_mark ≡ false → text ≡ b ++ rest → IsGap b rest → (t : List ℕ) × (text ≡ 47 ∷ 42 ∷ t) × Closes t rest
+pub gap_no : (text b rest : List ℕ) → first_blank text ≡ false → begins text line_mark ≡ false → text ≡ b ++ rest → IsGap b rest → (t : List ℕ) × (text ≡ 47 ∷ 42 ∷ t) × ClosesComment t rest
 gap_no text b rest blank line e (inl (c, one, is)) =
     let same : text ≡ c ∷ rest = e ∙ ap (λ l. l ++ rest) one in
     absurd (true≢false (sym is ∙ sym (ap first_blank same) ∙ blank))

@@ -3,7 +3,7 @@ use Rattle.std.proofs.Common.{◌≡◌, ℕ, ◌+◌, ◌<◌, ◌≤◌, Bool,
 use Rattle.std.proofs.lemmas.List.{drop_more, drop_all}
 use Rattle.std.proofs.lemmas.Bool.{eqb-true}
 use Rattle.std.proofs.lemmas.Bool.Decides.{nat_tests}
-use Rattle.pc_lex.specs.Texts.{is_plain, Covered, nothing, plain, covered}
+use Rattle.pc_lex.specs.Texts.{is_plain, BetweenQuotes, nothing, plain, covered}
 use Rattle.pc_lex.specs.TextReading.{text_behind, width}
 
 one : (b : ℕ) (bs : List ℕ) → text_behind (b ∷ bs) ≡ cond (b == 34) (Some bs) (text_behind (drop (width b) (b ∷ bs)))
@@ -36,7 +36,7 @@ plain_step : (b : ℕ) → is_plain b ≡ true → ((b == 34) ≡ false) × (wid
 plain_step b e = (grind (arith, nat_tests), grind (arith, nat_tests))
 
 -- a text literal ends where reading finds its end
-pub covered_behind : {body : List ℕ} → Covered body → (rest : List ℕ) → text_behind (body ++ 34 ∷ rest) ≡ Some rest
+pub covered_behind : {body : List ℕ} → BetweenQuotes body → (rest : List ℕ) → text_behind (body ++ 34 ∷ rest) ≡ Some rest
 covered_behind nothing rest = one 34 rest
 covered_behind (plain {b = b} {bs = bs} e h) rest =
     let s = plain_step b e in
@@ -44,7 +44,7 @@ covered_behind (plain {b = b} {bs = bs} e h) rest =
 covered_behind (covered {b = b} {bs = bs} h) rest = one 92 (b ∷ (bs ++ 34 ∷ rest)) ∙ covered_behind h rest
 
 abbrev Body : List ℕ → List ℕ → Type 0
-Body text rest = (body : List ℕ) × (text ≡ body ++ 34 ∷ rest) × Covered body
+Body text rest = (body : List ℕ) × (text ≡ body ++ 34 ∷ rest) × BetweenQuotes body
 
 body_step : (b : ℕ) (c : ℕ) (bs rest : List ℕ) (s t : Bool) → (b == 34) ≡ s → (b == 92) ≡ t → cond s (Some (c ∷ bs)) (cond t (text_behind bs) (text_behind (c ∷ bs))) ≡ Some rest
     → (text_behind bs ≡ Some rest → Body bs rest) → (text_behind (c ∷ bs) ≡ Some rest → Body (c ∷ bs) rest) → Body (b ∷ c ∷ bs) rest

@@ -4,9 +4,9 @@ use Rattle.std.proofs.lemmas.Bool.{true≢false}
 use Rattle.pc_token.specs.declared.kinds.TokenKind.{TokenKind}
 use Rattle.pc_token.specs.declared.kinds.TokenKind.TheVariants as kinds
 use Rattle.pc_lex.specs.Bytes.{first_test, begins, line_mark, open_mark}
-use Rattle.pc_lex.specs.Texts.{begins_doc, is_quote, Covered, Written, TextBytes, DocBytes, NeverEnds}
+use Rattle.pc_lex.specs.Texts.{begins_doc, is_quote, BetweenQuotes, Written, TextBytes, DocBytes, NeverEnds}
 use Rattle.pc_lex.specs.TextReading.{text_behind, doc_behind, unescape}
-use Rattle.pc_lex.specs.Pieces.{Spells, gap, token, NoPiece}
+use Rattle.pc_lex.specs.Pieces.{SpellsToken, gap, token, NoPiece}
 use Rattle.pc_lex.specs.Reading.{doc_or, value_or, between, text_or, text_at, doc_at}
 use Rattle.pc_lex.proofs.PieceRight.{Right, token_right, first_blank, never_gap}
 use Rattle.pc_lex.proofs.Longest.{quote_only}
@@ -38,7 +38,7 @@ text_found text g rest v same (body, e, w) =
     ap text_behind cut ∙ covered_behind (written_covered v body w) rest
 
 -- if a doc begins, a text literal there is just two quotes
-short_body : (text body rest : List ℕ) → begins_doc text ≡ true → text ≡ 34 ∷ (body ++ 34 ∷ rest) → Covered body → length body ≡ 0
+short_body : (text body rest : List ℕ) → begins_doc text ≡ true → text ≡ 34 ∷ (body ++ 34 ∷ rest) → BetweenQuotes body → length body ≡ 0
 short_body text [] rest d e h = refl
 short_body text (c ∷ bs) rest d e h =
     let first : first_test is_quote (drop 1 text) ≡ true = ap (λ l. first_test is_quote (drop 1 l)) (whole text d) in
@@ -57,8 +57,8 @@ doc_longest_step text b rest more after other d same doc e (inr (kind, bytes)) =
     let one : after ≡ rest = same_Some after rest (sym (doc_found text more after e bytes) ∙ doc_found text b rest same doc) in
     omega (arith, ap length one, ap length same, ap length e, length-append b rest, length-append more after)
 
-no_doc_token : (text g rest : List ℕ) (other : TokenKind) → begins_doc text ≡ true → doc_behind (drop 3 text) ≡ None → text ≡ g ++ rest → other ≡ kinds.Doc → Spells other g → ⊥
-no_doc_token text g rest other d none same kind h = none_some (sym none ∙ doc_found text g rest same (subst (λ o. Spells o g) kind h))
+no_doc_token : (text g rest : List ℕ) (other : TokenKind) → begins_doc text ≡ true → doc_behind (drop 3 text) ≡ None → text ≡ g ++ rest → other ≡ kinds.Doc → SpellsToken other g → ⊥
+no_doc_token text g rest other d none same kind h = none_some (sym none ∙ doc_found text g rest same (subst (λ o. SpellsToken o g) kind h))
 
 no_doc_piece : (text : List ℕ) → begins_doc text ≡ true → doc_behind (drop 3 text) ≡ None → first_blank text ≡ false → begins text line_mark ≡ false → begins text open_mark ≡ false → NoPiece text
 no_doc_piece text d none blank line opens (gap g) rest same h = never_gap text g rest blank line opens same h
@@ -93,7 +93,7 @@ never_ends : (text : List ℕ) → text_behind (drop 1 text) ≡ None → NeverE
 never_ends text none body rest e h = none_some (sym none ∙ ap (λ l. text_behind (drop 1 l)) e ∙ covered_behind h rest)
 
 -- a text literal whose closing quote is known
-module _ (text body rest : List ℕ) (whole_text : text ≡ 34 ∷ (body ++ 34 ∷ rest)) (covered : Covered body) where
+module _ (text body rest : List ℕ) (whole_text : text ≡ 34 ∷ (body ++ 34 ∷ rest)) (covered : BetweenQuotes body) where
   pub behind_is : text_behind (drop 1 text) ≡ Some rest
   behind_is = ap (λ l. text_behind (drop 1 l)) whole_text ∙ covered_behind covered rest
 

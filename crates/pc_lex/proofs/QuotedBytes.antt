@@ -5,21 +5,21 @@ use Rattle.std.specs.Prelude.{nat_eq}
 use Rattle.std.proofs.lemmas.Bool.Decides.{nat_tests}
 use Rattle.std.specs.Char.{is_digit}
 use Rattle.pc_lex.specs.Bytes.{first_test}
-use Rattle.pc_lex.specs.Texts.{is_plain, Covered, nothing, plain, covered, Writes, Written, DocEnds, ends, other, begins_doc, is_quote, DocBytes}
+use Rattle.pc_lex.specs.Texts.{is_plain, BetweenQuotes, nothing, plain, covered, Writes, Written, DocEnds, ends, other, begins_doc, is_quote, DocBytes}
 use Rattle.pc_lex.specs.TextReading.{doc_behind}
 
 hex_plain : (b : ℕ) → is_digit b 16 ≡ true → is_plain b ≡ true
 hex_plain b e = grind (arith, nat_tests)
 
-writes_covered : (one rest : List ℕ) (v : ℕ) → Writes one v → Covered rest → Covered (one ++ rest)
-writes_covered one rest v (inl h) more = subst (λ l. Covered (l ++ rest)) (sym h.0) (plain h.1 more)
-writes_covered one rest v (inr (inl h)) more = subst (λ l. Covered (l ++ rest)) (sym h.1) (covered more)
-writes_covered one rest v (inr (inr h)) more = subst (λ l. Covered (l ++ rest)) (sym h.2) (covered (plain (hex_plain h.0 h.3) (plain (hex_plain h.1 h.4) more)))
+writes_covered : (one rest : List ℕ) (v : ℕ) → Writes one v → BetweenQuotes rest → BetweenQuotes (one ++ rest)
+writes_covered one rest v (inl h) more = subst (λ l. BetweenQuotes (l ++ rest)) (sym h.0) (plain h.1 more)
+writes_covered one rest v (inr (inl h)) more = subst (λ l. BetweenQuotes (l ++ rest)) (sym h.1) (covered more)
+writes_covered one rest v (inr (inr h)) more = subst (λ l. BetweenQuotes (l ++ rest)) (sym h.2) (covered (plain (hex_plain h.0 h.3) (plain (hex_plain h.1 h.4) more)))
 
 -- what has a value ends at the first `"` that is not escaped
-pub written_covered : (vs b : List ℕ) → Written b vs → Covered b
-written_covered [] b h = subst Covered (sym h) nothing
-written_covered (v ∷ vs) b h = subst Covered (sym h.2) (writes_covered h.0 h.1 v h.3 (written_covered vs h.1 h.4))
+pub written_covered : (vs b : List ℕ) → Written b vs → BetweenQuotes b
+written_covered [] b h = subst BetweenQuotes (sym h) nothing
+written_covered (v ∷ vs) b h = subst BetweenQuotes (sym h.2) (writes_covered h.0 h.1 v h.3 (written_covered vs h.1 h.4))
 
 doc_three : {text rest : List ℕ} → DocEnds text rest → 3 ≤ length text
 doc_three ends = omega arith
@@ -74,7 +74,7 @@ doc_split (other {b = b} {rest = rest} e h) =
 plain_unquoted : (b : ℕ) → is_plain b ≡ true → (b == 34) ≡ false
 plain_unquoted b e = grind (arith, nat_tests)
 
-pub covered_first : {b : ℕ} {bs : List ℕ} → Covered (b ∷ bs) → (b == 34) ≡ false
+pub covered_first : {b : ℕ} {bs : List ℕ} → BetweenQuotes (b ∷ bs) → (b == 34) ≡ false
 covered_first (plain {b = b} e h) = plain_unquoted b e
 covered_first (covered h) = refl
 

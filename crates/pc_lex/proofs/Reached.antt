@@ -9,10 +9,10 @@ use Rattle.pc_lex.specs.declared.fault.LexFault.TheVariants as fault
 use Rattle.pc_lex.specs.declared.pieces.Found.{Found}
 use Rattle.pc_lex.specs.declared.pieces.Found.TheVariants as found
 use Rattle.pc_lex.specs.declared.pieces.LexStop.TheVariants as stop
-use Rattle.pc_lex.specs.Pieces.{Piece, gap, token, bytes_of, IsPiece, Pieces, tokens_of, Tokens, count, FirstFault}
+use Rattle.pc_lex.specs.Pieces.{Piece, gap, token, bytes_of, IsPiece, Pieces, tokens_of, Tokens, count, FirstLexFault}
 use Rattle.pc_lex.specs.Reading.{piece_at, step_of, is_gap, Steps, Stuck}
 use Rattle.pc_lex.specs.Limits.{token_limit}
-use Rattle.pc_lex.specs.Answers.{Refuses}
+use Rattle.pc_lex.specs.Answers.{RefusesTokens}
 use Rattle.pc_lex.proofs.PieceRight.{piece_of, Right}
 use Rattle.pc_lex.proofs.PieceReading.{piece_right}
 
@@ -98,14 +98,14 @@ ends_so text at first ts past so =
     (so.pieces, subst (Pieces text so.pieces) (drop_all at text past) so.cut, sym (so.made []) ∙ ap (λ l. tokens_of 0 true l) (append-nil so.pieces))
 
 many : (text : List ℕ) (at p : ℕ) (first : Bool) (ts : List Token) (f : Found) (n : ℕ) → at < length text → Sofar text at first ts → p ≡ at → token_limit ≤ length ts → piece_at (drop at text) ≡ Ok (f, n) → is_gap f ≡ false
-    → FirstFault text (fault.TooMany p)
+    → FirstLexFault text (fault.TooMany p)
 many text at p first ts found.Gap n inside so e full read other = absurd (true≢false other)
 many text at p first ts (found.Token kind) n inside so e full read other =
     let right : Right (drop at text) (Ok (found.Token kind, n)) = subst (Right (drop at text)) read (right_at text at inside) in
     let same : drop at text ≡ take n (drop at text) ++ drop n (drop at text) = sym (take-append-drop n (drop at text)) in
     (so.pieces, kind, take n (drop at text), drop n (drop at text), subst (Pieces text so.pieces) same so.cut, right.2, omega (arith, so.counted, so.few, full), omega (arith, e, ap length same, length-drop at text))
 
-pub stuck_so : (text : List ℕ) (at : ℕ) (first : Bool) (ts : List Token) (f : LexFault) → at < length text → Sofar text at first ts → Stuck text at ts f → Refuses text f
+pub stuck_so : (text : List ℕ) (at : ℕ) (first : Bool) (ts : List Token) (f : LexFault) → at < length text → Sofar text at first ts → Stuck text at ts f → RefusesTokens text f
 stuck_so text at first ts (fault.BadByte p) inside so s =
     let right : Right (drop at text) (Err stop.BadByte) = subst (Right (drop at text)) s.1 (right_at text at inside) in
     (so.pieces, drop at text, at, so.cut, omega (arith, so.counted, so.few), omega (arith, length-drop at text), (s.0, right.0, omega (arith, length-drop at text), right.1, right.2, right.3))

@@ -15,8 +15,9 @@ use Rattle.pc_lex.specs.declared.pieces.LexStop.TheVariants as stop
 use Rattle.pc_lex.specs.Limits.{token_limit}
 use Rattle.pc_lex.specs.Bytes.{first_test, begins, open_mark}
 use Rattle.pc_lex.specs.Texts.{is_quote}
-use Rattle.pc_lex.specs.Pieces.{Opens, Piece, gap, token, bytes_of, IsToken, Pieces, tokens_of, Tokens, count, Faulty, FaultBehind, TokenBehind, FirstFault}
-use Rattle.pc_lex.specs.Answers.{TokenList, Refuses, Answers}
+use Rattle.pc_lex.specs.Pieces.{OpensCommentOrText, Piece, gap, token, bytes_of, IsToken, Pieces, tokens_of, Tokens, count, Faulty, FaultBehind, TokenBehind}
+use Rattle.pc_lex.specs.Pieces.{FirstLexFault}
+use Rattle.pc_lex.specs.Answers.{TokenList, RefusesTokens, AnswersTokens}
 use Rattle.pc_lex.specs.Reading.{piece_at, step_of, is_gap, Steps}
 use Rattle.pc_lex.proofs.Longest.{spelled_some}
 use Rattle.pc_lex.proofs.OneCut.{piece_one, piece_some, not_both, tokens_one}
@@ -68,7 +69,7 @@ quote_some : (text : List ℕ) → first_test is_quote text ≡ true → 0 < len
 quote_some [] e = absurd (true≢false (sym e))
 quote_some (b ∷ bs) e = omega arith
 
-open_some : (text : List ℕ) → Opens text → 0 < length text
+open_some : (text : List ℕ) → OpensCommentOrText text → 0 < length text
 open_some text (inl opens) = opens_some text opens
 open_some text (inr (inl doc)) = quote_some text (doc_quote text doc)
 open_some text (inr (inr (plain, quote, never))) = quote_some text quote
@@ -89,7 +90,7 @@ no_list_cases text ts f other h (inl i) = other i.0 i.1
 no_list_cases text ts f other h (inr i) = no_list_behind text ts f h i
 
 -- with a fault other than the number of tokens there is no token list
-pub no_list : (text : List ℕ) (ts : List Token) (f : LexFault) → ((p : ℕ) → f ≡ fault.TooMany p → ⊥) → Tokens text ts → FirstFault text f → ⊥
+pub no_list : (text : List ℕ) (ts : List Token) (f : LexFault) → ((p : ℕ) → f ≡ fault.TooMany p → ⊥) → Tokens text ts → FirstLexFault text f → ⊥
 no_list text ts f other h i = no_list_cases text ts f other h (fault_cases text f i)
 
 never_cases : (text : List ℕ) (ts : List Token) (f : LexFault) → TokenList text ts → Cases text f → ⊥
@@ -97,11 +98,11 @@ never_cases text ts f h (inl i) = let long = too_long text ts i.0 h.0 i.2 in ome
 never_cases text ts f h (inr i) = no_list_behind text ts f h.0 i
 
 -- a token list within the limit and a first fault exclude each other
-pub never_both : (text : List ℕ) (ts : List Token) (f : LexFault) → TokenList text ts → FirstFault text f → ⊥
+pub never_both : (text : List ℕ) (ts : List Token) (f : LexFault) → TokenList text ts → FirstLexFault text f → ⊥
 never_both text ts f h i = never_cases text ts f h (fault_cases text f i)
 
 abbrev Either : List ℕ → Type 0
-Either text = ((ts : List Token) × TokenList text ts) ⊎ ((f : LexFault) × FirstFault text f)
+Either text = ((ts : List Token) × TokenList text ts) ⊎ ((f : LexFault) × FirstLexFault text f)
 
 abbrev More : List ℕ → ℕ → Type 0
 More text at = (new : List Token) (r : ℕ × Bool) → at < r.0 → Sofar text r.0 r.1 new → Either text
@@ -148,7 +149,7 @@ told_from (suc n) text at first ts enough so =
 pub told : (text : List ℕ) → Either text
 told text = told_from (length text) text 0 true [] (omega arith) (starts_so text)
 
-refused : (result : Result (List Token) LexFault) (text : List ℕ) (f : LexFault) → result ≡ Err f → Refuses text f → (result ≡ Err fault.Memory) ⊎ FirstFault text f
+refused : (result : Result (List Token) LexFault) (text : List ℕ) (f : LexFault) → result ≡ Err f → RefusesTokens text f → (result ≡ Err fault.Memory) ⊎ FirstLexFault text f
 refused result text fault.Memory e h = inl e
 refused result text (fault.TooMany p) e h = inr h
 refused result text (fault.BadByte p) e h = inr h
@@ -156,28 +157,28 @@ refused result text (fault.Unclosed p) e h = inr h
 refused result text (fault.BadNumber p) e h = inr h
 refused result text (fault.BadEscape p) e h = inr h
 
-list_or : (result : Result (List Token) LexFault) (text : List ℕ) (f : LexFault) (ts : List Token) → TokenList text ts → (result ≡ Err fault.Memory) ⊎ FirstFault text f → Answers result (Ok ts)
+list_or : (result : Result (List Token) LexFault) (text : List ℕ) (f : LexFault) (ts : List Token) → TokenList text ts → (result ≡ Err fault.Memory) ⊎ FirstLexFault text f → AnswersTokens result (Ok ts)
 list_or result text f ts h (inl e) = inr e
 list_or result text f ts h (inr i) = absurd (never_both text ts f h i)
 
 abbrev IsAnswer : List ℕ → Result (List Token) LexFault → Type 0
 IsAnswer text (Ok ts) = TokenList text ts
-IsAnswer text (Err f) = Refuses text f
+IsAnswer text (Err f) = RefusesTokens text f
 
-pub is_answer : (text : List ℕ) (result : Result (List Token) LexFault) → IfOk result (TokenList text) → IfErr result (Refuses text) → IsAnswer text result
+pub is_answer : (text : List ℕ) (result : Result (List Token) LexFault) → IfOk result (TokenList text) → IfErr result (RefusesTokens text) → IsAnswer text result
 is_answer text (Ok ts) ok err = ok
 is_answer text (Err f) ok err = err
 
 -- the list within the limit is returned
-pub answers_list : (text : List ℕ) (result : Result (List Token) LexFault) (ts : List Token) → IsAnswer text result → TokenList text ts → Answers result (Ok ts)
+pub answers_list : (text : List ℕ) (result : Result (List Token) LexFault) (ts : List Token) → IsAnswer text result → TokenList text ts → AnswersTokens result (Ok ts)
 answers_list text (Ok other) ts right h = inl (ap Ok (tokens_one text other ts right.0 h.0))
 answers_list text (Err f) ts right h = list_or (Err f) text f ts h (refused (Err f) text f refl right)
 
-fault_or : (result : Result (List Token) LexFault) (text : List ℕ) (f g : LexFault) → result ≡ Err f → FirstFault text g → (result ≡ Err fault.Memory) ⊎ FirstFault text f → Answers result (Err g)
+fault_or : (result : Result (List Token) LexFault) (text : List ℕ) (f g : LexFault) → result ≡ Err f → FirstLexFault text g → (result ≡ Err fault.Memory) ⊎ FirstLexFault text f → AnswersTokens result (Err g)
 fault_or result text f g e h (inl memory) = inr memory
 fault_or result text f g e h (inr i) = inl (e ∙ ap Err (fault_one text f g i h))
 
 -- the first fault is returned
-pub answers_fault : (text : List ℕ) (result : Result (List Token) LexFault) (g : LexFault) → IsAnswer text result → FirstFault text g → Answers result (Err g)
+pub answers_fault : (text : List ℕ) (result : Result (List Token) LexFault) (g : LexFault) → IsAnswer text result → FirstLexFault text g → AnswersTokens result (Err g)
 answers_fault text (Ok ts) g right h = absurd (never_both text ts g right h)
 answers_fault text (Err f) g right h = fault_or (Err f) text f g refl h (refused (Err f) text f refl right)

@@ -4,17 +4,17 @@ use Rattle.pc_token.specs.declared.kinds.Token.{Token}
 use Rattle.pc_lex.specs.declared.fault.LexFault.{LexFault}
 use Rattle.pc_lex.specs.declared.fault.LexFault.TheVariants as fault
 use Rattle.pc_lex.specs.Limits.{token_limit}
-use Rattle.pc_lex.specs.Pieces.{Tokens, FirstFault}
+use Rattle.pc_lex.specs.Pieces.{Tokens, FirstLexFault}
 
 -- The list is the tokens of the text with `End`, and there are not too many of them.
 abbrev pub TokenList : List ℕ → List Token → Type 0
 TokenList text ts = Tokens text ts × (length ts ≤ token_limit + 1)
 
 -- The fault is the first of the text, or memory ran out.
-abbrev pub Refuses : List ℕ → LexFault → Type 0
-Refuses text fault.Memory = ⊤
-Refuses text f = FirstFault text f
+abbrev pub RefusesTokens : List ℕ → LexFault → Type 0
+RefusesTokens text fault.Memory = ⊤
+RefusesTokens text f = FirstLexFault text f
 
 -- The result is this answer, or memory ran out.
-abbrev pub Answers : Result (List Token) LexFault → Result (List Token) LexFault → Type 0
-Answers result wanted = (result ≡ wanted) ⊎ (result ≡ Err fault.Memory)
+abbrev pub AnswersTokens : Result (List Token) LexFault → Result (List Token) LexFault → Type 0
+AnswersTokens result wanted = (result ≡ wanted) ⊎ (result ≡ Err fault.Memory)

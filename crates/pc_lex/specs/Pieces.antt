@@ -40,33 +40,33 @@ pub data Digits (base : ℕ) : List ℕ → List ℕ → Type 0 where
   spaced : {b : ℕ} {bs ds : List ℕ} → is_digit b base ≡ true → Digits base bs ds → Digits base (b ∷ 95 ∷ bs) (digit_value b ∷ ds)
 
 -- the number whose first digits give acc and whose next digits are these
-abbrev pub value : (base so_far : ℕ) → List ℕ → ℕ
-value base acc [] = acc
-value base acc (d ∷ ds) = value base (acc * base + d) ds
+abbrev pub value_of_digits : (base so_far : ℕ) → List ℕ → ℕ
+value_of_digits base acc [] = acc
+value_of_digits base acc (d ∷ ds) = value_of_digits base (acc * base + d) ds
 
 abbrev pub DigitsOf : ℕ → List ℕ → ℕ → Type 0
-DigitsOf base b n = (ds : List ℕ) × Digits base b ds × (n ≡ value base 0 ds)
+DigitsOf base b n = (ds : List ℕ) × Digits base b ds × (n ≡ value_of_digits base 0 ds)
 
 -- decimal digits, or `0x` and hexadecimal digits of either case, or `0b` and binary digits
 abbrev pub NumberText : List ℕ → ℕ → Type 0
 NumberText b n = DigitsOf 10 b n ⊎ (((t : List ℕ) × (b ≡ hex_mark ++ t) × DigitsOf 16 t n) ⊎ ((t : List ℕ) × (b ≡ bin_mark ++ t) × DigitsOf 2 t n))
 
 -- the bytes of a token
-abbrev pub Spells : TokenKind → List ℕ → Type 0
-Spells (kinds.Name text) b = NameText is_ascii_lowercase b × NoWord b × (text ≡ b)
-Spells (kinds.TypeName text) b = NameText is_ascii_uppercase b × (text ≡ b)
-Spells (kinds.Word word) b = b ≡ word_text word
-Spells (kinds.Number n) b = NumberText b n × (n < 2 ^ 64)
-Spells (kinds.Text v) b = TextBytes b v
-Spells kinds.Doc b = DocBytes b
-Spells (kinds.Sign sign) b = b ≡ sign_text sign
-Spells kinds.End b = ⊥
+abbrev pub SpellsToken : TokenKind → List ℕ → Type 0
+SpellsToken (kinds.Name text) b = NameText is_ascii_lowercase b × NoWord b × (text ≡ b)
+SpellsToken (kinds.TypeName text) b = NameText is_ascii_uppercase b × (text ≡ b)
+SpellsToken (kinds.Word word) b = b ≡ word_text word
+SpellsToken (kinds.Number n) b = NumberText b n × (n < 2 ^ 64)
+SpellsToken (kinds.Text v) b = TextBytes b v
+SpellsToken kinds.Doc b = DocBytes b
+SpellsToken (kinds.Sign sign) b = b ≡ sign_text sign
+SpellsToken kinds.End b = ⊥
 
 -- The first text begins inside a comment, and the second begins after the `*/` that ends it. Comments nest.
-pub data Closes : List ℕ → List ℕ → Type 0 where
-  close : {rest : List ℕ} → Closes (42 ∷ 47 ∷ rest) rest
-  inner : {text mid rest : List ℕ} → Closes text mid → Closes mid rest → Closes (47 ∷ 42 ∷ text) rest
-  other : {b : ℕ} {text rest : List ℕ} → begins (b ∷ text) open_mark ≡ false → begins (b ∷ text) close_mark ≡ false → Closes text rest → Closes (b ∷ text) rest
+pub data ClosesComment : List ℕ → List ℕ → Type 0 where
+  close : {rest : List ℕ} → ClosesComment (42 ∷ 47 ∷ rest) rest
+  inner : {text mid rest : List ℕ} → ClosesComment text mid → ClosesComment mid rest → ClosesComment (47 ∷ 42 ∷ text) rest
+  other : {b : ℕ} {text rest : List ℕ} → begins (b ∷ text) open_mark ≡ false → begins (b ∷ text) close_mark ≡ false → ClosesComment text rest → ClosesComment (b ∷ text) rest
 
 -- the end of the text, or an LF
 abbrev pub AtLineEnd : List ℕ → Type 0
@@ -78,7 +78,7 @@ abbrev pub IsGap : List ℕ → List ℕ → Type 0
 IsGap b rest =
     ((c : ℕ) × (b ≡ c ∷ []) × (is_blank c ≡ true))
     ⊎ (((t : List ℕ) × (b ≡ 47 ∷ 47 ∷ t) × (list_all is_line t ≡ true) × AtLineEnd rest)
-    ⊎ ((t : List ℕ) × (b ++ rest ≡ 47 ∷ 42 ∷ t) × Closes t rest))
+    ⊎ ((t : List ℕ) × (b ++ rest ≡ 47 ∷ 42 ∷ t) × ClosesComment t rest))
 
 -- A number is not directly followed by a letter, a digit, `_` or `'`.
 abbrev pub EndsWell : TokenKind → List ℕ → Type 0
@@ -88,8 +88,8 @@ EndsWell _ rest = ⊤
 -- A token before the rest: no longer prefix of the text from here on is a token. `//` and `/*` begin no token, and
 -- `"""` begins only a doc.
 pub record IsToken (kind : TokenKind) (b rest : List ℕ) : Type 0 where
-  pub spelled : Spells kind b
-  pub longest : (other : TokenKind) (more after : List ℕ) → b ++ rest ≡ more ++ after → Spells other more → length more ≤ length b
+  pub spelled : SpellsToken kind b
+  pub longest : (other : TokenKind) (more after : List ℕ) → b ++ rest ≡ more ++ after → SpellsToken other more → length more ≤ length b
   pub no_comment : begins_comment (b ++ rest) ≡ false
   pub doc : begins_doc (b ++ rest) ≡ true → kind ≡ kinds.Doc
   pub ends : EndsWell kind rest
@@ -136,8 +136,8 @@ abbrev pub NoPiece : List ℕ → Type 0
 NoPiece text = (p : Piece) (rest : List ℕ) → text ≡ bytes_of p ++ rest → IsPiece p rest → ⊥
 
 -- The text begins with a comment, a doc, or a text literal that no `"` ends.
-abbrev pub Opens : List ℕ → Type 0
-Opens text =
+abbrev pub OpensCommentOrText : List ℕ → Type 0
+OpensCommentOrText text =
     (begins text open_mark ≡ true)
     ⊎ ((begins_doc text ≡ true)
     ⊎ ((begins_doc text ≡ false) × (first_test is_quote text ≡ true) × NeverEnds text))
@@ -146,7 +146,7 @@ Opens text =
 -- are no number, a text with a bad escape, or another byte.
 abbrev pub Faulty : List ℕ → ℕ → LexFault → Type 0
 Faulty text at (fault.BadByte p) = (p ≡ at) × NoPiece text × (0 < length text) × (begins text open_mark ≡ false) × (first_test is_ascii_digit text ≡ false) × (first_test is_quote text ≡ false)
-Faulty text at (fault.Unclosed p) = (p ≡ at) × NoPiece text × Opens text
+Faulty text at (fault.Unclosed p) = (p ≡ at) × NoPiece text × OpensCommentOrText text
 Faulty text at (fault.BadNumber p) = (p ≡ at) × NoPiece text × (first_test is_ascii_digit text ≡ true)
 Faulty text at (fault.BadEscape p) = (offset : ℕ) × (p ≡ at + offset) × NoPiece text × (begins_doc text ≡ false) × BadEscapeIn text offset
 Faulty text at (fault.TooMany p) = ⊥
@@ -161,6 +161,6 @@ abbrev pub TokenBehind : List ℕ → ℕ → Type 0
 TokenBehind text p = (ps : List Piece) × (kind : TokenKind) × (b rest : List ℕ) × Pieces text ps (b ++ rest) × IsToken kind b rest × (count ps ≡ token_limit) × (p + length (b ++ rest) ≡ length text)
 
 -- The first fault of a text. Running out of memory is not one.
-abbrev pub FirstFault : List ℕ → LexFault → Type 0
-FirstFault text (fault.TooMany p) = TokenBehind text p
-FirstFault text f = FaultBehind text f
+abbrev pub FirstLexFault : List ℕ → LexFault → Type 0
+FirstLexFault text (fault.TooMany p) = TokenBehind text p
+FirstLexFault text f = FaultBehind text f

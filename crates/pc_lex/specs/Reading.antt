@@ -148,9 +148,9 @@ Fails stop.Memory read = Unit {0}
 Fails e read = read ≡ Err e
 
 -- The function returned what the definition reads, or memory ran out.
-abbrev pub Gives : {Y : Type 0} → Result Y LexStop → Result Y LexStop → Type 0
-Gives (Ok x) read = read ≡ Ok x
-Gives (Err e) read = Fails e read
+abbrev pub GivesRead : {Y : Type 0} → Result Y LexStop → Result Y LexStop → Type 0
+GivesRead (Ok x) read = read ≡ Ok x
+GivesRead (Err e) read = Fails e read
 
 -- After one more piece: where it ends, whether a token there would be first on its line, and the tokens.
 abbrev pub step_of : List ℕ → ℕ → Bool → List Token → Found × ℕ → (ℕ × Bool) × List Token
@@ -187,6 +187,6 @@ fault_at (stop.BadEscape offset) at = fault.BadEscape (at + offset)
 fault_at stop.Memory at = fault.Memory
 
 -- a number, if it is below 2 ^ 64
-abbrev pub BelowOrNone : Option ℕ → ℕ → Type 0
-BelowOrNone None v = 2 ^ 64 ≤ v
-BelowOrNone (Some x) v = (x ≡ v) × (v < 2 ^ 64)
+abbrev pub BelowOrNone64 : Option ℕ → ℕ → Type 0
+BelowOrNone64 None v = 2 ^ 64 ≤ v
+BelowOrNone64 (Some x) v = (x ≡ v) × (v < 2 ^ 64)

@@ -12,10 +12,10 @@ abbrev pub is_plain : ℕ → Bool
 is_plain b = not (b == 34 || b == 92)
 
 -- The bytes between the quotes of a text literal: `\` escapes the next byte, whatever it is, and there is no other `"`.
-pub data Covered : List ℕ → Type 0 where
-  nothing : Covered []
-  plain : {b : ℕ} {bs : List ℕ} → is_plain b ≡ true → Covered bs → Covered (b ∷ bs)
-  covered : {b : ℕ} {bs : List ℕ} → Covered bs → Covered (92 ∷ b ∷ bs)
+pub data BetweenQuotes : List ℕ → Type 0 where
+  nothing : BetweenQuotes []
+  plain : {b : ℕ} {bs : List ℕ} → is_plain b ≡ true → BetweenQuotes bs → BetweenQuotes (b ∷ bs)
+  covered : {b : ℕ} {bs : List ℕ} → BetweenQuotes bs → BetweenQuotes (92 ∷ b ∷ bs)
 
 -- what a letter after `\` denotes: `n`, `r`, `t`, `\`, `"`, `0`
 abbrev pub escape_of : ℕ → Option ℕ
@@ -44,11 +44,11 @@ BadAt b at = (vs : List ℕ) × Written (take at b) vs × (at < length b) × NoB
 
 -- The text literal that begins the text ends, and its first bad escape is at this offset.
 abbrev pub BadEscapeIn : List ℕ → ℕ → Type 0
-BadEscapeIn text offset = (body rest : List ℕ) × (text ≡ 34 ∷ (body ++ 34 ∷ rest)) × Covered body × (at : ℕ) × BadAt body at × (offset ≡ 1 + at)
+BadEscapeIn text offset = (body rest : List ℕ) × (text ≡ 34 ∷ (body ++ 34 ∷ rest)) × BetweenQuotes body × (at : ℕ) × BadAt body at × (offset ≡ 1 + at)
 
 -- No `"` ends the text literal that begins the text.
 abbrev pub NeverEnds : List ℕ → Type 0
-NeverEnds text = (body rest : List ℕ) → text ≡ 34 ∷ (body ++ 34 ∷ rest) → Covered body → ⊥
+NeverEnds text = (body rest : List ℕ) → text ≡ 34 ∷ (body ++ 34 ∷ rest) → BetweenQuotes body → ⊥
 
 -- The bytes of a text literal with this value.
 abbrev pub TextBytes : List ℕ → List ℕ → Type 0

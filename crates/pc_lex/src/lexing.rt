@@ -4,10 +4,10 @@ ghost use Rattle.pc_token.specs.declared.kinds.Token.{Token};
 ghost use Rattle.pc_lex.specs.declared.fault.LexFault.{LexFault};
 ghost use Rattle.pc_lex.specs.Limits.{bytes_limit};
 ghost use Rattle.pc_lex.specs.Pieces as pieces;
-ghost use Rattle.pc_lex.specs.Pieces.{FirstFault};
+ghost use Rattle.pc_lex.specs.Pieces.{FirstLexFault};
 ghost use Rattle.pc_lex.specs.Reading as reading;
 ghost use Rattle.pc_lex.specs.Reading.{Passes, Steps, StopWithin, Stuck};
-ghost use Rattle.pc_lex.specs.Answers.{TokenList, Refuses, Answers};
+ghost use Rattle.pc_lex.specs.Answers.{TokenList, RefusesTokens, AnswersTokens};
 
 use crate::classes::is_blank;
 use crate::fault::LexFault;
@@ -101,7 +101,7 @@ fn pass_blanks(text: &[u8], start: usize, begins: bool) -> (usize, bool)
 fn read_all(alloc: Global, text: &[u8]) -> Result<List<Token>, LexFault>
     requires { length text.now ≤ bytes_limit }
     ensures ok { IfOk result (TokenList text.now) }
-    ensures err { IfErr result (Refuses text.now) }
+    ensures err { IfErr result (RefusesTokens text.now) }
 {
     let mut tokens: List<Token> = List::new(alloc);
     let mut at: usize = 0;
@@ -132,11 +132,11 @@ pub fn lex(alloc: Global, text: &[u8]) -> Result<List<Token>, LexFault>
     // The list is that of the text.
     ensures ok { IfOk result (TokenList text.now) }
     // The fault is the first of the text, or memory ran out.
-    ensures err { IfErr result (Refuses text.now) }
+    ensures err { IfErr result (RefusesTokens text.now) }
     // If the text has a list within the limit, it is returned, unless memory ran out.
-    ensures listed { (tokens : Sequence Token) → TokenList text.now tokens → Answers result (Ok tokens) }
+    ensures listed { (tokens : Sequence Token) → TokenList text.now tokens → AnswersTokens result (Ok tokens) }
     // If the text has a first fault, it is returned, unless memory ran out.
-    ensures faulty { (fault : LexFault) → FirstFault text.now fault → Answers result (Err fault) }
+    ensures faulty { (fault : LexFault) → FirstLexFault text.now fault → AnswersTokens result (Err fault) }
 {
     read_all(alloc, text)
 }

@@ -11,7 +11,7 @@ mod comments;
 mod fault;
 mod laws;
 mod lexing;
-mod names;
+mod name_tokens;
 mod numbers;
 mod pieces;
 mod texts;

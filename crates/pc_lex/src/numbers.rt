@@ -2,7 +2,7 @@
 ghost use Rattle.std.specs.Prelude.{◌≡◌, ◌<◌, ◌≤◌, ◌+◌, ◌*◌, ◌==◌, ◌&&◌, length, drop, slice_index, true, IfOk, IfErr};
 ghost use Rattle.std.specs.Char.{is_digit, digit_value};
 ghost use Rattle.pc_lex.specs.Bytes.{first_test};
-ghost use Rattle.pc_lex.specs.Reading.{BelowOrNone, StopWithin};
+ghost use Rattle.pc_lex.specs.Reading.{BelowOrNone64, StopWithin};
 ghost use Rattle.pc_lex.specs.Reading as reading;
 
 use crate::classes::is_joined;
@@ -73,7 +73,7 @@ fn digits_len(text: &[u8], base: u8) -> usize
 
 /// A number extended by one digit, if the result is below 2^64.
 fn with_digit(value: u64, base: u8, byte: u8) -> Option<u64>
-    ensures { BelowOrNone result (value * base + digit_value byte) }
+    ensures { BelowOrNone64 result (value * base + digit_value byte) }
 {
     value
         .checked_mul(base as u64)?
@@ -84,7 +84,7 @@ fn with_digit(value: u64, base: u8, byte: u8) -> Option<u64>
 #[tactic(auto, using(crate::proofs::DigitSteps::value_at, crate::proofs::DigitSteps::value_grows, crate::proofs::DigitSteps::value_all, crate::proofs::DigitSteps::not_under))]
 fn value_of(text: &[u8], base: u8) -> Option<u64>
     requires { 0 < base }
-    ensures { BelowOrNone result (reading.value_of base 0 text.now) }
+    ensures { BelowOrNone64 result (reading.value_of base 0 text.now) }
 {
     let mut value: u64 = 0;
     for b in text {

@@ -1,11 +1,11 @@
 //! What a text begins with: a gap, a token, or a fault.
 ghost use Rattle.std.specs.Prelude.{◌≡◌, ◌<◌, ◌≤◌, length, IfOk, IfErr};
 ghost use Rattle.pc_lex.specs.Reading as reading;
-ghost use Rattle.pc_lex.specs.Reading.{Gives, StopWithin};
+ghost use Rattle.pc_lex.specs.Reading.{GivesRead, StopWithin};
 
 use crate::classes::{Class, is_blank, run};
 use crate::comments::block_len;
-use crate::names::{name_kind, name_len};
+use crate::name_tokens::{name_kind, name_len};
 use crate::numbers::number_at;
 use crate::texts::{EscapeFault, begins_doc, doc_len, quote_len, text_value};
 use pc_token::{TokenKind, sign_at};
@@ -49,7 +49,7 @@ impl From<AllocError> for LexStop {
 #[tactic(auto, using(crate::proofs::TextCut::text_found), unfolding(crate::specs::Reading::text_at))]
 fn text_at(alloc: Global, text: &[u8]) -> Result<(Found, usize), LexStop>
     requires { 0 < length text.now }
-    ensures gives { Gives result (reading.text_at text.now) }
+    ensures gives { GivesRead result (reading.text_at text.now) }
     ensures within { IfOk result (λ r. r.1 ≤ length text.now) }
     ensures short { IfErr result (StopWithin (length text.now)) }
 {
@@ -68,7 +68,7 @@ fn text_at(alloc: Global, text: &[u8]) -> Result<(Found, usize), LexStop>
 #[tactic(auto, unfolding(crate::specs::Reading::doc_at))]
 fn doc_at(text: &[u8]) -> Result<(Found, usize), LexStop>
     requires { 3 ≤ length text.now }
-    ensures gives { Gives result (reading.doc_at text.now) }
+    ensures gives { GivesRead result (reading.doc_at text.now) }
     ensures within { IfOk result (λ r. r.1 ≤ length text.now) }
     ensures short { IfErr result (StopWithin (length text.now)) }
 {
@@ -82,7 +82,7 @@ fn doc_at(text: &[u8]) -> Result<(Found, usize), LexStop>
 #[tactic(auto, unfolding(crate::specs::Reading::piece_at))]
 pub fn piece_at(alloc: Global, text: &[u8]) -> Result<(Found, usize), LexStop>
     requires { 0 < length text.now }
-    ensures gives { Gives result (reading.piece_at text.now) }
+    ensures gives { GivesRead result (reading.piece_at text.now) }
     ensures within { IfOk result (λ r. r.1 ≤ length text.now) }
     ensures short { IfErr result (StopWithin (length text.now)) }
 {

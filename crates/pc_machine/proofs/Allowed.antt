@@ -23,19 +23,19 @@ use Rattle.pc_core.specs.declared.nodes.NodeKind.TheVariants as node
 use Rattle.pc_semantics.specs.declared.frames.Frame.{Frame}
 use Rattle.pc_semantics.specs.declared.frames.Task.{Task}
 use Rattle.pc_semantics.specs.declared.frames.Task.TheVariants as task
-use Rattle.pc_semantics.specs.Around.{Around, Move, Writes, Makes, Spawns, Sends, with_top, popped, with_popped, entity_of}
-use Rattle.pc_semantics.specs.Configurations.{blank_object, fields_in}
+use Rattle.pc_semantics.specs.Around.{Around, Move, Writes, Makes, Spawns, Sends, with_top, popped, with_popped, value_entity}
+use Rattle.pc_semantics.specs.Configurations.{blank_object, number_of_fields}
 use Rattle.pc_semantics.specs.Calls.{counted, begin_new, make_of, make_task, spawn_of, spawn_task, enter, send, invoke_kind, text_of, is_string, push_text, invoke_found, invoke_method, invoke_on, invoke_task, leave_object, leave, return_task}
-use Rattle.pc_semantics.specs.Choices.{truth, apply_task, right_side, test_and, test_or, test_task, branch, turn}
+use Rattle.pc_semantics.specs.Choices.{truth, apply_task, right_side, test_and, test_or, test_task, branch, loop_turn}
 use Rattle.pc_semantics.specs.Evaluation.{push_slot, take_slot, first_then, evaluate, evaluate_node}
 use Rattle.pc_semantics.specs.Fields.{get_value, get_field, get_of, get_from, put_value, put_field, put_of, put_into, get_task, put_task, store_task}
-use Rattle.pc_semantics.specs.Operators.{gives, of_numbers, of_truths, of_texts, binary, negated}
+use Rattle.pc_semantics.specs.Operators.{push_or_lack, of_numbers, of_truths, of_texts, binary, negated}
 use Rattle.pc_semantics.specs.Tasks.{at_node, task_move}
 use Rattle.pc_tasks.specs.Fielded.{HasFields}
 use Rattle.pc_tasks.specs.Inside.{first_move, relieved}
 use Rattle.pc_machine.specs.declared.plan.Plan.{Plan}
 use Rattle.pc_machine.specs.declared.plan.Plan.TheVariants as plan
-use Rattle.pc_machine.specs.Plans.{move_of, Reaches}
+use Rattle.pc_machine.specs.Plans.{move_of, ReachesActor}
 use Rattle.pc_lists.proofs.Bools.{second_true}
 
 abbrev pub Allowed : CoreData → Around → Move → Type 0
@@ -151,7 +151,7 @@ module _ (core : CoreData) (around : Around) where
 
   -- ---- operators
 
-  given : (f : Frame) (o : Option Value) → Allowed core around (gives f o)
+  given : (f : Frame) (o : Option Value) → Allowed core around (push_or_lack f o)
   given f None = tt
   given f (Some v) = tt
 
@@ -211,7 +211,7 @@ module _ (core : CoreData) (around : Around) where
   branched (c ∷ a ∷ b ∷ []) false f = tt
   branched cs b f = tt
 
-  turned : (n : ℕ) (cs : List ℕ) (b : Bool) (f : Frame) → Allowed core around (turn n cs b f)
+  turned : (n : ℕ) (cs : List ℕ) (b : Bool) (f : Frame) → Allowed core around (loop_turn n cs b f)
   turned n (c ∷ a ∷ []) true f = tt
   turned n (c ∷ a ∷ []) false f = tt
   turned n cs b f = tt
@@ -219,7 +219,7 @@ module _ (core : CoreData) (around : Around) where
   -- ---- constructors
 
   blank_fields : (e : ℕ) → HasFields core (blank_object core e)
-  blank_fields e = length-replicate (fields_in (slice_get core.entities e)) None
+  blank_fields e = length-replicate (number_of_fields (slice_get core.entities e)) None
 
   new_allowed : (m : ℕ) (x : Method) (vs : List Value) (f : Frame) (o : Option ℕ) → Allowed core around (begin_new core around m x vs f o)
   new_allowed m x vs f None = tt
@@ -277,7 +277,7 @@ module _ (core : CoreData) (around : Around) where
   on name this vs f (Some e) = named name this vs f (method_named core e name)
 
   invoke_allowed : (f : Frame) (cs : List ℕ) (k : NodeKind) → Allowed core around (invoke_task core around f cs k)
-  invoke_allowed f cs (node.Call name) = top f f.stack _ (λ this g. arguments g (popped (length cs - 1) g.stack []) _ (λ vs h. on name this vs h (entity_of around.objects this)))
+  invoke_allowed f cs (node.Call name) = top f f.stack _ (λ this g. arguments g (popped (length cs - 1) g.stack []) _ (λ vs h. on name this vs h (value_entity around.objects this)))
   invoke_allowed f cs k = tt
 
   -- ---- the end of a method
@@ -314,7 +314,7 @@ module _ (core : CoreData) (around : Around) where
   task_allowed f (task.Apply n) = at (slice_get core.nodes n) _ (λ x. apply_allowed f x.kind)
   task_allowed f (task.Test n) = at (slice_get core.nodes n) _ (λ x. test_allowed f x.children x.kind)
   task_allowed f (task.Branch n) = at (slice_get core.nodes n) _ (λ x. top f f.stack _ (told (branch x.children) (branched x.children)))
-  task_allowed f (task.Loop n) = at (slice_get core.nodes n) _ (λ x. top f f.stack _ (told (turn n x.children) (turned n x.children)))
+  task_allowed f (task.Loop n) = at (slice_get core.nodes n) _ (λ x. top f f.stack _ (told (loop_turn n x.children) (turned n x.children)))
   task_allowed f task.Discard = top f f.stack _ (λ v g. tt)
   task_allowed f task.Return = return_allowed f (slice_get core.methods f.method)
 
@@ -323,7 +323,7 @@ module _ (core : CoreData) (around : Around) where
   first_allowed f (Some t) = task_allowed (relieved f) t
 
 -- A plan that is a task's move reaches no one but an actor.
-pub reached : (core : CoreData) (around : Around) (f : Frame) (o : Option Task) (p : Plan) → move_of around p f ≡ first_move core around f o → Reaches p around.actors
+pub reached : (core : CoreData) (around : Around) (f : Frame) (o : Option Task) (p : Plan) → move_of around p f ≡ first_move core around f o → ReachesActor p around.actors
 reached core around f o (plan.Sends count receiver m) e = subst (Allowed core around) (sym e) (first_allowed core around f o)
 reached core around f o (plan.Lacks l) e = tt
 reached core around f o (plan.Changes ch) e = tt

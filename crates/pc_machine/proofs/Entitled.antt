@@ -13,7 +13,7 @@ use Rattle.pc_heap.specs.Object.{Object}
 use Rattle.pc_heap.specs.declared.value.Value.{Value}
 use Rattle.pc_heap.specs.declared.value.Value.TheVariants.{At}
 use Rattle.pc_core.specs.CoreData.{CoreData}
-use Rattle.pc_semantics.specs.Configurations.{own_address, environment_address, blank_object, environment, fields_in, main_create, start, start_of}
+use Rattle.pc_semantics.specs.Configurations.{own_address, environment_address, blank_object, environment, number_of_fields, main_create, start, start_of}
 use Rattle.pc_tasks.specs.Fielded.{HasFields, Fielded}
 
 module _ (core : CoreData) where
@@ -40,7 +40,7 @@ module _ (core : CoreData) where
   none_fielded a o e = absurd (none-some o (sym (get-empty address_cmp a) ∙ e))
 
   blank : (e : ℕ) → HasFields core (blank_object core e)
-  blank e = length-replicate (fields_in (slice_get core.entities e)) None
+  blank e = length-replicate (number_of_fields (slice_get core.entities e)) None
 
   begins_fielded : (o : Option (ℕ × ℕ)) → Fielded core (start_of core o).objects
   begins_fielded None = none_fielded

@@ -12,7 +12,7 @@ use Rattle.pc_heap.specs.declared.value.Value.{Value}
 use Rattle.pc_heap.specs.declared.value.Value.TheVariants.{At}
 use Rattle.pc_core.specs.CoreData.{CoreData}
 use Rattle.pc_core.specs.Formed.{Formed}
-use Rattle.pc_semantics.specs.Configurations.{own_address, environment_address, environment, blank_object, fields_in, start, start_of, main_create}
+use Rattle.pc_semantics.specs.Configurations.{own_address, environment_address, environment, blank_object, number_of_fields, start, start_of, main_create}
 use Rattle.pc_machine.specs.States.{Peopled, IsPeopled}
 use Rattle.pc_machine.proofs.Peopling.{exact_addresses, len_grows, peopled_actor, peopled_none, peopled_object}
 use Rattle.pc_lists.proofs.Cuts.{without_length}
@@ -94,7 +94,7 @@ module _ (core : CoreData) (main : ℕ) where
 
         pub has_out : Formed core → IsSome (field_at m2 b 0)
         has_out formed =
-            let entity : fields_in (slice_get core.entities 4) ≡ 1 = ap fields_in formed.built_in.env in
+            let entity : number_of_fields (slice_get core.entities 4) ≡ 1 = ap number_of_fields formed.built_in.env in
             let field : field_at m2 b 0 ≡ Some None =
             ap (λ (m : ObjectMap). field_at m b 0) is_second ∙ ap (λ (x : Address). field_at (second_objects core) x 0) at_second
             ∙ ap (λ (o : Option Object). field_in o 0) blank_there ∙ ap (λ n. let fs : List (Option Value) = replicate n None in slice_get fs 0) entity in

@@ -19,7 +19,7 @@ use Rattle.pc_semantics.specs.Step.{begin_method, begun, printed_text, run_frame
 use Rattle.pc_tasks.specs.Inside.{IsInside}
 use Rattle.pc_tasks.proofs.Steps.{inside_step}
 use Rattle.pc_machine.specs.Changed.{changed, framed, unmailed, frames_in, frames_of, messages_in}
-use Rattle.pc_machine.specs.Ran.{Ran, RanAt}
+use Rattle.pc_machine.specs.Ran.{RanFrames, RanAt}
 use Rattle.pc_machine.specs.Taken.{only_text, frame_begun}
 use Rattle.pc_machine.proofs.Changes.{changed_set, get_there, is_there, messages_same, set_changed}
 use Rattle.pc_machine.proofs.Planned.{amended, Running, running, goes_on}
@@ -102,19 +102,19 @@ ran_step : (core : CoreData) (c : Configuration) (i : ℕ) (o : Outcome) (object
 ran_step core c i o objects last inside at =
     let r : Running c.actors i = running c.actors i (has_first (frames_of c.actors i) (λ f. IsInside (slice_get f.tasks 0)) inside) in
     let task : IsInside (slice_get r.frame.tasks 0) = subst (λ (fs : List Frame). IsSomeAnd (slice_get fs 0) (λ f. IsInside (slice_get f.tasks 0))) r.of inside in
-    let done : Ran core c.objects r.frame r.below o objects at.frames = subst (λ (fs : List Frame). IfSome (slice_get fs 0) (λ f. Ran core c.objects f (drop 1 fs) o objects at.frames)) r.of at.ran in
+    let done : RanFrames core c.objects r.frame r.below o objects at.frames = subst (λ (fs : List Frame). IfSome (slice_get fs 0) (λ f. RanFrames core c.objects f (drop 1 fs) o objects at.frames)) r.of at.ran in
     let ends : last ≡ (with_frames c i r.actor (done.frame ∷ r.below)).actors = at.actors_are ∙ ap (λ fs. changed c.actors i (framed fs)) done.frames_are ∙ goes_on c i r (done.frame ∷ r.below) in
     ap (λ actors. let p : Outcome × Configuration = (o, amended c objects actors) in p) ends
     ∙ sym (inside_step core c i r.actor r.frame done.frame r.below o objects r.here r.frames task done.inside)
 
 -- The frames of one actor, if they were changed in place.
 pub ran_at : {E : Type 0} (core : CoreData) (objects objects' : ObjectMap) (all : List Actor) (i : ℕ) (a : Actor) (frames : List Frame) (r : Result Outcome E) → i < length all → a ≡ get_or all i a
-    → IfOk r (λ o. IfSome (slice_get a.frames 0) (λ f. Ran core objects f (drop 1 a.frames) o objects' frames))
+    → IfOk r (λ o. IfSome (slice_get a.frames 0) (λ f. RanFrames core objects f (drop 1 a.frames) o objects' frames))
     → IfOk r (λ o. RanAt core objects all i o objects' (set all i (record { mailbox = a.mailbox; frames = frames })))
 ran_at core objects objects' all i a frames (Err e) l is h = tt
 ran_at core objects objects' all i a frames (Ok o) l is h = record {
   frames = frames;
-  ran = subst (λ (fs : List Frame). IfSome (slice_get fs 0) (λ f. Ran core objects f (drop 1 fs) o objects' frames)) (sym (ap frames_in (get_there all i a l is))) h;
+  ran = subst (λ (fs : List Frame). IfSome (slice_get fs 0) (λ f. RanFrames core objects f (drop 1 fs) o objects' frames)) (sym (ap frames_in (get_there all i a l is))) h;
   actors_are = set_changed all i a (framed frames) l is;
 }
 

@@ -65,17 +65,17 @@ move_of around (Spawns count entity fields m) f = move.Spawns (new_object entity
 move_of around (Sends count receiver m) f = move.Sends receiver m (pushed (after_call count f) none)
 
 -- The plan takes no more values than there are, and can be done.
-abbrev pub Fits : Plan → ℕ → Type 0
-Fits (Lacks l) n = Unit {0}
-Fits (Changes c) n = Suits c n
-Fits (Makes count entity fields g) n = (fields ≤ field_limit) × (0 < length g.slots)
-Fits (Spawns count entity fields m) n = (fields ≤ field_limit) × (count ≤ n)
-Fits (Sends count receiver m) n = (0 < count) × (count ≤ n)
+abbrev pub PlanFits : Plan → ℕ → Type 0
+PlanFits (Lacks l) n = Unit {0}
+PlanFits (Changes c) n = Suits c n
+PlanFits (Makes count entity fields g) n = (fields ≤ field_limit) × (0 < length g.slots)
+PlanFits (Spawns count entity fields m) n = (fields ≤ field_limit) × (count ≤ n)
+PlanFits (Sends count receiver m) n = (0 < count) × (count ≤ n)
 
 -- If the plan sends a message, it is to one of this number of actors.
-abbrev pub Reaches : Plan → ℕ → Type 0
-Reaches (Sends count receiver m) actors = receiver < actors
-Reaches p actors = Unit {0}
+abbrev pub ReachesActor : Plan → ℕ → Type 0
+ReachesActor (Sends count receiver m) actors = receiver < actors
+ReachesActor p actors = Unit {0}
 
 -- The actor whose own object a value is, if it is one of this number of actors.
 abbrev pub receiver_in : Value → ℕ → Option ℕ

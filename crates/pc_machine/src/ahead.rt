@@ -148,7 +148,7 @@ fn call(
     arguments: &[Value],
 ) -> Ahead
     ensures { (i : ℕ) (f : Frame) → result ≡ by_move (calls.invoke_on core.now (amid heap.now.objects i actors) name this.now arguments.now f
-        (around.entity_of heap.now.objects this.now)) }
+        (around.value_entity heap.now.objects this.now)) }
 {
     let Some(entity) = entity_of(heap, this) else {
         return Ahead::Lacks;

@@ -3,7 +3,7 @@ ghost use Rattle.std.specs.Prelude.{◌≡◌, length, slice_get, IfOk};
 ghost use Rattle.pc_semantics.specs.Around.{Around};
 ghost use Rattle.pc_semantics.specs.Calls.{make_of, make_task, spawn_of, spawn_task};
 ghost use Rattle.pc_tasks.specs.Inside.{relieved};
-ghost use Rattle.pc_machine.specs.Plans.{after_call, move_of, Fits};
+ghost use Rattle.pc_machine.specs.Plans.{after_call, move_of, PlanFits};
 ghost use Rattle.pc_semantics.specs.declared.frames.Frame.{Frame};
 
 use crate::arguments::{arguments_on, message_of};
@@ -25,7 +25,7 @@ fn plan_object(
 ) -> Result<Plan, AllocError>
     ensures means { IfOk result (λ plan. (around : Around) (f : Frame) → move_of around plan f
         ≡ make_of core.now around number arguments.now (after_call (length arguments.now) f) (slice_get core.now.methods number)) }
-    ensures fits { IfOk result (λ plan. Fits plan (length arguments.now)) }
+    ensures fits { IfOk result (λ plan. PlanFits plan (length arguments.now)) }
 {
     let Some(method) = core.method_at(number) else {
         return Ok(Plan::Lacks(Lack::Method));
@@ -56,7 +56,7 @@ fn plan_object(
 pub fn plan_make(alloc: Global, core: &Core, frame: &Frame, node: &Node) -> Result<Plan, AllocError>
     ensures means { IfOk result (λ plan. (around : Around) → move_of around plan frame.now
         ≡ make_task core.now around (relieved frame.now) node.now.children node.now.kind) }
-    ensures fits { IfOk result (λ plan. Fits plan (length frame.now.stack)) }
+    ensures fits { IfOk result (λ plan. PlanFits plan (length frame.now.stack)) }
 {
     let NodeKind::New(number) = &node.kind else {
         return Ok(Plan::Lacks(Lack::Value));
@@ -76,7 +76,7 @@ fn plan_actor(
 ) -> Result<Plan, AllocError>
     ensures means { IfOk result (λ plan. (around : Around) (f : Frame) → move_of around plan f
         ≡ spawn_of core.now around number arguments.now (after_call (length arguments.now) f) (slice_get core.now.methods number)) }
-    ensures fits { IfOk result (λ plan. Fits plan (length arguments.now)) }
+    ensures fits { IfOk result (λ plan. PlanFits plan (length arguments.now)) }
 {
     let Some(method) = core.method_at(number) else {
         return Ok(Plan::Lacks(Lack::Method));
@@ -102,7 +102,7 @@ pub fn plan_spawn(
 ) -> Result<Plan, AllocError>
     ensures means { IfOk result (λ plan. (around : Around) → move_of around plan frame.now
         ≡ spawn_task core.now around (relieved frame.now) node.now.children node.now.kind) }
-    ensures fits { IfOk result (λ plan. Fits plan (length frame.now.stack)) }
+    ensures fits { IfOk result (λ plan. PlanFits plan (length frame.now.stack)) }
 {
     let NodeKind::Spawn(number) = &node.kind else {
         return Ok(Plan::Lacks(Lack::Value));

@@ -4,7 +4,7 @@ ghost use Rattle.std.specs.Prelude.{◌≡◌, drop, slice_get, IfOk, IfSome, On
 ghost use Rattle.pc_semantics.specs.Step.{step};
 ghost use Rattle.pc_tasks.specs.Inside.{IsInside};
 ghost use Rattle.pc_machine.specs.Changed.{frames_of};
-ghost use Rattle.pc_machine.specs.Ran.{Ran, RanAt};
+ghost use Rattle.pc_machine.specs.Ran.{RanFrames, RanAt};
 ghost use Rattle.pc_machine.specs.States.{configuration_of};
 
 use crate::state::State;
@@ -23,7 +23,7 @@ fn run_top(
 ) -> Result<Outcome, AllocError>
     requires { IsSomeAnd (slice_get frames.old 0) (λ f. IsInside (slice_get f.tasks 0)) }
     ensures ok { IfOk result (λ o. IfSome (slice_get frames.old 0)
-        (λ f. Ran core.now heap.old.objects f (drop 1 frames.old) o heap.new.objects frames.new)) }
+        (λ f. RanFrames core.now heap.old.objects f (drop 1 frames.old) o heap.new.objects frames.new)) }
     ensures objects { OnErr result (heap.new.objects ≡ heap.old.objects) }
     ensures frames { OnErr result (frames.new ≡ frames.old) }
 {

@@ -5,7 +5,7 @@ ghost use Rattle.pc_semantics.specs.Around as around;
 ghost use Rattle.pc_semantics.specs.Around.{Around};
 ghost use Rattle.pc_semantics.specs.Calls as spec;
 ghost use Rattle.pc_tasks.specs.Inside.{amid, relieved};
-ghost use Rattle.pc_machine.specs.Plans.{after_call, receiver_in, move_of, Fits};
+ghost use Rattle.pc_machine.specs.Plans.{after_call, receiver_in, move_of, PlanFits};
 ghost use Rattle.pc_semantics.specs.declared.frames.Frame.{Frame};
 
 use crate::arguments::{arguments_below, message_of};
@@ -29,7 +29,7 @@ fn plan_function(
     ensures means { IfOk result (λ plan. (around : Around) (f : Frame) → move_of around plan f
         ≡ spec.counted method.now arguments.now
         (spec.enter number method.now this.now arguments.now (after_call (length arguments.now + 1) f) method.now.body)) }
-    ensures fits { IfOk result (λ plan. Fits plan (length arguments.now + 1)) }
+    ensures fits { IfOk result (λ plan. PlanFits plan (length arguments.now + 1)) }
 {
     if arguments.len() != method.params.len() {
         return Ok(Plan::Lacks(Lack::Method));
@@ -68,7 +68,7 @@ fn plan_message(
 ) -> Result<Plan, AllocError>
     ensures means { IfOk result (λ plan. (objects : ObjectMap) (i : ℕ) (f : Frame) → move_of (amid objects i actors) plan f
         ≡ spec.send (amid objects i actors) number method.now arguments.now (after_call (length arguments.now + 1) f) this.now) }
-    ensures fits { IfOk result (λ plan. Fits plan (length arguments.now + 1)) }
+    ensures fits { IfOk result (λ plan. PlanFits plan (length arguments.now + 1)) }
 {
     let Some(receiver) = receiver_of(this, actors) else {
         return Ok(Plan::Lacks(Lack::Object));
@@ -96,7 +96,7 @@ fn plan_method(
     ensures means { IfOk result (λ plan. (objects : ObjectMap) (i : ℕ) (f : Frame) → move_of (amid objects i actors) plan f
         ≡ spec.invoke_kind (amid objects i actors) number method.now this.now arguments.now
         (after_call (length arguments.now + 1) f) method.now.kind) }
-    ensures fits { IfOk result (λ plan. Fits plan (length arguments.now + 1)) }
+    ensures fits { IfOk result (λ plan. PlanFits plan (length arguments.now + 1)) }
 {
     match method.kind {
         MethodKind::Fun => plan_function(alloc, number, method, this, arguments),
@@ -117,8 +117,8 @@ fn plan_call(
 ) -> Result<Plan, AllocError>
     ensures means { IfOk result (λ plan. (i : ℕ) (f : Frame) → move_of (amid heap.now.objects i actors) plan f
         ≡ spec.invoke_on core.now (amid heap.now.objects i actors) name this.now arguments.now
-        (after_call (length arguments.now + 1) f) (around.entity_of heap.now.objects this.now)) }
-    ensures fits { IfOk result (λ plan. Fits plan (length arguments.now + 1)) }
+        (after_call (length arguments.now + 1) f) (around.value_entity heap.now.objects this.now)) }
+    ensures fits { IfOk result (λ plan. PlanFits plan (length arguments.now + 1)) }
 {
     let Some(entity) = entity_of(heap, this) else {
         return Ok(Plan::Lacks(Lack::Method));
@@ -143,7 +143,7 @@ pub fn plan_invoke(
 ) -> Result<Plan, AllocError>
     ensures means { IfOk result (λ plan. (i : ℕ) → move_of (amid heap.now.objects i actors) plan frame.now
         ≡ spec.invoke_task core.now (amid heap.now.objects i actors) (relieved frame.now) node.now.children node.now.kind) }
-    ensures fits { IfOk result (λ plan. Fits plan (length frame.now.stack)) }
+    ensures fits { IfOk result (λ plan. PlanFits plan (length frame.now.stack)) }
 {
     let NodeKind::Call(name) = &node.kind else {
         return Ok(Plan::Lacks(Lack::Value));

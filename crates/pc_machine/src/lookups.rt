@@ -2,7 +2,7 @@
 ghost use Rattle.std.specs.Prelude.{◌≡◌, ◌≤◌, slice_get};
 ghost use Rattle.pc_caps.specs.Limits.{field_limit};
 ghost use Rattle.pc_semantics.specs.Around as around;
-ghost use Rattle.pc_semantics.specs.Configurations.{fields_in};
+ghost use Rattle.pc_semantics.specs.Configurations.{number_of_fields};
 
 use pc_core::Core;
 use pc_heap::{Heap, Value};
@@ -10,7 +10,7 @@ use pc_tree::{BOOL_ENTITY, STRING_ENTITY, U64_ENTITY};
 
 /// The number of fields of an entity, by its number; 0 if there is no such entity.
 pub fn fields_of(core: &Core, entity: u32) -> u32
-    ensures count { result ≡ fields_in (slice_get core.now.entities entity) }
+    ensures count { result ≡ number_of_fields (slice_get core.now.entities entity) }
     ensures few { result ≤ field_limit }
 {
     core.formed();
@@ -22,7 +22,7 @@ pub fn fields_of(core: &Core, entity: u32) -> u32
 
 /// A value's own entity. `None` iff the value is an address without an object.
 pub fn entity_of(heap: &Heap, value: &Value) -> Option<u32>
-    ensures { result ≡ around.entity_of heap.now.objects value.now }
+    ensures { result ≡ around.value_entity heap.now.objects value.now }
 {
     match value {
         Value::Num(_) => Some(U64_ENTITY),

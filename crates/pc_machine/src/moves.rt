@@ -3,7 +3,7 @@ ghost use Rattle.std.specs.Prelude.{◌≡◌, ◌+◌, ◌<◌, ◌≤◌, ◌^
 ghost use Rattle.std.specs.FinMap.{len};
 ghost use Rattle.pc_heap.specs.Heaps.{object_limit, field_limit};
 ghost use Rattle.pc_machine.specs.Changed.{changed, framed, frames_of, messages_in};
-ghost use Rattle.pc_machine.specs.Plans.{given, frames_changed, planned, Fits, Reaches, Suits};
+ghost use Rattle.pc_machine.specs.Plans.{given, frames_changed, planned, PlanFits, ReachesActor, Suits};
 ghost use Rattle.pc_machine.specs.States.{configuration_of, IsPeopled};
 
 use crate::actors::{Actors, waiting_actor};
@@ -176,8 +176,8 @@ pub fn make_move(
     plan: Plan,
 ) -> Result<Outcome, AllocError>
     requires running { 0 < length (frames_of state.old.actors actor) }
-    requires fits { IfSome (slice_get (frames_of state.old.actors actor) 0) (λ f. Fits plan (length f.stack)) }
-    requires reaches { Reaches plan (length state.old.actors) }
+    requires fits { IfSome (slice_get (frames_of state.old.actors actor) 0) (λ f. PlanFits plan (length f.stack)) }
+    requires reaches { ReachesActor plan (length state.old.actors) }
     requires few { len state.old.heap.objects < object_limit }
     requires few_messages { messages_in state.old.actors + 1 < 2 ^ 32 }
     requires peopled { IsPeopled (configuration_of state.old) }

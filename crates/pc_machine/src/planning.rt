@@ -1,7 +1,7 @@
 //! What the first task of a running frame is about to do.
 ghost use Rattle.std.specs.Prelude.{◌≡◌, ℕ, length, slice_get, IfOk};
 ghost use Rattle.pc_tasks.specs.Inside.{amid, first_move, IsInside};
-ghost use Rattle.pc_machine.specs.Plans.{move_of, Fits};
+ghost use Rattle.pc_machine.specs.Plans.{move_of, PlanFits};
 
 use crate::calls::{plan_make, plan_spawn};
 use crate::invocations::plan_invoke;
@@ -23,7 +23,7 @@ pub fn plan_first(
     requires { ¬ (IsInside (slice_get frame.now.tasks 0)) }
     ensures means { IfOk result (λ plan. (i : ℕ) → move_of (amid heap.now.objects i actors) plan frame.now
         ≡ first_move core.now (amid heap.now.objects i actors) frame.now (slice_get frame.now.tasks 0)) }
-    ensures fits { IfOk result (λ plan. Fits plan (length frame.now.stack)) }
+    ensures fits { IfOk result (λ plan. PlanFits plan (length frame.now.stack)) }
 {
     let Some(task) = frame.tasks.top() else {
         return Ok(Plan::Lacks(Lack::Value));

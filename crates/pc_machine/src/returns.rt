@@ -3,7 +3,7 @@ ghost use Rattle.std.specs.Prelude.{◌≡◌, length, slice_get, Some, IfOk};
 ghost use Rattle.pc_semantics.specs.Around.{Around};
 ghost use Rattle.pc_semantics.specs.Calls.{return_task};
 ghost use Rattle.pc_tasks.specs.Inside.{relieved};
-ghost use Rattle.pc_machine.specs.Plans.{move_of, Fits};
+ghost use Rattle.pc_machine.specs.Plans.{move_of, PlanFits};
 
 use crate::plan::{Change, Plan};
 use pc_core::{Core, MethodKind};
@@ -22,7 +22,7 @@ fn plan_leave(value: &Value) -> Result<Plan, AllocError>
 pub fn plan_return(core: &Core, frame: &Frame) -> Result<Plan, AllocError>
     ensures means { IfOk result (λ plan. (around : Around) → move_of around plan frame.now
         ≡ return_task (relieved frame.now) (slice_get core.now.methods frame.now.method)) }
-    ensures fits { IfOk result (λ plan. Fits plan (length frame.now.stack)) }
+    ensures fits { IfOk result (λ plan. PlanFits plan (length frame.now.stack)) }
 {
     let Some(method) = core.method_at(frame.method) else {
         return Ok(Plan::Lacks(Lack::Method));

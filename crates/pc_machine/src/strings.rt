@@ -2,7 +2,7 @@
 ghost use Rattle.std.specs.Prelude.{◌≡◌, ◌+◌, decimal, length, IfOk};
 ghost use Rattle.pc_semantics.specs.Calls as spec;
 ghost use Rattle.pc_semantics.specs.Around.{Around};
-ghost use Rattle.pc_machine.specs.Plans.{after_call, move_of, Fits};
+ghost use Rattle.pc_machine.specs.Plans.{after_call, move_of, PlanFits};
 ghost use Rattle.pc_semantics.specs.declared.frames.Frame.{Frame};
 
 use crate::plan::{Change, Plan};
@@ -65,7 +65,7 @@ pub fn plan_string(
 ) -> Result<Plan, AllocError>
     ensures means { IfOk result (λ plan. (around : Around) (f : Frame) → move_of around plan f
         ≡ spec.string_of core.now name this.now arguments.now (after_call (length arguments.now + 1) f)) }
-    ensures fits { IfOk result (λ plan. Fits plan (length arguments.now + 1)) }
+    ensures fits { IfOk result (λ plan. PlanFits plan (length arguments.now + 1)) }
 {
     if !is_string(core, name, arguments) {
         return Ok(Plan::Lacks(Lack::Method));

@@ -7,7 +7,7 @@ use Rattle.std.proofs.lemmas.Bool.Decides.{eqb_tells}
 use Rattle.std.proofs.lemmas.Nat.{shr_split}
 use Rattle.std.proofs.lemmas.Nat.Bits.{bit_at-lt, bit_at_lowest, bit_at-suc, bit_at_and, bit_at_or, bit_at-pow_same, bit_at-pow_other, and_pow, bit_at_above, bit_at_cat_low, bit_at_cat_high, bit_at_ones, bit_at_ones_above, same_from_bits}
 use Rattle.pc_masks.specs.declared.mask.Mask.{Mask}
-use Rattle.pc_masks.specs.Masks.{IsIn, first, with_number, without_number, meet, join, within}
+use Rattle.pc_masks.specs.Masks.{IsInMask, first, with_number, without_number, meet, join, within}
 
 -- Clearing a bit of a number: that bit is 0, and the others are as before.
 half_twice : (q : ℕ) → q * 2 / 2 ≡ q
@@ -62,7 +62,7 @@ same_bit : (a b i : ℕ) → bit_at a i ≡ bit_at b i → nat_eq (bit_at a i) 1
 same_bit a b i e h = subst (λ x. nat_eq x 1 ≡ true) e h
 
 -- Removing a number: the others stay.
-pub without_number_bits : (m : Mask) (k i : ℕ) → (IsIn (without_number m k) i) ↔ ((i ≢ k) × IsIn m i)
+pub without_number_bits : (m : Mask) (k i : ℕ) → (IsInMask (without_number m k) i) ↔ ((i ≢ k) × IsInMask m i)
 without_number_bits m k i =
     let a = m.0 in
     let b = m.0 - bit_and m.0 (2 ^ k) in
@@ -104,7 +104,7 @@ joined_bits a k i =
     ]
 
 -- Adding a number: the others stay.
-pub with_number_bits : (m : Mask) (k i : ℕ) → (IsIn (with_number m k) i) ↔ (((i ≡ k) × (k < 64)) ⊎ IsIn m i)
+pub with_number_bits : (m : Mask) (k i : ℕ) → (IsInMask (with_number m k) i) ↔ (((i ≡ k) × (k < 64)) ⊎ IsInMask m i)
 with_number_bits m k i =
     let new = cond (nat_lt k 64) (bit_or m.0 (2 ^ k)) m.0 in
     elim (cases_lt k 64) [
@@ -124,7 +124,7 @@ with_number_bits m k i =
 min_one : (x y : ℕ) → x < 2 → y < 2 → min x y ≡ 1 → (x ≡ 1) × (y ≡ 1)
 min_one x y l m e = (omega (arith, l, m, e), omega (arith, l, m, e))
 
-pub meet_bits : (a b : Mask) (i : ℕ) → (IsIn (meet a b) i) ↔ (IsIn a i × IsIn b i)
+pub meet_bits : (a b : Mask) (i : ℕ) → (IsInMask (meet a b) i) ↔ (IsInMask a i × IsInMask b i)
 meet_bits a b i = (
   λ h. let both = min_one (bit_at a.0 i) (bit_at b.0 i) (bit_at-lt a.0 i) (bit_at-lt b.0 i) (sym (bit_at_and a.0 b.0 i) ∙ bit_of (bit_and a.0 b.0) i h) in
       (of_bit a.0 i both.0, of_bit b.0 i both.1),
@@ -132,7 +132,7 @@ meet_bits a b i = (
 )
 
 -- The numbers below a bound.
-pub first_bits : (n i : ℕ) → (IsIn (first n) i) ↔ ((i < n) × (i < 64))
+pub first_bits : (n i : ℕ) → (IsInMask (first n) i) ↔ ((i < n) × (i < 64))
 first_bits n i =
     elim (cases_lt i (min n 64)) [
       | inl l ↦ (λ h. (omega (arith, l), omega (arith, l)), λ h. of_bit (2 ^ min n 64 - 1) i (bit_at_ones (min n 64) i l))
@@ -154,14 +154,14 @@ other_than_one (suc (suc x)) l n = absurd (omega (arith, l))
 zero_or_one : (x : ℕ) → x < 2 → (x ≡ 1) ⊎ (x ≡ 0)
 zero_or_one x l = elim (eqb_tells x 1) [ inl e ↦ inl e.1 | inr e ↦ inr (other_than_one x l e.1) ]
 
-each_bit : (a b : Mask) (i : ℕ) → (IsIn a i → IsIn b i) → bit_at (bit_and a.0 b.0) i ≡ bit_at a.0 i
+each_bit : (a b : Mask) (i : ℕ) → (IsInMask a i → IsInMask b i) → bit_at (bit_and a.0 b.0) i ≡ bit_at a.0 i
 each_bit a b i h =
     elim (zero_or_one (bit_at a.0 i) (bit_at-lt a.0 i)) [
       | inl e ↦ bit_at_and a.0 b.0 i ∙ ap (min (bit_at a.0 i)) (bit_of b.0 i (h (of_bit a.0 i e))) ∙ ap (λ x. min x 1) e ∙ sym e
       | inr e ↦ bit_at_and a.0 b.0 i ∙ ap (λ x. min x (bit_at b.0 i)) e ∙ min_zero (bit_at b.0 i) ∙ sym e
     ]
 
-pub within_bits : (a b : Mask) → (IsTrue (within a b)) ↔ ((i : ℕ) → IsIn a i → IsIn b i)
+pub within_bits : (a b : Mask) → (IsTrue (within a b)) ↔ ((i : ℕ) → IsInMask a i → IsInMask b i)
 within_bits a b = (
   λ h i p. ((meet_bits a b i).0 (same_bit a.0 (bit_and a.0 b.0) i (ap (λ x. bit_at x i) (sym (eqb-true (bit_and a.0 b.0) a.0 h))) p)).1,
   λ h. eq-eqb (bit_and a.0 b.0) a.0 (same_from_bits (bit_and a.0 b.0) a.0 (λ i. each_bit a b i (h i))),
@@ -177,7 +177,7 @@ one_left x y l e = omega (arith, l, e)
 one_right : (x y : ℕ) → x < 2 → y ≡ 1 → max x y ≡ 1
 one_right x y l e = omega (arith, l, e)
 
-pub join_bits : (a b : Mask) (i : ℕ) → (IsIn (join a b) i) ↔ (IsIn a i ⊎ IsIn b i)
+pub join_bits : (a b : Mask) (i : ℕ) → (IsInMask (join a b) i) ↔ (IsInMask a i ⊎ IsInMask b i)
 join_bits a b i = (
   λ h. elim (max_either (bit_at a.0 i) (bit_at b.0 i) (bit_at-lt a.0 i) (sym (bit_at_or a.0 b.0 i) ∙ bit_of (bit_or a.0 b.0) i h)) [ inl e ↦ inl (of_bit a.0 i e) | inr e ↦ inr (of_bit b.0 i e) ],
   λ h. of_bit (bit_or a.0 b.0) i (bit_at_or a.0 b.0 i ∙ elim h [ inl p ↦ one_left (bit_at a.0 i) (bit_at b.0 i) (bit_at-lt b.0 i) (bit_of a.0 i p) | inr q ↦ one_right (bit_at a.0 i) (bit_at b.0 i) (bit_at-lt a.0 i) (bit_of b.0 i q) ]),

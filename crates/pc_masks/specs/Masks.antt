@@ -7,8 +7,8 @@ use Rattle.pc_masks.specs.declared.mask.Mask.{Mask}
 abbrev pub has : Mask → ℕ → Bool
 has m i = nat_eq (bit_at m.0 i) 1
 
-abbrev pub IsIn : Mask → ℕ → Type 0
-IsIn m i = IsTrue (has m i)
+abbrev pub IsInMask : Mask → ℕ → Type 0
+IsInMask m i = IsTrue (has m i)
 
 -- The empty mask.
 abbrev pub empty : Mask

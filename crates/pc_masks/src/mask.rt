@@ -11,7 +11,7 @@ impl Mask {
     #[tactic(auto, using(crate::specs::MaskLaws::first_bits))]
     pub fn first(count: u32) -> Mask
         ensures value { result ≡ spec.first count }
-        ensures bits { (i : ℕ) → (spec.IsIn result i) ↔ ((i < count) × (i < 64)) }
+        ensures bits { (i : ℕ) → (spec.IsInMask result i) ↔ ((i < count) × (i < 64)) }
     {
         Mask(low_bits(count))
     }
@@ -27,7 +27,7 @@ impl Mask {
     #[tactic(auto, using(crate::specs::MaskLaws::with_number_bits))]
     pub fn with(self, number: u32) -> Mask
         ensures value { result ≡ spec.with_number self number }
-        ensures bits { (i : ℕ) → (spec.IsIn result i) ↔ (((i ≡ number) × (number < 64)) ⊎ spec.IsIn self i) }
+        ensures bits { (i : ℕ) → (spec.IsInMask result i) ↔ (((i ≡ number) × (number < 64)) ⊎ spec.IsInMask self i) }
     {
         Mask(with_bit(self.0, number))
     }
@@ -36,7 +36,7 @@ impl Mask {
     #[tactic(auto, using(crate::specs::MaskLaws::without_number_bits))]
     pub fn without(self, number: u32) -> Mask
         ensures value { result ≡ spec.without_number self number }
-        ensures bits { (i : ℕ) → (spec.IsIn result i) ↔ ((i ≢ number) × spec.IsIn self i) }
+        ensures bits { (i : ℕ) → (spec.IsInMask result i) ↔ ((i ≢ number) × spec.IsInMask self i) }
     {
         Mask(without_bit(self.0, number))
     }
@@ -45,7 +45,7 @@ impl Mask {
     #[tactic(auto, using(crate::specs::MaskLaws::meet_bits))]
     pub fn meet(self, other: Mask) -> Mask
         ensures value { result ≡ spec.meet self other }
-        ensures bits { (i : ℕ) → (spec.IsIn result i) ↔ (spec.IsIn self i × spec.IsIn other i) }
+        ensures bits { (i : ℕ) → (spec.IsInMask result i) ↔ (spec.IsInMask self i × spec.IsInMask other i) }
     {
         Mask(self.0 & other.0)
     }
@@ -53,7 +53,7 @@ impl Mask {
     /// The numbers in either set.
     pub fn join(self, other: Mask) -> Mask
         ensures value { result ≡ spec.join self other }
-        ensures bits { (i : ℕ) → (spec.IsIn result i) ↔ (spec.IsIn self i ⊎ spec.IsIn other i) }
+        ensures bits { (i : ℕ) → (spec.IsInMask result i) ↔ (spec.IsInMask self i ⊎ spec.IsInMask other i) }
     {
         Mask(self.0 | other.0)
     }
@@ -62,7 +62,7 @@ impl Mask {
     #[tactic(auto, using(crate::specs::MaskLaws::within_bits))]
     pub fn is_within(self, other: Mask) -> bool
         ensures value { result ≡ spec.within self other }
-        ensures bits { (IsTrue result) ↔ ((i : ℕ) → spec.IsIn self i → spec.IsIn other i) }
+        ensures bits { (IsTrue result) ↔ ((i : ℕ) → spec.IsInMask self i → spec.IsInMask other i) }
     {
         all_in(self.0, other.0)
     }

@@ -8,14 +8,14 @@ use Rattle.pc_masks.specs.Masks.{has, join}
 use Rattle.pc_lists.specs.Places.{Has, Differ}
 use Rattle.pc_lists.proofs.Elements.{has_on}
 use Rattle.pc_tree.specs.declared.kinds.EntityKind.{EntityKind}
-use Rattle.pc_tree.specs.declared.names.Name.{Name}
+use Rattle.pc_tree.specs.declared.written_names.Name.{Name}
 use Rattle.pc_tree.specs.Kinds.{is_abstract}
 use Rattle.pc_tree.specs.Tree as t
 use Rattle.pc_lists.specs.Texts.{Text}
 use Rattle.pc_members.specs.Words.{method_texts, entity_names}
-use Rattle.pc_members.specs.Chains.{Closes}
+use Rattle.pc_members.specs.Chains.{IsTransitiveClosure}
 use Rattle.pc_members.specs.Founded.{IsFounded}
-use Rattle.pc_members.specs.Edges.{numbers_of}
+use Rattle.pc_members.specs.Edges.{entity_numbers}
 use Rattle.pc_tree.specs.BuiltIn.{first_own}
 use Rattle.pc_members.specs.Members.{is_takable}
 use Rattle.pc_members.specs.MemberLists.{of_entity, of_each, trait_methods, abstract_methods}
@@ -70,8 +70,8 @@ module _ (file : t.File) (names : List Text) (start : ℕ) where
   methods_of ns = of_each (abstract_methods file.entities) file.entities ns
 
   -- The number of an entity it names, and the block at that number.
-  first_number : {T : Type 0} (f : List ℕ → T) (n : Name) (ns : List Name) (q : Target file n) → f (numbers_of (entity_names file) (n ∷ ns)) ≡ f ((first_own + q.place) ∷ numbers_of (entity_names file) ns)
-  first_number f n ns q = ap (λ o. f (option_to_list o ++ numbers_of (entity_names file) ns)) q.number
+  first_number : {T : Type 0} (f : List ℕ → T) (n : Name) (ns : List Name) (q : Target file n) → f (entity_numbers (entity_names file) (n ∷ ns)) ≡ f ((first_own + q.place) ∷ entity_numbers (entity_names file) ns)
+  first_number f n ns q = ap (λ o. f (option_to_list o ++ entity_numbers (entity_names file) ns)) q.number
 
   named_block : (table : List Block) (n : Name) (q : Target file n) (b : Block) → slice_get table q.place ≡ Some b → block_at table (first_own + q.place) ≡ b
   named_block table n q b h = let back : first_own + q.place - first_own ≡ q.place = omega arith in ap (λ j. or_nothing (slice_get table j)) back ∙ ap or_nothing h
@@ -80,7 +80,7 @@ module _ (file : t.File) (names : List Text) (start : ℕ) where
   first_methods n ns q = ap (λ o. of_entity (abstract_methods file.entities) o ++ methods_of ns) q.named
 
   module _ (i : ℕ) (l : i < 64) (x : Text) (h : slice_get names (start + i) ≡ Some x) where
-    pub named_seen : (table : List Block) (b : Block) (ns : List Name) → AllBlocks table ns → seen_at (with_named table b (numbers_of (entity_names file) ns)) i ≡ after (seen_at b i) (sight x (methods_of ns))
+    pub named_seen : (table : List Block) (b : Block) (ns : List Name) → AllBlocks table ns → seen_at (with_named table b (entity_numbers (entity_names file) ns)) i ≡ after (seen_at b i) (sight x (methods_of ns))
     named_seen table b [] all = sym (after_unseen (seen_at b i))
     named_seen table b (n ∷ ns) all =
         let p = all n (0, refl) in
@@ -100,7 +100,7 @@ module _ (file : t.File) (names : List Text) (start : ℕ) where
       takes_bounded zero e = takes_nothing k concrete x
       takes_bounded (suc n) e = takes_sight k concrete x [] (e.methods ++ of_each (trait_methods n file.entities) file.entities e.provides)
 
-      pub taken_seen : (table : List Block) (m : Mask) (ns : List Name) → AllBlocks table ns → has (taken_from k table m (numbers_of (entity_names file) ns)) i ≡ (has m i || takes k x (methods_of ns))
+      pub taken_seen : (table : List Block) (m : Mask) (ns : List Name) → AllBlocks table ns → has (taken_from k table m (entity_numbers (entity_names file) ns)) i ≡ (has m i || takes k x (methods_of ns))
       taken_seen table m [] all = sym (or_false (has m i))
       taken_seen table m (n ∷ ns) all =
           let p = all n (0, refl) in
@@ -116,7 +116,7 @@ module _ (file : t.File) (names : List Text) (start : ℕ) where
 
 -- ---- a trait or an interface
 
-module _ (file : t.File) (above : List (List ℕ)) (founded : IsFounded file) (closed : Closes file above) where
+module _ (file : t.File) (above : List (List ℕ)) (founded : IsFounded file) (closed : IsTransitiveClosure file above) where
   -- Its methods are its own and those of what it names, the first with each name.
   pub sight_abstract : (x : Text) (j : ℕ) (e : t.Entity) → slice_get file.entities j ≡ Some e → is_abstract e.kind ≡ true
       → sight x (abstract_methods file.entities e) ≡ sight x (e.methods ++ of_each (abstract_methods file.entities) file.entities e.provides)

@@ -6,7 +6,7 @@ use Rattle.std.proofs.lemmas.Bool.{or_left, or_right}
 use Rattle.pc_lists.specs.Places.{Has, Differ}
 use Rattle.pc_lists.proofs.Elements.{differ_none, has_on, has_either}
 use Rattle.pc_lists.proofs.Gets.{get_map}
-use Rattle.pc_tree.specs.declared.names.Name.{Name}
+use Rattle.pc_tree.specs.declared.written_names.Name.{Name}
 use Rattle.pc_tree.specs.Tree as t
 use Rattle.pc_lists.specs.Texts.{Text}
 use Rattle.pc_members.specs.Words.{is_among, method_texts}

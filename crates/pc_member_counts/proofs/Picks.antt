@@ -15,7 +15,7 @@ use Rattle.pc_tree.specs.Tree as t
 use Rattle.pc_lists.specs.Texts.{Text}
 use Rattle.pc_members.specs.Words.{is_among, method_texts}
 use Rattle.pc_members.specs.Members.{is_takable}
-use Rattle.pc_members.specs.MemberLists.{firsts, taken}
+use Rattle.pc_members.specs.MemberLists.{firsts, methods_taken_over}
 use Rattle.pc_members.proofs.Differences.{same_text, equal_texts}
 use Rattle.pc_member_counts.specs.Totals.{takes}
 use Rattle.pc_member_counts.proofs.Truths.{and_true, and_false, or_false, or_true}
@@ -150,12 +150,12 @@ module _ (g : t.Method → Bool) (names : List Text) (d : Differ names) where
 
 -- ---- the methods of a trait, and what is taken over
 
-taken_picks : (k : EntityKind) (known : List Text) (ms : List t.Method) → taken k known ms ≡ picks (is_takable k) known ms
+taken_picks : (k : EntityKind) (known : List Text) (ms : List t.Method) → methods_taken_over k known ms ≡ picks (is_takable k) known ms
 taken_picks k known [] = refl
 taken_picks k known (m ∷ ms) = by (λ ks. taken_picks k ks ms) (is_takable k m && not (is_among m.name.text known))
   where
-    by : ((ks : List Text) → taken k ks ms ≡ picks (is_takable k) ks ms) → (b : Bool)
-        → (if b then m ∷ taken k (known ++ m.name.text ∷ []) ms else taken k known ms) ≡ (if b then m ∷ picks (is_takable k) (known ++ m.name.text ∷ []) ms else picks (is_takable k) known ms)
+    by : ((ks : List Text) → methods_taken_over k ks ms ≡ picks (is_takable k) ks ms) → (b : Bool)
+        → (if b then m ∷ methods_taken_over k (known ++ m.name.text ∷ []) ms else methods_taken_over k known ms) ≡ (if b then m ∷ picks (is_takable k) (known ++ m.name.text ∷ []) ms else picks (is_takable k) known ms)
     by rest true = ap (λ zs. m ∷ zs) (rest (known ++ m.name.text ∷ []))
     by rest false = rest known
 
@@ -175,7 +175,7 @@ named_any : (x : Text) (ms : List t.Method) → has_named any_method x ms ≡ is
 named_any x [] = refl
 named_any x (m ∷ ms) = ap (λ b. b || has_named any_method x ms) (and_true (bytes_eq x m.name.text)) ∙ ap (λ b. bytes_eq x m.name.text || b) (named_any x ms)
 
-pub count_taken_over : (k : EntityKind) (known names : List Text) (ms : List t.Method) → Differ names → Covered names ms → length (taken k known ms) ≡ count_by (λ x. takes k x ms && not (is_among x known)) names
+pub count_taken_over : (k : EntityKind) (known names : List Text) (ms : List t.Method) → Differ names → Covered names ms → length (methods_taken_over k known ms) ≡ count_by (λ x. takes k x ms && not (is_among x known)) names
 count_taken_over k known names ms d c = ap length (taken_picks k known ms) ∙ count_picks (is_takable k) names d known ms c
 
 pub count_firsts : (names : List Text) (ms : List t.Method) → Differ names → Covered names ms → length (firsts [] ms) ≡ count_by (λ x. is_among x (method_texts ms)) names

@@ -6,7 +6,7 @@ use Rattle.pc_tree.specs.Tree as t
 use Rattle.pc_lists.specs.Texts.{Text}
 use Rattle.pc_members.specs.Words.{field_texts, method_texts, has_added}
 use Rattle.pc_members.specs.Tables.{with_names}
-use Rattle.pc_members.specs.Edges.{numbers_of}
+use Rattle.pc_members.specs.Edges.{entity_numbers}
 use Rattle.pc_members.specs.Members.{added_text}
 use Rattle.pc_member_counts.specs.declared.listing.Listing.{Listing}
 
@@ -25,4 +25,4 @@ numbers_in names xs = map (number_in names) xs
 -- The names of an entity by their numbers: its methods; its fields and an added `create`; and what its `is` list names.
 -- The first list has the names.
 abbrev pub listing : List Text → List Text → t.Entity → Listing
-listing entities names e = record { methods = numbers_in names (method_texts e.methods); others = numbers_in names (field_texts e.fields) ++ numbers_in names (added_text (has_added e)); targets = numbers_of entities e.provides }
+listing entities names e = record { methods = numbers_in names (method_texts e.methods); others = numbers_in names (field_texts e.fields) ++ numbers_in names (added_text (has_added e)); targets = entity_numbers entities e.provides }

@@ -1,7 +1,7 @@
 //! How many members each entity of a file has.
 ghost use Rattle.std.specs.Prelude.{◌≡◌, ◌<◌, ◌≤◌, ◌+◌, ◌^◌, map, length, take, replicate, All, IfOk};
 ghost use Rattle.pc_tree.specs.View.{entity_view, file_view};
-ghost use Rattle.pc_members.specs.Chains.{Closes};
+ghost use Rattle.pc_members.specs.Chains.{IsTransitiveClosure};
 ghost use Rattle.pc_members.specs.Founded.{IsFounded};
 ghost use Rattle.pc_members.specs.MemberLists.{members};
 ghost use Rattle.pc_members.specs.Words.{entity_names};
@@ -95,7 +95,7 @@ pub fn count_members(
     file: &File,
 ) -> Result<List<usize>, AllocError>
     requires names { entities.now ≡ entity_names (file_view file.now) }
-    requires closes { Closes (file_view file.now) above.now }
+    requires closes { IsTransitiveClosure (file_view file.now) above.now }
     requires founded { IsFounded (file_view file.now) }
     ensures { IfOk result (λ l. l ≡ map (λ e. length (members (file_view file.now).entities e)) (file_view file.now).entities) }
 {

@@ -6,13 +6,13 @@ use Rattle.std.proofs.lemmas.Option.{same_Some, none-some}
 use Rattle.std.proofs.lemmas.List.{length-map}
 use Rattle.std.proofs.lemmas.List.Quantifiers.{position-Some}
 use Rattle.pc_lists.specs.Places.{Has, IsIn}
-use Rattle.pc_tree.specs.declared.names.Name.{Name}
+use Rattle.pc_tree.specs.declared.written_names.Name.{Name}
 use Rattle.pc_tree.specs.Tree as t
 use Rattle.pc_lists.specs.Texts.{Text}
 use Rattle.pc_members.specs.Words.{entity_names, or_nil}
-use Rattle.pc_members.specs.Reach.{next, Chain, link, links, reached, ascending, above_all}
-use Rattle.pc_members.specs.Chains.{Names, Leads, one, more, IsAbove, Closes}
-use Rattle.pc_members.specs.Edges.{numbers_of, own_edges, edges_of}
+use Rattle.pc_members.specs.Reach.{edges_from, EdgePath, link, links, reached, ascending, above_all}
+use Rattle.pc_members.specs.Chains.{ProvidesInFile, LeadsInFile, one, more, IsAbove, IsTransitiveClosure}
+use Rattle.pc_members.specs.Edges.{entity_numbers, own_edges, edges_of}
 use Rattle.pc_tree.specs.BuiltIn.{first_own}
 use Rattle.pc_members.proofs.Reached.{Within, above_length, above_get, ascending_ascends, listed_led, led_listed}
 
@@ -25,20 +25,20 @@ NamedIn names ns b = (n : Name) × Has ns n × (position (bytes_eq n.text) names
 named_on : (names : List Text) (m : Name) (ns : List Name) (b : ℕ) → NamedIn names ns b → NamedIn names (m ∷ ns) b
 named_on names m ns b x = (x.0, (suc x.1.0, x.1.1), x.2)
 
-pub numbers_only : (names : List Text) (ns : List Name) (b : ℕ) → IsIn b (numbers_of names ns) → NamedIn names ns b
+pub numbers_only : (names : List Text) (ns : List Name) (b : ℕ) → IsIn b (entity_numbers names ns) → NamedIn names ns b
 numbers_only names [] b h = absurd h
 numbers_only names (n ∷ ns) b h = by (λ i. named_on names n ns b (numbers_only names ns b i)) (position (bytes_eq n.text) names) refl h
   where
-    by : (IsIn b (numbers_of names ns) → NamedIn names (n ∷ ns) b) → (o : Option ℕ) → position (bytes_eq n.text) names ≡ o → IsIn b (option_to_list o ++ numbers_of names ns) → NamedIn names (n ∷ ns) b
+    by : (IsIn b (entity_numbers names ns) → NamedIn names (n ∷ ns) b) → (o : Option ℕ) → position (bytes_eq n.text) names ≡ o → IsIn b (option_to_list o ++ entity_numbers names ns) → NamedIn names (n ∷ ns) b
     by rec None e i = rec i
     by rec (Some x) e i = ⊎_elim (λ s. (n, (0, refl), e ∙ ap (λ y. Some y) (sym s))) rec i
 
-pub numbers_all : (names : List Text) (ns : List Name) (n : Name) (b i : ℕ) → slice_get ns i ≡ Some n → position (bytes_eq n.text) names ≡ Some b → IsIn b (numbers_of names ns)
+pub numbers_all : (names : List Text) (ns : List Name) (n : Name) (b i : ℕ) → slice_get ns i ≡ Some n → position (bytes_eq n.text) names ≡ Some b → IsIn b (entity_numbers names ns)
 numbers_all names [] n b i h e = absurd (none-some n h)
-numbers_all names (m ∷ ns) n b zero h e = subst (λ o. IsIn b (option_to_list o ++ numbers_of names ns)) (sym (ap (λ (k : Name). position (bytes_eq k.text) names) (same_Some _ _ h) ∙ e)) (inl refl)
+numbers_all names (m ∷ ns) n b zero h e = subst (λ o. IsIn b (option_to_list o ++ entity_numbers names ns)) (sym (ap (λ (k : Name). position (bytes_eq k.text) names) (same_Some _ _ h) ∙ e)) (inl refl)
 numbers_all names (m ∷ ns) n b (suc i) h e = by (numbers_all names ns n b i h e) (position (bytes_eq m.text) names)
   where
-    by : IsIn b (numbers_of names ns) → (o : Option ℕ) → IsIn b (option_to_list o ++ numbers_of names ns)
+    by : IsIn b (entity_numbers names ns) → (o : Option ℕ) → IsIn b (option_to_list o ++ entity_numbers names ns)
     by rec None = rec
     by rec (Some x) = inr rec
 
@@ -54,7 +54,7 @@ own_only names (e ∷ es) (suc i) b h = own_only names es i b h
 
 own_all : (names : List Text) (es : List t.Entity) (i b : ℕ) → Own names es i b → IsIn b (or_nil (slice_get (own_edges names es) i))
 own_all names [] i b x = absurd (none-some (Some x.0) x.1)
-own_all names (e ∷ es) zero b x = subst (λ (d : t.Entity). IsIn b (numbers_of names d.provides)) (sym (same_Some _ _ (same_Some _ _ x.1))) (numbers_all names x.0.provides x.2.0 b x.2.1.0 x.2.1.1 x.2.2)
+own_all names (e ∷ es) zero b x = subst (λ (d : t.Entity). IsIn b (entity_numbers names d.provides)) (sym (same_Some _ _ (same_Some _ _ x.1))) (numbers_all names x.0.provides x.2.0 b x.2.1.0 x.2.1.1 x.2.2)
 own_all names (e ∷ es) (suc i) b x = own_all names es i b x
 
 own_length : (names : List Text) (es : List t.Entity) → length (own_edges names es) ≡ length es
@@ -69,7 +69,7 @@ nobody = None
 pub no_entity : {T : Type 0} (e : t.Entity) → Some nobody ≡ Some (Some e) → T
 no_entity e h = absurd (none-some e (same_Some _ _ h))
 
-edge_names : (file : t.File) (a b : ℕ) → IsIn b (next (edges_of file) a) → Names file a b
+edge_names : (file : t.File) (a b : ℕ) → IsIn b (edges_from (edges_of file) a) → ProvidesInFile file a b
 edge_names file zero b h = absurd h
 edge_names file (suc zero) b h = absurd h
 edge_names file (suc (suc zero)) b h = absurd h
@@ -78,7 +78,7 @@ edge_names file (suc (suc (suc (suc zero)))) b h = absurd h
 edge_names file (suc (suc (suc (suc (suc zero))))) b h = absurd h
 edge_names file (suc (suc (suc (suc (suc (suc a)))))) b h = own_only (entity_names file) file.entities a b h
 
-names_edge : (file : t.File) (a b : ℕ) → Names file a b → IsIn b (next (edges_of file) a)
+names_edge : (file : t.File) (a b : ℕ) → ProvidesInFile file a b → IsIn b (edges_from (edges_of file) a)
 names_edge file zero b x = no_entity x.0 x.1
 names_edge file (suc zero) b x = no_entity x.0 x.1
 names_edge file (suc (suc zero)) b x = no_entity x.0 x.1
@@ -101,11 +101,11 @@ edges_within file a b h =
 
 -- ---- chains
 
-chain_leads : (file : t.File) {a b : ℕ} → Chain (edges_of file) a b → Leads file a b
+chain_leads : (file : t.File) {a b : ℕ} → EdgePath (edges_of file) a b → LeadsInFile file a b
 chain_leads file {a} {b} (link h) = one (edge_names file a b h)
 chain_leads file {a} (links {b = d} h r) = more (edge_names file a d h) (chain_leads file r)
 
-leads_chain : (file : t.File) {a b : ℕ} → Leads file a b → Chain (edges_of file) a b
+leads_chain : (file : t.File) {a b : ℕ} → LeadsInFile file a b → EdgePath (edges_of file) a b
 leads_chain file {a} {b} (one h) = link (names_edge file a b h)
 leads_chain file {a} (more {b = d} h r) = links (names_edge file a d h) (leads_chain file r)
 
@@ -115,7 +115,7 @@ is_above file a =
     (ascending_ascends (reached e a) (length e) 0, λ b. (λ h. chain_leads file (listed_led e a b h), λ l. led_listed e a b (edges_within file) (leads_chain file l)))
 
 -- The lists that are computed are those of the file.
-pub closes : (file : t.File) → Closes file (above_all (edges_of file))
+pub closes : (file : t.File) → IsTransitiveClosure file (above_all (edges_of file))
 closes file =
     let e = edges_of file in
     (above_length e (length e) 0 ∙ edges_length file, λ a l h. subst (λ x. IsAbove file a x) (sym (above_get e (length e) 0 a l h ∙ ap (λ x. ascending (reached e x) 0 (length e)) (let z : 0 + a ≡ a = omega arith in z))) (is_above file a))

@@ -8,10 +8,10 @@ use Rattle.pc_tree.specs.Tree as t
 use Rattle.pc_lists.specs.Texts.{Text}
 use Rattle.pc_members.specs.Words.{is_among, entity_names, has_added}
 use Rattle.pc_members.specs.Tables.{with_name, with_names}
-use Rattle.pc_members.specs.Chains.{Closes}
+use Rattle.pc_members.specs.Chains.{IsTransitiveClosure}
 use Rattle.pc_members.specs.Founded.{IsFounded}
-use Rattle.pc_members.specs.Members.{Member, written, without_body, is_takable, own_texts, added_if, or_none}
-use Rattle.pc_members.specs.MemberLists.{taken, of_each, abstract_methods, members, abstract_members, concrete_members}
+use Rattle.pc_members.specs.Members.{Member, written, without_body, is_takable, own_texts, added_if, or_no_members}
+use Rattle.pc_members.specs.MemberLists.{methods_taken_over, of_each, abstract_methods, members, abstract_members, concrete_members}
 use Rattle.pc_members.specs.Rounds.{ClosesOwn, Knows, methods_written, bodiless, taken_members, completed, completed_from, concrete, own_members, named_all}
 use Rattle.pc_members.proofs.Differences.{equal_texts}
 use Rattle.pc_members.proofs.Ranks.{all_named}
@@ -65,22 +65,25 @@ names_known names (y ∷ xs) x =
 
 -- ---- what is taken over
 
-pub taken_known : (k : EntityKind) (known next : List Text) (ms : List t.Method) → SameTexts known next → taken k known ms ≡ taken k next ms
+pub taken_known : (k : EntityKind) (known next : List Text) (ms : List t.Method) → SameTexts known next
+    → methods_taken_over k known ms ≡ methods_taken_over k next ms
 taken_known k known next [] s = refl
 taken_known k known next (m ∷ ms) s =
     by (is_takable k m && not (is_among m.name.text next)) (λ a b h. taken_known k a b ms h) (ap (λ b. is_takable k m && not b) (s m.name.text))
   where
-    by : (b : Bool) → ((xs ys : List Text) → SameTexts xs ys → taken k xs ms ≡ taken k ys ms) → (is_takable k m && not (is_among m.name.text known)) ≡ b
-        → (if is_takable k m && not (is_among m.name.text known) then m ∷ taken k (known ++ m.name.text ∷ []) ms else taken k known ms) ≡ (if b then m ∷ taken k (next ++ m.name.text ∷ []) ms else taken k next ms)
-    by true rest e = ap (λ b. if b then m ∷ taken k (known ++ m.name.text ∷ []) ms else taken k known ms) e ∙ ap (λ xs. m ∷ xs) (rest (known ++ m.name.text ∷ []) (next ++ m.name.text ∷ []) (same_push known next m.name.text s))
-    by false rest e = ap (λ b. if b then m ∷ taken k (known ++ m.name.text ∷ []) ms else taken k known ms) e ∙ rest known next s
+    by : (b : Bool) → ((xs ys : List Text) → SameTexts xs ys → methods_taken_over k xs ms ≡ methods_taken_over k ys ms) → (is_takable k m && not (is_among m.name.text known)) ≡ b
+        → (if is_takable k m && not (is_among m.name.text known) then m ∷ methods_taken_over k (known ++ m.name.text ∷ []) ms else methods_taken_over k known ms) ≡ (if b then m ∷ methods_taken_over k (next ++ m.name.text ∷ []) ms else methods_taken_over k next ms)
+    by true rest e = ap (λ b. if b then m ∷ methods_taken_over k (known ++ m.name.text ∷ []) ms else methods_taken_over k known ms) e ∙ ap (λ xs. m ∷ xs) (rest (known ++ m.name.text ∷ []) (next ++ m.name.text ∷ []) (same_push known next m.name.text s))
+    by false rest e = ap (λ b. if b then m ∷ methods_taken_over k (known ++ m.name.text ∷ []) ms else methods_taken_over k known ms) e
+        ∙ rest known next s
 
-pub taken_written : (k : EntityKind) (known : List Text) (ms : List t.Method) → taken_members k known (map written ms) ≡ map written (taken k known ms)
+pub taken_written : (k : EntityKind) (known : List Text) (ms : List t.Method)
+    → taken_members k known (map written ms) ≡ map written (methods_taken_over k known ms)
 taken_written k known [] = refl
 taken_written k known (m ∷ ms) = by (λ ks. taken_written k ks ms) (is_takable k m && not (is_among m.name.text known))
   where
-    by : ((ks : List Text) → taken_members k ks (map written ms) ≡ map written (taken k ks ms)) → (b : Bool)
-        → (if b then written m ∷ taken_members k (known ++ m.name.text ∷ []) (map written ms) else taken_members k known (map written ms)) ≡ map written (if b then m ∷ taken k (known ++ m.name.text ∷ []) ms else taken k known ms)
+    by : ((ks : List Text) → taken_members k ks (map written ms) ≡ map written (methods_taken_over k ks ms)) → (b : Bool)
+        → (if b then written m ∷ taken_members k (known ++ m.name.text ∷ []) (map written ms) else taken_members k known (map written ms)) ≡ map written (if b then m ∷ methods_taken_over k (known ++ m.name.text ∷ []) ms else methods_taken_over k known ms)
     by rest true = ap (λ xs. written m ∷ xs) (rest (known ++ m.name.text ∷ []))
     by rest false = rest known
 
@@ -93,21 +96,22 @@ bodiless_all (m ∷ ms) = ap (λ xs. written (without_body m) ∷ xs) (bodiless_
 abbrev pub HasMethods : t.File → List (List Member) → Type 0
 HasMethods file table = (j : ℕ) (e : t.Entity) → slice_get file.entities j ≡ Some e → is_abstract e.kind ≡ true → slice_get table j ≡ Some (methods_written file e)
 
-abstract_is : (file : t.File) (table : List (List Member)) (i : ℕ) (e : t.Entity) → HasMethods file table → slice_get file.entities i ≡ Some e → is_abstract e.kind ≡ true → map bodiless (or_none (slice_get table i)) ≡ abstract_members file.entities e
-abstract_is file table i e has h is = ap (λ o. map bodiless (or_none o)) (has i e h is) ∙ bodiless_all (abstract_methods file.entities e)
+abstract_is : (file : t.File) (table : List (List Member)) (i : ℕ) (e : t.Entity) → HasMethods file table → slice_get file.entities i ≡ Some e → is_abstract e.kind ≡ true → map bodiless (or_no_members (slice_get table i)) ≡ abstract_members file.entities e
+abstract_is file table i e has h is = ap (λ o. map bodiless (or_no_members o)) (has i e h is) ∙ bodiless_all (abstract_methods file.entities e)
 
-concrete_is : (file : t.File) (above : List (List ℕ)) → IsFounded file → Closes file above → (table : List (List Member)) (i : ℕ) (e : t.Entity) → HasMethods file table → slice_get file.entities i ≡ Some e → concrete (entity_names file) table e ≡ concrete_members file.entities e
+concrete_is : (file : t.File) (above : List (List ℕ)) → IsFounded file → IsTransitiveClosure file above → (table : List (List Member)) (i : ℕ) (e : t.Entity) → HasMethods file table → slice_get file.entities i ≡ Some e → concrete (entity_names file) table e ≡ concrete_members file.entities e
 concrete_is file above founded closed table i e has h =
     let ms : List t.Method = of_each (abstract_methods file.entities) file.entities e.provides in
     let known : List Text = with_names [] (own_texts e) in
-    let these : taken_members e.kind known (named_all (entity_names file) table e.provides) ≡ map written (taken e.kind (own_texts e) ms) =
+    let these : taken_members e.kind known (named_all (entity_names file) table e.provides) ≡ map written (methods_taken_over e.kind (own_texts e) ms) =
     ap (taken_members e.kind known) (all_named file above founded closed table i e h has) ∙ taken_written e.kind known ms ∙ ap (map written) (taken_known e.kind known (own_texts e) ms (names_known [] (own_texts e))) in
-    ap (λ xs. own_members e ++ xs) these ∙ append_assoc (map written e.methods) (added_if (has_added e)) (map written (taken e.kind (own_texts e) ms))
+    ap (λ xs. own_members e ++ xs) these
+        ∙ append_assoc (map written e.methods) (added_if (has_added e)) (map written (methods_taken_over e.kind (own_texts e) ms))
 
-completed_is : (file : t.File) (above : List (List ℕ)) → IsFounded file → Closes file above → (table : List (List Member)) (i : ℕ) (e : t.Entity) → HasMethods file table → slice_get file.entities i ≡ Some e → completed (entity_names file) table i e ≡ members file.entities e
+completed_is : (file : t.File) (above : List (List ℕ)) → IsFounded file → IsTransitiveClosure file above → (table : List (List Member)) (i : ℕ) (e : t.Entity) → HasMethods file table → slice_get file.entities i ≡ Some e → completed (entity_names file) table i e ≡ members file.entities e
 completed_is file above founded closed table i e has h = by (is_abstract e.kind) refl
   where
-    by : (b : Bool) → is_abstract e.kind ≡ b → (if b then map bodiless (or_none (slice_get table i)) else concrete (entity_names file) table e) ≡ (if b then abstract_members file.entities e else concrete_members file.entities e)
+    by : (b : Bool) → is_abstract e.kind ≡ b → (if b then map bodiless (or_no_members (slice_get table i)) else concrete (entity_names file) table e) ≡ (if b then abstract_members file.entities e else concrete_members file.entities e)
     by true is = abstract_is file table i e has h is
     by false is = concrete_is file above founded closed table i e has h
 

@@ -1,12 +1,12 @@
 -- The first member with each name, and what is taken over, part by part.
 use Rattle.std.proofs.Common.{◌≡◌, List, [], ◌∷◌, ◌++◌, Bool, true, false, refl, sym, ap, ◌∙◌, append_assoc, if◌then◌else◌}
 use Rattle.pc_tree.specs.declared.kinds.EntityKind.{EntityKind}
-use Rattle.pc_tree.specs.declared.names.Name.{Name}
+use Rattle.pc_tree.specs.declared.written_names.Name.{Name}
 use Rattle.pc_lists.specs.Texts.{Text}
 use Rattle.pc_members.specs.Words.{is_among}
 use Rattle.pc_members.specs.Tables.{find_name, with_names}
 use Rattle.pc_members.specs.Members.{Member, member_text}
-use Rattle.pc_members.specs.Rounds.{first_members, member_texts, taken_members, with_taken, is_taken, named_all, named_at}
+use Rattle.pc_members.specs.Rounds.{first_members, member_texts, taken_members, with_taken, is_taken, named_all, table_members}
 
 -- First those of the one list, then those of the other whose names are new.
 pub first_parts : (known : List Text) (xs ys : List Member) → first_members known (xs ++ ys) ≡ first_members known xs ++ first_members (with_names known (member_texts xs)) ys
@@ -21,9 +21,9 @@ first_parts known (m ∷ xs) ys = by (λ k. first_parts k xs ys) (is_among (memb
 
 -- One more name.
 pub first_turn : (entities known next : List Text) (table : List (List Member)) (ns rest : List Name) (x : Name) (whole old new : List Member) → ns ≡ x ∷ rest → whole ≡ old ++ first_members known (named_all entities table ns)
-    → new ≡ old ++ first_members known (named_at table (find_name entities x.text)) → next ≡ with_names known (member_texts (named_at table (find_name entities x.text))) → whole ≡ new ++ first_members next (named_all entities table rest)
+    → new ≡ old ++ first_members known (table_members table (find_name entities x.text)) → next ≡ with_names known (member_texts (table_members table (find_name entities x.text))) → whole ≡ new ++ first_members next (named_all entities table rest)
 first_turn entities known next table ns rest x whole old new e w n k =
-    let here : List Member = named_at table (find_name entities x.text) in
+    let here : List Member = table_members table (find_name entities x.text) in
     let more : List Member = named_all entities table rest in
     w ∙ ap (λ ms. old ++ first_members known (named_all entities table ms)) e
     ∙ ap (λ ms. old ++ ms) (first_parts known here more)
@@ -46,9 +46,9 @@ taken_parts k known (m ∷ xs) ys = by (λ ks. taken_parts k ks xs ys) (is_taken
 
 -- One more name.
 pub taken_turn : (k : EntityKind) (entities known next : List Text) (table : List (List Member)) (ns rest : List Name) (x : Name) (whole old new : List Member) → ns ≡ x ∷ rest → whole ≡ old ++ taken_members k known (named_all entities table ns)
-    → new ≡ old ++ taken_members k known (named_at table (find_name entities x.text)) → next ≡ with_taken k known (named_at table (find_name entities x.text)) → whole ≡ new ++ taken_members k next (named_all entities table rest)
+    → new ≡ old ++ taken_members k known (table_members table (find_name entities x.text)) → next ≡ with_taken k known (table_members table (find_name entities x.text)) → whole ≡ new ++ taken_members k next (named_all entities table rest)
 taken_turn k entities known next table ns rest x whole old new e w n s =
-    let here : List Member = named_at table (find_name entities x.text) in
+    let here : List Member = table_members table (find_name entities x.text) in
     let more : List Member = named_all entities table rest in
     w ∙ ap (λ ms. old ++ taken_members k known (named_all entities table ms)) e
     ∙ ap (λ ms. old ++ ms) (taken_parts k known here more)

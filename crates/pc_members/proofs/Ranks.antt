@@ -10,24 +10,24 @@ use Rattle.std.proofs.lemmas.List.Quantifiers.{position-Some}
 use Rattle.std.proofs.lemmas.Iterator.Adapters.{position_from-zero}
 use Rattle.indexmap.proofs.IndexTableLemmas.Probe.{pigeonhole}
 use Rattle.pc_lists.proofs.Gets.{get_below, get_within, get_append, get_map, map_get}
-use Rattle.pc_tree.specs.declared.names.Name.{Name}
+use Rattle.pc_tree.specs.declared.written_names.Name.{Name}
 use Rattle.pc_tree.specs.Kinds.{is_abstract}
 use Rattle.pc_tree.specs.Tree as t
 use Rattle.pc_lists.specs.Places.{Has, Differ, Ascends}
 use Rattle.pc_lists.specs.Texts.{Text}
 use Rattle.pc_members.specs.Words.{is_among, built_in_names, texts_of, entity_names, or_nil}
 use Rattle.pc_members.specs.Tables.{find_name}
-use Rattle.pc_members.specs.Chains.{entity_at, Names, Leads, one, more, IsAbove, Closes}
+use Rattle.pc_members.specs.Chains.{entity_at, ProvidesInFile, LeadsInFile, one, more, IsAbove, IsTransitiveClosure}
 use Rattle.pc_members.specs.Founded.{IsFounded}
 use Rattle.pc_tree.specs.BuiltIn.{first_own}
 use Rattle.pc_members.proofs.Differences.{same_text, equal_texts}
 use Rattle.pc_lists.proofs.Bools.{true_false}
 use Rattle.pc_members.proofs.Closings.{nobody, no_entity}
-use Rattle.pc_members.specs.Members.{Member, written, or_none}
+use Rattle.pc_members.specs.Members.{Member, written, or_no_members}
 use Rattle.pc_members.specs.MemberLists.{firsts, entity_named, of_entity, of_each, trait_methods, abstract_methods}
 use Rattle.pc_lists.proofs.Elements.{has_on}
 use Rattle.pc_members.proofs.Named.{named_is, one_entity, is_trait_named}
-use Rattle.pc_members.specs.Rounds.{first_members, named_all, named_at, gathered, methods_written}
+use Rattle.pc_members.specs.Rounds.{first_members, named_all, table_members, gathered, methods_written}
 
 -- ---- lists without equal elements
 
@@ -143,7 +143,7 @@ pub record Target (file : t.File) (n : Name) : Type 0 where
   pub number : find_name (entity_names file) n.text ≡ Some (first_own + place)
   pub named : entity_named file.entities n.text ≡ Some entity
 
-module _ (file : t.File) (above : List (List ℕ)) (founded : IsFounded file) (closed : Closes file above) where
+module _ (file : t.File) (above : List (List ℕ)) (founded : IsFounded file) (closed : IsTransitiveClosure file above) where
   pub target : (e : t.Entity) (n : Name) → Has file.entities e → Has e.provides n → Target file n
   target e n he hn =
       let r = is_trait_named file.entities n.text (founded.provides e n he hn) in
@@ -160,7 +160,7 @@ module _ (file : t.File) (above : List (List ℕ)) (founded : IsFounded file) (c
       }
 
   -- What a chain leads to is an entity of the file.
-  led_place : {a b : ℕ} → Leads file a b → (j : ℕ) × (b ≡ first_own + j) × (j < length file.entities)
+  led_place : {a b : ℕ} → LeadsInFile file a b → (j : ℕ) × (b ≡ first_own + j) × (j < length file.entities)
   led_place {a} {b} (one h) =
       let q = target h.0 h.2.0 (at_number file a h.0 h.1) h.2.1 in
       (q.place, sym (same_Some _ _ (sym q.number ∙ h.2.2)), get_below file.entities q.place q.entity q.is_entity)
@@ -181,7 +181,7 @@ module _ (file : t.File) (above : List (List ℕ)) (founded : IsFounded file) (c
   with_itself : (i : ℕ) (e : t.Entity) (q : Listed i) → slice_get file.entities i ≡ Some e → is_abstract e.kind ≡ true → Differ ((first_own + i) ∷ q.list)
   with_itself i e q h is = with_one (first_own + i) q.list (ascends_differ q.list q.is_above.0) (λ b. founded.straight (first_own + i) (e, number_at file i e h, is, (q.is_above.1 (first_own + i)).0 b))
 
-  pub rank_less : (i j : ℕ) (e f : t.Entity) → slice_get file.entities i ≡ Some e → slice_get file.entities j ≡ Some f → is_abstract f.kind ≡ true → Names file (first_own + i) (first_own + j) → rank_at above j < rank_at above i
+  pub rank_less : (i j : ℕ) (e f : t.Entity) → slice_get file.entities i ≡ Some e → slice_get file.entities j ≡ Some f → is_abstract f.kind ≡ true → ProvidesInFile file (first_own + i) (first_own + j) → rank_at above j < rank_at above i
   rank_less i j e f he hf is n =
       let p = listed i (get_below file.entities i e he) in
       let q = listed j (get_below file.entities j f hf) in
@@ -208,7 +208,7 @@ module _ (file : t.File) (above : List (List ℕ)) (founded : IsFounded file) (c
   each_same f g [] h = refl
   each_same f g (n ∷ ns) h = rw (h n (0, refl), each_same f g ns (λ m k. h m (has_on n ns m k))) refl
 
-  pub named_by : (i : ℕ) (e : t.Entity) (n : Name) (q : Target file n) → slice_get file.entities i ≡ Some e → Has e.provides n → Names file (first_own + i) (first_own + q.place)
+  pub named_by : (i : ℕ) (e : t.Entity) (n : Name) (q : Target file n) → slice_get file.entities i ≡ Some e → Has e.provides n → ProvidesInFile file (first_own + i) (first_own + q.place)
   named_by i e n q h hn = (e, number_at file i e h, (n, hn, q.number))
 
   -- For chains at least as long as the rank, nothing more is found.
@@ -243,8 +243,8 @@ module _ (file : t.File) (above : List (List ℕ)) (founded : IsFounded file) (c
       let r = h n (0, refl) in
       let q = r.0 in
       let back : first_own + q.place - first_own ≡ q.place = omega arith in
-      let here : named_at table (find_name (entity_names file) n.text) ≡ map written (of_entity (abstract_methods file.entities) (entity_named file.entities n.text)) =
-      ap (named_at table) q.number ∙ ap (λ i. or_none (slice_get table i)) back ∙ ap or_none r.1 ∙ ap (λ o. map written (of_entity (abstract_methods file.entities) o)) (sym q.named) in
+      let here : table_members table (find_name (entity_names file) n.text) ≡ map written (of_entity (abstract_methods file.entities) (entity_named file.entities n.text)) =
+      ap (table_members table) q.number ∙ ap (λ i. or_no_members (slice_get table i)) back ∙ ap or_no_members r.1 ∙ ap (λ o. map written (of_entity (abstract_methods file.entities) o)) (sym q.named) in
       rw (here, named_written table ns (λ m k. h m (has_on n ns m k))) (sym (map-append written (of_entity (abstract_methods file.entities) (entity_named file.entities n.text)) (of_each (abstract_methods file.entities) file.entities ns)))
 
   -- The methods of a trait, from a table with those of the traits with fewer entities above them.

@@ -1,7 +1,7 @@
 -- Chains of `is`, from an entity to the traits and interfaces that it provides.
 use Rattle.std.specs.Prelude.{◌≡◌, ◌↔◌, ℕ, ◌+◌, true, List, ◌++◌, map, length, Some, None, slice_get, replicate}
 use Rattle.pc_lists.specs.Places.{Each, Has, Ascends}
-use Rattle.pc_tree.specs.declared.names.Name.{Name}
+use Rattle.pc_tree.specs.declared.written_names.Name.{Name}
 use Rattle.pc_tree.specs.Kinds.{is_abstract}
 use Rattle.pc_tree.specs.Tree as t
 use Rattle.pc_members.specs.Words.{entity_of}
@@ -12,21 +12,21 @@ abbrev pub entity_at : t.File → ℕ → t.Entity → Type 0
 entity_at file a e = slice_get (replicate first_own None ++ map Some file.entities) a ≡ Some (Some e)
 
 -- The `is` list of entity a names entity b.
-abbrev pub Names : t.File → (entity above : ℕ) → Type 0
-Names file a b = (e : t.Entity) × entity_at file a e × ((n : Name) × Has e.provides n × (entity_of file n.text ≡ Some b))
+abbrev pub ProvidesInFile : t.File → (entity above : ℕ) → Type 0
+ProvidesInFile file a b = (e : t.Entity) × entity_at file a e × ((n : Name) × Has e.provides n × (entity_of file n.text ≡ Some b))
 
 -- A chain of one or more `is` leads from one entity to another.
-pub data Leads (file : t.File) : (entity above : ℕ) → Type 0 where
-  one : {a b : ℕ} → Names file a b → Leads file a b
-  more : {a b c : ℕ} → Names file a b → Leads file b c → Leads file a c
+pub data LeadsInFile (file : t.File) : (entity above : ℕ) → Type 0 where
+  one : {a b : ℕ} → ProvidesInFile file a b → LeadsInFile file a b
+  more : {a b c : ℕ} → ProvidesInFile file a b → LeadsInFile file b c → LeadsInFile file a c
 
 -- Entity number a, a trait or an interface, leads back to itself.
 abbrev pub InCycle : t.File → ℕ → Type 0
-InCycle file a = (e : t.Entity) × entity_at file a e × (is_abstract e.kind ≡ true) × Leads file a a
+InCycle file a = (e : t.Entity) × entity_at file a e × (is_abstract e.kind ≡ true) × LeadsInFile file a a
 
 -- For each entity, the entities above it: each once, in ascending order.
 abbrev pub IsAbove : t.File → ℕ → List ℕ → Type 0
-IsAbove file a above = Ascends above × ((b : ℕ) → Has above b ↔ Leads file a b)
+IsAbove file a above = Ascends above × ((b : ℕ) → Has above b ↔ LeadsInFile file a b)
 
-abbrev pub Closes : t.File → List (List ℕ) → Type 0
-Closes file lists = (length lists ≡ first_own + length file.entities) × Each (λ a above. IsAbove file a above) lists
+abbrev pub IsTransitiveClosure : t.File → List (List ℕ) → Type 0
+IsTransitiveClosure file lists = (length lists ≡ first_own + length file.entities) × Each (λ a above. IsAbove file a above) lists

@@ -1,7 +1,7 @@
 -- When the `is` lists of a file are right.
 use Rattle.std.specs.Prelude.{ℕ}
 use Rattle.pc_lists.specs.Places.{Has, Differ}
-use Rattle.pc_tree.specs.declared.names.Name.{Name}
+use Rattle.pc_tree.specs.declared.written_names.Name.{Name}
 use Rattle.pc_tree.specs.Tree as t
 use Rattle.pc_members.specs.Words.{entity_names}
 use Rattle.pc_members.specs.Tables.{trait_names}

@@ -2,7 +2,7 @@
 use Rattle.std.specs.Prelude.{ℕ, zero, suc, ◌&&◌, not, List, [], ◌∷◌, ◌++◌, map, length, Option, Some, None, if◌then◌else◌}
 use Rattle.std.specs.Str.{bytes_eq}
 use Rattle.pc_tree.specs.declared.kinds.EntityKind.{EntityKind}
-use Rattle.pc_tree.specs.declared.names.Name.{Name}
+use Rattle.pc_tree.specs.declared.written_names.Name.{Name}
 use Rattle.pc_tree.specs.Kinds.{is_abstract}
 use Rattle.pc_tree.specs.Tree as t
 use Rattle.pc_lists.specs.Texts.{Text}
@@ -38,13 +38,14 @@ abbrev pub abstract_methods : List t.Entity → t.Entity → List t.Method
 abstract_methods all e = trait_methods (length all) all e
 
 -- Those of these methods that it takes over: the first with each name that is not in `known`.
-abbrev pub taken : EntityKind → List Text → List t.Method → List t.Method
-taken k known [] = []
-taken k known (m ∷ ms) = if is_takable k m && not (is_among m.name.text known) then m ∷ taken k (known ++ m.name.text ∷ []) ms else taken k known ms
+abbrev pub methods_taken_over : EntityKind → List Text → List t.Method → List t.Method
+methods_taken_over k known [] = []
+methods_taken_over k known (m ∷ ms) =
+    if is_takable k m && not (is_among m.name.text known) then m ∷ methods_taken_over k (known ++ m.name.text ∷ []) ms else methods_taken_over k known ms
 
 -- For each name of its `is` list in order, each method of that entity.
 abbrev pub taken_over : List t.Entity → t.Entity → List t.Method
-taken_over all e = taken e.kind (own_texts e) (of_each (abstract_methods all) all e.provides)
+taken_over all e = methods_taken_over e.kind (own_texts e) (of_each (abstract_methods all) all e.provides)
 
 -- ---- members
 

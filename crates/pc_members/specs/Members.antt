@@ -52,6 +52,6 @@ is_constructor (written m) = is_new m.word
 is_constructor added = true
 
 -- The members that a table has at a place, or none if it does not have the place.
-abbrev pub or_none : Option (List Member) → List Member
-or_none None = []
-or_none (Some ms) = ms
+abbrev pub or_no_members : Option (List Member) → List Member
+or_no_members None = []
+or_no_members (Some ms) = ms

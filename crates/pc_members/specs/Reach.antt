@@ -7,33 +7,33 @@ use Rattle.pc_members.specs.Words.{or_nil}
 abbrev pub Edges : Type 0
 Edges = List (List ℕ)
 
-abbrev pub next : Edges → ℕ → List ℕ
-next e a = or_nil (slice_get e a)
+abbrev pub edges_from : Edges → ℕ → List ℕ
+edges_from e a = or_nil (slice_get e a)
 
-abbrev pub has : List ℕ → ℕ → Bool
-has [] b = false
-has (x ∷ xs) b = if nat_eq b x then true else has xs b
+abbrev pub has_number : List ℕ → ℕ → Bool
+has_number [] b = false
+has_number (x ∷ xs) b = if nat_eq b x then true else has_number xs b
 
 -- A new number is appended.
-abbrev pub add : List ℕ → ℕ → List ℕ
-add found b = if has found b then found else found ++ b ∷ []
+abbrev pub added_last : List ℕ → ℕ → List ℕ
+added_last found b = if has_number found b then found else found ++ b ∷ []
 
 abbrev pub add_all : List ℕ → List ℕ → List ℕ
 add_all found [] = found
-add_all found (b ∷ bs) = add_all (add found b) bs
+add_all found (b ∷ bs) = add_all (added_last found b) bs
 
 -- From the number found at this place on, the targets of each number's edges are added. The counter bounds the
 -- recursion.
-abbrev pub turn : Option ℕ → List ℕ → (ℕ → List ℕ) → List ℕ
-turn None found go = found
-turn (Some a) found go = go a
+abbrev pub reach_turn : Option ℕ → List ℕ → (ℕ → List ℕ) → List ℕ
+reach_turn None found go = found
+reach_turn (Some a) found go = go a
 
 abbrev pub grow : ℕ → Edges → List ℕ → ℕ → List ℕ
 grow zero e found at = found
-grow (suc k) e found at = turn (slice_get found at) found (λ a. grow k e (add_all found (next e a)) (suc at))
+grow (suc k) e found at = reach_turn (slice_get found at) found (λ a. grow k e (add_all found (edges_from e a)) (suc at))
 
 abbrev pub reached_in : ℕ → Edges → ℕ → List ℕ
-reached_in k e a = grow k e (add_all [] (next e a)) 0
+reached_in k e a = grow k e (add_all [] (edges_from e a)) 0
 
 -- One step more than there are numbers is always enough.
 abbrev pub reached : Edges → ℕ → List ℕ
@@ -44,7 +44,7 @@ reached e a = reached_in (length e + 1) e a
 -- Those of the `count` numbers from `at` on that were found.
 abbrev pub ascending : (found : List ℕ) → (at count : ℕ) → List ℕ
 ascending found at zero = []
-ascending found at (suc k) = if has found at then at ∷ ascending found (suc at) k else ascending found (suc at) k
+ascending found at (suc k) = if has_number found at then at ∷ ascending found (suc at) k else ascending found (suc at) k
 
 -- For each number, what is reached from it, in ascending order.
 abbrev pub above_from : Edges → (first count : ℕ) → List (List ℕ)
@@ -57,6 +57,6 @@ above_all e = above_from e 0 (length e)
 -- ---- chains
 
 -- A chain of one or more edges leads from one number to another.
-pub data Chain (e : Edges) : (from to : ℕ) → Type 0 where
-  link : {a b : ℕ} → IsIn b (next e a) → Chain e a b
-  links : {a b c : ℕ} → IsIn b (next e a) → Chain e b c → Chain e a c
+pub data EdgePath (e : Edges) : (from to : ℕ) → Type 0 where
+  link : {a b : ℕ} → IsIn b (edges_from e a) → EdgePath e a b
+  links : {a b c : ℕ} → IsIn b (edges_from e a) → EdgePath e b c → EdgePath e a c

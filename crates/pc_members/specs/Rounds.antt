@@ -3,15 +3,15 @@
 -- ---- the methods of traits and interfaces
 use Rattle.std.specs.Prelude.{◌≡◌, ◌⊎◌, ◌&&◌, ◌<◌, Bool, true, false, not, ℕ, ◌-◌, ◌+◌, List, [], ◌∷◌, ◌++◌, map, drop, length, Option, Some, None, slice_get, if◌then◌else◌}
 use Rattle.pc_tree.specs.declared.kinds.EntityKind.{EntityKind}
-use Rattle.pc_tree.specs.declared.names.Name.{Name}
+use Rattle.pc_tree.specs.declared.written_names.Name.{Name}
 use Rattle.pc_tree.specs.Kinds.{is_abstract}
 use Rattle.pc_tree.specs.Tree as t
 use Rattle.pc_lists.specs.Texts.{Text}
 use Rattle.pc_members.specs.Words.{is_among, has_added, or_nil}
 use Rattle.pc_members.specs.Tables.{find_name, with_names}
-use Rattle.pc_members.specs.Chains.{Closes}
+use Rattle.pc_members.specs.Chains.{IsTransitiveClosure}
 use Rattle.pc_tree.specs.BuiltIn.{first_own}
-use Rattle.pc_members.specs.Members.{Member, member_text, written, added, without_body, is_takable, own_texts, added_if, or_none}
+use Rattle.pc_members.specs.Members.{Member, member_text, written, added, without_body, is_takable, own_texts, added_if, or_no_members}
 use Rattle.pc_members.specs.MemberLists.{abstract_methods}
 
 -- Of all members with the same name, the first. Members whose names are in `known` are left out.
@@ -24,20 +24,20 @@ member_texts ms = map member_text ms
 
 -- The members of the entities with these names. `entities` is the list of all entities' names, the built-in ones first,
 -- and `table` has the methods of the file's traits and interfaces.
-abbrev pub named_at : List (List Member) → Option ℕ → List Member
-named_at table None = []
-named_at table (Some n) = or_none (slice_get table (n - first_own))
+abbrev pub table_members : List (List Member) → Option ℕ → List Member
+table_members table None = []
+table_members table (Some n) = or_no_members (slice_get table (n - first_own))
 
 abbrev pub named_all : List Text → List (List Member) → List Name → List Member
 named_all entities table [] = []
-named_all entities table (n ∷ ns) = named_at table (find_name entities n.text) ++ named_all entities table ns
+named_all entities table (n ∷ ns) = table_members table (find_name entities n.text) ++ named_all entities table ns
 
 abbrev pub gathered : List Text → List (List Member) → t.Entity → List Member
 gathered entities table e = first_members [] (map written e.methods ++ named_all entities table e.provides)
 
 -- The lists of what is above the file's own entities, the first of which comes after the built-in ones.
 abbrev pub ClosesOwn : t.File → List (List ℕ) → Type 0
-ClosesOwn file own = (above : List (List ℕ)) × Closes file above × (own ≡ drop first_own above)
+ClosesOwn file own = (above : List (List ℕ)) × IsTransitiveClosure file above × (own ≡ drop first_own above)
 
 -- How many entities are above the one at this place of a file.
 abbrev pub rank : List (List ℕ) → ℕ → ℕ
@@ -87,7 +87,7 @@ abbrev pub concrete : List Text → List (List Member) → t.Entity → List Mem
 concrete entities table e = own_members e ++ taken_members e.kind (with_names [] (own_texts e)) (named_all entities table e.provides)
 
 abbrev pub completed : List Text → List (List Member) → ℕ → t.Entity → List Member
-completed entities table i e = if is_abstract e.kind then map bodiless (or_none (slice_get table i)) else concrete entities table e
+completed entities table i e = if is_abstract e.kind then map bodiless (or_no_members (slice_get table i)) else concrete entities table e
 
 -- The members of each of these entities, of which the first is at this place.
 abbrev pub completed_from : List Text → List (List Member) → ℕ → List t.Entity → List (List Member)

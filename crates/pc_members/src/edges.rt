@@ -16,7 +16,7 @@ pub fn number_names(
     entities: &NameTable,
     names: &[Name],
 ) -> Result<List<u32>, AllocError>
-    ensures { IfOk result (λ l. l ≡ spec.numbers_of entities.now names.now) }
+    ensures { IfOk result (λ l. l ≡ spec.entity_numbers entities.now names.now) }
 {
     let mut numbers = List::new(alloc);
     for name in names {

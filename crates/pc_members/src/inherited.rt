@@ -1,11 +1,11 @@
 //! The members of each entity of a file, including what it takes over.
 ghost use Rattle.std.specs.Prelude.{◌≡◌, ◌≤◌, ◌++◌, map, drop, length, slice_get, IfOk, OnOk};
 ghost use Rattle.pc_tree.specs.View.{entity_view, file_view};
-ghost use Rattle.pc_members.specs.Chains.{Closes};
+ghost use Rattle.pc_members.specs.Chains.{IsTransitiveClosure};
 ghost use Rattle.pc_members.specs.Founded.{IsFounded};
 ghost use Rattle.pc_tree.specs.BuiltIn.{first_own};
 ghost use Rattle.pc_members.specs.MemberLists.{members};
-ghost use Rattle.pc_members.specs.Members.{or_none};
+ghost use Rattle.pc_members.specs.Members.{or_no_members};
 ghost use Rattle.pc_members.specs.Tables.{find_name};
 ghost use Rattle.pc_members.specs.Words.{entity_names};
 ghost use Rattle.pc_members.specs.Rounds as spec;
@@ -47,8 +47,9 @@ fn take_named<'a>(
     list: &mut List<Member<'a>>,
     name: &Name,
 ) -> Result<(), AllocError>
-    ensures list { OnOk result (members_view list.new ≡ members_view list.old ++ spec.taken_members kind known.old (spec.named_at (table_view table.now) (find_name entities.now name.now.text))) }
-    ensures known { OnOk result (known.new ≡ spec.with_taken kind known.old (spec.named_at (table_view table.now) (find_name entities.now name.now.text))) }
+    ensures list { OnOk result (members_view list.new ≡ members_view list.old ++ spec.taken_members kind known.old (spec.table_members (table_view table.now) (find_name entities.now name.now.text))) }
+    ensures known { OnOk result
+        (known.new ≡ spec.with_taken kind known.old (spec.table_members (table_view table.now) (find_name entities.now name.now.text))) }
 {
     match named_at(entities, table, name) {
         Some(members) => take(kind, known, list, members.as_slice()),
@@ -126,7 +127,7 @@ fn abstract_members<'a>(
     table: &[List<Member<'a>>],
     place: usize,
 ) -> Result<List<Member<'a>>, AllocError>
-    ensures { IfOk result (λ l. members_view l ≡ map spec.bodiless (or_none (slice_get (table_view table.now) place))) }
+    ensures { IfOk result (λ l. members_view l ≡ map spec.bodiless (or_no_members (slice_get (table_view table.now) place))) }
 {
     match table.get(place) {
         Some(members) => without_bodies(alloc, members.as_slice()),
@@ -185,7 +186,7 @@ pub fn list_members<'a>(
     file: &'a File,
 ) -> Result<List<List<Member<'a>>>, AllocError>
     requires names { entities.now ≡ entity_names (file_view file.now) }
-    requires closes { Closes (file_view file.now) above.now }
+    requires closes { IsTransitiveClosure (file_view file.now) above.now }
     requires founded { IsFounded (file_view file.now) }
     ensures { IfOk result (λ l. table_view l ≡ map (members (file_view file.now).entities) (file_view file.now).entities) }
 {

@@ -33,7 +33,7 @@ impl Found {
     // Appends the number, unless it is there already.
     #[tactic(auto, using(crate::proofs::Reaches::added))]
     fn add(&mut self, number: u32) -> Result<(), AllocError>
-        ensures { OnOk result (self.new ≡ spec.add self.old number) }
+        ensures { OnOk result (self.new ≡ spec.added_last self.old number) }
     {
         self.numbers.insert_full(number)?;
         Ok(())
@@ -50,7 +50,7 @@ impl Found {
 
     // Adds the targets of this number's edges.
     fn add_next(&mut self, edges: &[List<u32>], from: usize) -> Result<(), AllocError>
-        ensures { OnOk result (self.new ≡ spec.add_all self.old (spec.next edges.now from)) }
+        ensures { OnOk result (self.new ≡ spec.add_all self.old (spec.edges_from edges.now from)) }
     {
         match edges.get(from) {
             Some(numbers) => self.add_all(numbers.as_slice()),
@@ -66,7 +66,7 @@ impl Found {
 
     #[tactic(auto, using(crate::proofs::Reaches::any_has))]
     fn has(&self, number: u32) -> bool
-        ensures { result ≡ spec.has self.now number }
+        ensures { result ≡ spec.has_number self.now number }
     {
         self.numbers.contains(&number)
     }

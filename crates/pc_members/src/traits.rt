@@ -3,7 +3,7 @@ ghost use Rattle.std.specs.Prelude.{◌≡◌, ◌++◌, ◌+◌, [], map, lengt
 ghost use Rattle.std.specs.Option.{option_copied};
 ghost use Rattle.pc_tree.specs.View.{entity_view, file_view};
 ghost use Rattle.pc_members.specs.Founded.{IsFounded};
-ghost use Rattle.pc_members.specs.Members.{or_none, written};
+ghost use Rattle.pc_members.specs.Members.{or_no_members, written};
 ghost use Rattle.pc_members.specs.Tables.{find_name, with_names};
 ghost use Rattle.pc_members.specs.Words.{entity_names};
 ghost use Rattle.pc_members.specs.Rounds as spec;
@@ -39,7 +39,7 @@ pub(crate) fn named_at<'t, 'a>(
     table: &'t [List<Member<'a>>],
     name: &Name,
 ) -> Option<&'t List<Member<'a>>>
-    ensures { or_none (maybe_members (option_copied result)) ≡ spec.named_at (table_view table.now) (find_name entities.now name.now.text) }
+    ensures { or_no_members (maybe_members (option_copied result)) ≡ spec.table_members (table_view table.now) (find_name entities.now name.now.text) }
 {
     let number = entities.find(name.text.as_slice())?;
     table.get((number as usize).saturating_sub(FIRST_OWN as usize))
@@ -53,8 +53,8 @@ fn add_named<'a>(
     list: &mut List<Member<'a>>,
     name: &Name,
 ) -> Result<(), AllocError>
-    ensures list { OnOk result (members_view list.new ≡ members_view list.old ++ spec.first_members known.old (spec.named_at (table_view table.now) (find_name entities.now name.now.text))) }
-    ensures known { OnOk result (known.new ≡ with_names known.old (spec.member_texts (spec.named_at (table_view table.now) (find_name entities.now name.now.text)))) }
+    ensures list { OnOk result (members_view list.new ≡ members_view list.old ++ spec.first_members known.old (spec.table_members (table_view table.now) (find_name entities.now name.now.text))) }
+    ensures known { OnOk result (known.new ≡ with_names known.old (spec.member_texts (spec.table_members (table_view table.now) (find_name entities.now name.now.text)))) }
 {
     match named_at(entities, table, name) {
         Some(members) => add_firsts(known, list, members.as_slice()),

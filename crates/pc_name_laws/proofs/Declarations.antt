@@ -10,8 +10,8 @@ use Rattle.pc_lists.proofs.Bools.{true_false, false_true}
 use Rattle.pc_lists.proofs.Elements.{has_front, has_behind, has_either}
 use Rattle.pc_lists.proofs.Gets.{get_take, take_get}
 use Rattle.pc_tree.specs.declared.file.ParamDef.{ParamDef}
-use Rattle.pc_tree.specs.declared.names.Name.{Name}
-use Rattle.pc_tree.specs.declared.names.TypeRef.{TypeRef}
+use Rattle.pc_tree.specs.declared.written_names.Name.{Name}
+use Rattle.pc_tree.specs.declared.written_names.TypeRef.{TypeRef}
 use Rattle.pc_tree.specs.Kinds.{is_abstract}
 use Rattle.pc_tree.specs.Tree as t
 use Rattle.pc_names.specs.declared.fault.NameFault.{NameFault}
@@ -21,7 +21,7 @@ use Rattle.pc_lists.specs.Texts.{Text}
 use Rattle.pc_members.specs.Words.{is_among, built_in_names, entity_names, texts_of, has_added}
 use Rattle.pc_members.specs.Tables.{with_name, with_traits, trait_names}
 use Rattle.pc_names.specs.Faults as spec
-use Rattle.pc_names.specs.Faults.{where_, either}
+use Rattle.pc_names.specs.Faults.{where_, either_fault}
 use Rattle.pc_members.specs.Words.{field_texts, method_texts}
 use Rattle.pc_members.proofs.Named.{is_trait_named}
 use Rattle.pc_file_spec.proofs.Tables.{names_there, names_kept}
@@ -54,7 +54,7 @@ abbrev entity_text : t.Entity → Text
 entity_text e = e.name.text
 
 abbrev name_part : List Text → t.Entity → List NameFault
-name_part known e = either (is_among e.name.text known) (fault.Double e.name.span) (not (nat_lt (length known) spec.known_limit)) (fault.TooMany which.Entities e.name.span)
+name_part known e = either_fault (is_among e.name.text known) (fault.Double e.name.span) (not (nat_lt (length known) spec.known_limit)) (fault.TooMany which.Entities e.name.span)
 
 -- After known names: the list is one that is traversed.
 names_walk : (known : List Text) (es : List t.Entity) → spec.entity_name_faults known es ≡ walk entity_text name_part known es
@@ -154,7 +154,7 @@ abbrev name_text : Name → Text
 name_text n = n.text
 
 abbrev provided_part : List Text → List Text → Name → List NameFault
-provided_part traits known n = either (not (is_among n.text traits)) (fault.Unknown n.span) (is_among n.text known) (fault.Double n.span)
+provided_part traits known n = either_fault (not (is_among n.text traits)) (fault.Unknown n.span) (is_among n.text known) (fault.Double n.span)
 
 provided_walk : (traits known : List Text) (ns : List Name) → spec.provided_faults traits known ns ≡ walk name_text (provided_part traits) known ns
 provided_walk traits known [] = refl
@@ -187,12 +187,12 @@ field_text f = f.name.text
 
 abbrev field_part : List Text → List Text → t.Field → List NameFault
 field_part entities known f =
-    either (is_among f.name.text known) (fault.Double f.name.span) (not (nat_lt (length known) field_limit)) (fault.TooMany which.Fields f.name.span) ++ spec.type_faults entities f.ty
+    either_fault (is_among f.name.text known) (fault.Double f.name.span) (not (nat_lt (length known) field_limit)) (fault.TooMany which.Fields f.name.span) ++ spec.type_faults entities f.ty
 
 fields_walk : (entities known : List Text) (fs : List t.Field) → spec.field_faults entities known fs ≡ walk field_text (field_part entities) known fs
 fields_walk entities known [] = refl
 fields_walk entities known (f ∷ fs) =
-    let first = either (is_among f.name.text known) (fault.Double f.name.span) (not (nat_lt (length known) field_limit)) (fault.TooMany which.Fields f.name.span) in
+    let first = either_fault (is_among f.name.text known) (fault.Double f.name.span) (not (nat_lt (length known) field_limit)) (fault.TooMany which.Fields f.name.span) in
     let rest = spec.field_faults entities (known ++ f.name.text ∷ []) fs in
     sym (append_assoc first (spec.type_faults entities f.ty) rest) ∙ ap (λ l. field_part entities known f ++ l) (fields_walk entities (known ++ f.name.text ∷ []) fs)
 
@@ -210,7 +210,7 @@ module _ (file : t.File) (e : t.Entity) where
       each i x at =
           let known = take i (field_texts e.fields) in
           let count : length known ≡ 0 + i = first_count field_text e.fields i x at ∙ (let z : i ≡ 0 + i = omega arith in z) in
-          lists_both (either (is_among x.name.text known) (fault.Double x.name.span) (not (nat_lt (length known) field_limit)) (fault.TooMany which.Fields x.name.span)) (spec.type_faults (entity_names file) x.ty)
+          lists_both (either_fault (is_among x.name.text known) (fault.Double x.name.span) (not (nat_lt (length known) field_limit)) (fault.TooMany which.Fields x.name.span)) (spec.type_faults (entity_names file) x.ty)
           (λ f. ((f ≡ fault.Double x.name.span) × HasBefore (field_texts e.fields) i x.name.text) ⊎ ((f ≡ fault.TooMany which.Fields x.name.span) × (HasBefore (field_texts e.fields) i x.name.text → ⊥) × (64 ≤ i))) (Missing file x.ty)
           (lists_either (is_among x.name.text known) (not (nat_lt (length known) field_limit)) (fault.Double x.name.span) (fault.TooMany which.Fields x.name.span) (HasBefore (field_texts e.fields) i x.name.text) (64 ≤ i)
           (tests_before x.name.text (field_texts e.fields) i)
@@ -299,8 +299,8 @@ module _ (file : t.File) (e : t.Entity) where
   added_lists : Lists (spec.added_faults e) AddedCase
   added_lists =
       let create = codes "create" in
-      lists_where (has_added e && spec.is_taken create e) (fault.Double e.name.span) ((has_added e ≡ true) × (Has (field_texts e.fields) create ⊎ Has (method_texts e.methods) create))
-      (tests_and (has_added e) (spec.is_taken create e) (has_added e ≡ true) (Has (field_texts e.fields) create ⊎ Has (method_texts e.methods) create) (tests_itself (has_added e))
+      lists_where (has_added e && spec.is_member_name create e) (fault.Double e.name.span) ((has_added e ≡ true) × (Has (field_texts e.fields) create ⊎ Has (method_texts e.methods) create))
+      (tests_and (has_added e) (spec.is_member_name create e) (has_added e ≡ true) (Has (field_texts e.fields) create ⊎ Has (method_texts e.methods) create) (tests_itself (has_added e))
       (tests_or (is_among create (field_texts e.fields)) (is_among create (method_texts e.methods)) (Has (field_texts e.fields) create) (Has (method_texts e.methods) create) (tests_among create (field_texts e.fields)) (tests_among create (method_texts e.methods))))
 
   abbrev ProvidedCases : NameFault → Type 0

@@ -5,7 +5,7 @@ use Rattle.std.proofs.lemmas.Option.{same_Some, none-some}
 use Rattle.pc_lists.specs.Places.{Has, Ascends}
 use Rattle.pc_names.specs.declared.fault.NameFault.{NameFault}
 use Rattle.pc_names.specs.declared.fault.NameFault.TheVariants as fault
-use Rattle.pc_names.specs.Faults.{IsFirst}
+use Rattle.pc_names.specs.Faults.{IsFirstNameFault}
 use Rattle.pc_body_spec.proofs.Places.{Sub, Rising, rising}
 
 abbrev pub Heads : {T : Type 0} → List T → T → Type 0
@@ -22,7 +22,7 @@ has_head fs f h = (0, h)
 pub none_has : {T : Type 0} (fs : List T) (f : T) → fs ≡ [] → Has fs f → ⊥
 none_has fs f e h = none-some f (ap (λ l. slice_get l h.0) (sym e) ∙ h.1)
 
-pub heads_first : (f : NameFault) (fs : List NameFault) → Heads fs f → IsFirst f fs
+pub heads_first : (f : NameFault) (fs : List NameFault) → Heads fs f → IsFirstNameFault f fs
 heads_first (fault.Double s) fs h = h
 heads_first (fault.Unknown s) fs h = h
 heads_first fault.NoMain fs h = h

@@ -6,7 +6,7 @@ use Rattle.std.proofs.lemmas.Bool.{cases_lt}
 use Rattle.std.proofs.lemmas.List.{take_all}
 use Rattle.pc_lists.specs.Places.{Has}
 use Rattle.pc_lists.proofs.Gets.{get_below, take_get}
-use Rattle.pc_tree.specs.declared.names.Name.{Name}
+use Rattle.pc_tree.specs.declared.written_names.Name.{Name}
 use Rattle.pc_tree.specs.Kinds.{is_abstract}
 use Rattle.pc_tree.specs.Tree as t
 use Rattle.pc_core.specs.declared.nodes.Node.{Node}
@@ -16,21 +16,21 @@ use Rattle.pc_names.specs.declared.fault.NameFault.TheVariants as fault
 use Rattle.pc_names.specs.declared.fault.Which.TheVariants as which
 use Rattle.pc_members.specs.Words.{built_in_names, entity_names}
 use Rattle.pc_names.specs.Faults.{where_, entity_name_faults, declaration_faults}
-use Rattle.pc_members.specs.Reach.{above_all, has}
-use Rattle.pc_members.specs.Chains.{Closes}
+use Rattle.pc_members.specs.Reach.{above_all, has_number}
+use Rattle.pc_members.specs.Chains.{IsTransitiveClosure}
 use Rattle.pc_members.specs.Edges.{edges_of}
 use Rattle.pc_tree.specs.BuiltIn.{first_own}
 use Rattle.pc_names.specs.Cycles.{cycle_faults}
 use Rattle.pc_names.specs.Counts.{count_faults}
 use Rattle.pc_names.specs.Mains.{main_faults}
-use Rattle.pc_names.specs.Texts.{other_texts}
-use Rattle.pc_names.specs.Names.{NamesData, Collected, name_faults, above_faults, OfFile}
+use Rattle.pc_names.specs.Texts.{built_in_and_member_texts}
+use Rattle.pc_names.specs.Names.{NamesData, Collected, name_faults, above_faults, IsNotMemory}
 use Rattle.pc_names.specs.Laws.{fault_start}
 use Rattle.pc_names.proofs.Ones.{first_is}
 use Rattle.pc_members.proofs.Closings.{closes}
 use Rattle.pc_names.proofs.OtherTexts.{other_texts_differ}
 use Rattle.pc_caps.specs.Limits.{node_limit}
-use Rattle.pc_body_spec.specs.Faults.{Fault, unknown, double, long_text}
+use Rattle.pc_body_spec.specs.Faults.{BodyNameFault, unknown, double, long_text}
 use Rattle.pc_body_spec.specs.Places as body_places
 use Rattle.pc_members.specs.Members.{Member, written, added, member_span}
 use Rattle.pc_file_spec.specs.Members.{Owned}
@@ -44,12 +44,13 @@ use Rattle.pc_file_spec.proofs.Owners.{owner_of}
 use Rattle.pc_file_spec.proofs.Steps.{member_faults, member_names}
 use Rattle.pc_file_spec.proofs.Parts.{all_at, first_good}
 use Rattle.pc_text_order.proofs.Bodies.{bodies_ascend}
-use Rattle.pc_elab.specs.Cores.{Spelled}
+use Rattle.pc_elab.specs.Cores.{IsSpelledFile}
 use Rattle.pc_elab.proofs.Wholes.{in_order, in_place}
 use Rattle.pc_name_laws.specs.Missing.{IsBodyFault}
 use Rattle.pc_name_laws.specs.Declared.{IsEntityFault, IsDeclarationFault}
 use Rattle.pc_name_laws.specs.Declared as law
-use Rattle.pc_name_laws.specs.Turns.{Turn, entity_names as all_names, declarations, cycles, method_counts, main, body, slots, nodes, pass, part, Earlier, At, all_members, slots_named, nodes_of, owned_size}
+use Rattle.pc_name_laws.specs.Turns.{Turn, entity_names as all_names, declarations, cycles, method_counts, main, body, slots, nodes, pass, part, Earlier}
+use Rattle.pc_name_laws.specs.Turns.{IsFaultInTurn, all_members, slots_named, nodes_of, owned_size}
 use Rattle.pc_name_laws.specs.Laws.{IsTold, FaultIsTold}
 use Rattle.pc_name_laws.proofs.Declarations.{entities_list}
 use Rattle.pc_name_laws.proofs.Counting.{file_counts, file_mains}
@@ -70,7 +71,7 @@ none_right : {T : Type 0} (xs ys : List T) → xs ++ ys ≡ [] → ys ≡ []
 none_right [] ys e = e
 none_right (x ∷ xs) ys e = absurd (none-some x (sym (ap (λ l. slice_get l 0) e)))
 
-module _ (file : t.File) (above : List (List ℕ)) (c : Closes file above) where
+module _ (file : t.File) (above : List (List ℕ)) (c : IsTransitiveClosure file above) where
   abbrev lists : List (List ℕ)
   lists = drop first_own above
 
@@ -126,7 +127,7 @@ module _ (file : t.File) (above : List (List ℕ)) (c : Closes file above) where
         main = λ l. no_main file (none_right Fourth Fifth h3);
       }
 
-  pub told_names : (f : NameFault) → OfFile f → Heads (name_faults file above) f → Told file f
+  pub told_names : (f : NameFault) → IsNotMemory f → Heads (name_faults file above) f → Told file f
   told_names f real h = elim (heads_either First (declaration_faults file ++ above_faults file.entities lists) f h) [
     | inl a ↦ told_name file f a
     | inr a ↦ elim (heads_either (declaration_faults file) (above_faults file.entities lists) f a.1) [
@@ -164,7 +165,7 @@ passed file k q h =
       nodes = omega (arith, total, most);
     }
 
-no_fault_in : (file : t.File) (o : Owned) (g : Fault) → member_faults (context_of file o) o.owner o.member ≡ [] → IsBodyFault (context_of file o) o.owner o.member g → ⊥
+no_fault_in : (file : t.File) (o : Owned) (g : BodyNameFault) → member_faults (context_of file o) o.owner o.member ≡ [] → IsBodyFault (context_of file o) o.owner o.member g → ⊥
 no_fault_in file o g e b = none_has (member_faults (context_of file o) o.owner o.member) g e (((member_tells (context_of file o) o.owner o.member).just g).1 b)
 
 no_slot_in : (o : Owned) (n : Name) → 1 + length (member_names o.owner o.member) ≤ 64 → slice_get (slots_named o.owner o.member) 63 ≡ Some n → ⊥
@@ -210,7 +211,7 @@ before_member file t five c below u early =
 same_place : (file : t.File) (k : ℕ) (o x : Owned) → slice_get (all_members file) k ≡ Some o → slice_get (all_members file) k ≡ Some x → x ≡ o
 same_place file k o x a b = same_Some x o (sym b ∙ a)
 
-body_start : (g : Fault) → fault_start (body_fault g) ≡ body_places.fault_start g
+body_start : (g : BodyNameFault) → fault_start (body_fault g) ≡ body_places.fault_start g
 body_start (unknown s) = refl
 body_start (double s) = refl
 body_start (long_text s) = refl
@@ -237,7 +238,8 @@ slots_up_to file k o is p few j l = elim (cases_lt j k) [
 ]
 
 module _ (file : t.File) (clear : Clear file 5) (collected : (above : List (List ℕ)) × Collects file above) (k : ℕ) (o : Owned) (is : slice_get (all_members file) k ≡ Some o) (p : Passed file k) (f : NameFault) where
-  told_body : (g : Fault) (gs : List Fault) → member_faults (context_of file o) o.owner o.member ≡ g ∷ gs → f ≡ body_fault g → Told file f
+  told_body : (g : BodyNameFault) (gs : List BodyNameFault) → member_faults (context_of file o) o.owner o.member ≡ g ∷ gs → f ≡ body_fault g
+      → Told file f
   told_body g gs e same = record {
     turn = body k;
     at = (o, g, is, ((member_tells (context_of file o) o.owner o.member).just g).0 (0, ap (λ l. slice_get l 0) e), same);
@@ -249,7 +251,7 @@ module _ (file : t.File) (clear : Clear file 5) (collected : (above : List (List
     within = within;
   }
     where
-      within : Spelled file → (h : NameFault) → At file (body k) h → Least fault_start f h
+      within : IsSpelledFile file → (h : NameFault) → IsFaultInTurn file (body k) h → Least fault_start f h
       within s h at =
           let owner = owner_of file.entities file.entities first_own k o is in
           let entity : Has file.entities o.owner = (owner.entity, owner.is_owner) in
@@ -296,7 +298,7 @@ module _ (file : t.File) (clear : Clear file 5) (collected : (above : List (List
 
 -- ---- the fault that is reported
 
-with_names : (file : t.File) → name_faults file (above_all (edges_of file)) ≡ [] → Collected file (record { entities = entity_names file; texts = other_texts file.entities; above = above_all (edges_of file) })
+with_names : (file : t.File) → name_faults file (above_all (edges_of file)) ≡ [] → Collected file (record { entities = entity_names file; texts = built_in_and_member_texts file.entities; above = above_all (edges_of file) })
 with_names file e = record { faults = e; entities = refl; above = closes file; texts = other_texts_differ file.entities }
 
 told_at : (file : t.File) → Clear file 5 → (above : List (List ℕ)) × Collects file above → (k : ℕ) (o : Owned) → slice_get (all_members file) k ≡ Some o → Passed file k → (f : NameFault) (before : List Node)
@@ -338,10 +340,10 @@ IsReal (fault.Cycle s) = Unit {0}
 IsReal (fault.TooMany w s) = Unit {0}
 IsReal fault.Memory = ⊥
 
-real_of : (f : NameFault) → IsReal f → OfFile f
+real_of : (f : NameFault) → IsReal f → IsNotMemory f
 real_of f r e = subst IsReal e r
 
-real_body : (g : Fault) → IsReal (body_fault g)
+real_body : (g : BodyNameFault) → IsReal (body_fault g)
 real_body (unknown s) = tt
 real_body (double s) = tt
 real_body (long_text s) = tt
@@ -355,11 +357,11 @@ real_declaration file e f (law.unknown n m) = tt
 real_declaration file e f (law.twice n m) = tt
 real_declaration file e f (law.too_many i x at fresh l) = tt
 
-real_main : (file : t.File) (f : NameFault) → At file main f → IsReal f
+real_main : (file : t.File) (f : NameFault) → IsFaultInTurn file main f → IsReal f
 real_main file f (inl a) = subst IsReal (sym a.0) tt
 real_main file f (inr a) = subst IsReal (sym a.2) tt
 
-pub real_at : (file : t.File) (u : Turn) (f : NameFault) → At file u f → IsReal f
+pub real_at : (file : t.File) (u : Turn) (f : NameFault) → IsFaultInTurn file u f → IsReal f
 real_at file all_names f at = real_entity file f at
 real_at file declarations f at = real_declaration file at.0 f at.2
 real_at file cycles f at = subst IsReal (sym at.4) tt
@@ -373,7 +375,7 @@ real_at file (nodes k) f at = subst IsReal (sym at.3) tt
 real_cycles : (a : ℕ) (es : List t.Entity) (ls : List (List ℕ)) (f : NameFault) → Heads (cycle_faults a es ls) f → IsReal f
 real_cycles a [] ls f h = absurd (none-some f h)
 real_cycles a (e ∷ es) [] f h = absurd (none-some f h)
-real_cycles a (e ∷ es) (l ∷ ls) f h = by (is_abstract e.kind && has l a) (real_cycles (a + 1) es ls f) h
+real_cycles a (e ∷ es) (l ∷ ls) f h = by (is_abstract e.kind && has_number l a) (real_cycles (a + 1) es ls f) h
   where
     by : (b : Bool) → (Heads (cycle_faults (a + 1) es ls) f → IsReal f) → Heads (where_ b (fault.Cycle e.name.span) ++ cycle_faults (a + 1) es ls) f → IsReal f
     by true rest g = subst IsReal (same_Some (fault.Cycle e.name.span) f g) tt
@@ -427,7 +429,7 @@ pub fault_is_told : FaultIsTold
 fault_is_told file u g at = by (name_faults file (above_all (edges_of file))) refl
   where
     names : NamesData
-    names = record { entities = entity_names file; texts = other_texts file.entities; above = above_all (edges_of file) }
+    names = record { entities = entity_names file; texts = built_in_and_member_texts file.entities; above = above_all (edges_of file) }
 
     elab : name_faults file (above_all (edges_of file)) ≡ [] → (r : Result Parts NameFault) → parts_of file ≡ r → (f : NameFault) × IsTold file f
     elab e (Ok q) h = absurd (no_fault_at_all file (clear_five file (above_all (edges_of file)) (closes file) e) q h u g at)

@@ -9,7 +9,7 @@ use Rattle.pc_lists.proofs.Gets.{get_take, take_get}
 use Rattle.pc_names.specs.declared.fault.NameFault.{NameFault}
 use Rattle.pc_lists.specs.Texts.{Text}
 use Rattle.pc_members.specs.Words.{is_among}
-use Rattle.pc_names.specs.Faults.{where_, either}
+use Rattle.pc_names.specs.Faults.{where_, either_fault}
 use Rattle.pc_members.proofs.Differences.{among_has, has_among}
 use Rattle.pc_name_laws.specs.Declared.{HasBefore}
 
@@ -46,7 +46,7 @@ pub lists_where : (b : Bool) (g : NameFault) (A : Type 0) → Tests b A → List
 lists_where true g A a = lists_turned (g ∷ []) (λ f. f ≡ g) (λ f. (f ≡ g) × A) (λ f e. (e, a)) (λ f h. h.0) (lists_one g)
 lists_where false g A a = lists_turned [] (λ f. ⊥) (λ f. (f ≡ g) × A) (λ f e. absurd e) (λ f h. a h.1) lists_none
 
-pub lists_either : (b c : Bool) (g h : NameFault) (A B : Type 0) → Tests b A → Tests c B → Lists (either b g c h) (λ f. ((f ≡ g) × A) ⊎ ((f ≡ h) × (A → ⊥) × B))
+pub lists_either : (b c : Bool) (g h : NameFault) (A B : Type 0) → Tests b A → Tests c B → Lists (either_fault b g c h) (λ f. ((f ≡ g) × A) ⊎ ((f ≡ h) × (A → ⊥) × B))
 lists_either true c g h A B a d = lists_turned (g ∷ []) (λ f. f ≡ g) (λ f. ((f ≡ g) × A) ⊎ ((f ≡ h) × (A → ⊥) × B)) (λ f e. inl (e, a)) (λ f k. ⊎_elim (λ x. x.0) (λ x. absurd (x.1 a)) k) (lists_one g)
 lists_either false c g h A B a d =
     lists_turned (where_ c h) (λ f. (f ≡ h) × B) (λ f. ((f ≡ g) × A) ⊎ ((f ≡ h) × (A → ⊥) × B)) (λ f e. inr (e.0, a, e.1)) (λ f k. ⊎_elim (λ x. absurd (a x.1)) (λ x. (x.0, x.2)) k) (lists_where c h B d)

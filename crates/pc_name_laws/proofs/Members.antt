@@ -3,7 +3,7 @@ use Rattle.std.proofs.Common.{◌≡◌, ℕ, suc, ◌+◌, ◌<◌, List, [], �
 use Rattle.std.specs.Prelude.{slice_get, Result, Ok, Err}
 use Rattle.std.proofs.lemmas.Option.{same_Some}
 use Rattle.pc_caps.specs.declared.span.Span.{Span}
-use Rattle.pc_tree.specs.declared.names.Name.{Name}
+use Rattle.pc_tree.specs.declared.written_names.Name.{Name}
 use Rattle.pc_tree.specs.Tree as t
 use Rattle.pc_core.specs.declared.nodes.Node.{Node}
 use Rattle.pc_names.specs.declared.fault.NameFault.{NameFault}
@@ -12,12 +12,12 @@ use Rattle.pc_names.specs.declared.fault.Which.TheVariants as which
 use Rattle.pc_body_spec.specs.Roses.{Rose, Numbered, put}
 use Rattle.pc_caps.specs.Limits.{node_limit}
 use Rattle.pc_body_spec.specs.Scopes.{Context}
-use Rattle.pc_body_spec.specs.Faults.{Fault}
-use Rattle.pc_body_spec.specs.Methods.{Outcome, unless_fault, unless_name, unless_full, numbered, put_body}
+use Rattle.pc_body_spec.specs.Faults.{BodyNameFault}
+use Rattle.pc_body_spec.specs.Methods.{MethodOutcome, unless_fault, unless_name, unless_full, numbered_or_full, put_body}
 use Rattle.pc_members.specs.Members.{Member, written, added, member_span}
 use Rattle.pc_file_spec.specs.Members.{Owned}
 use Rattle.pc_file_spec.specs.Signatures.{context_of}
-use Rattle.pc_file_spec.specs.Parts.{Parts, body_fault, outcome, joined, with_outcome, and_member, and_members, if_ok}
+use Rattle.pc_file_spec.specs.Parts.{Parts, body_fault, outcome, joined_parts, with_outcome, and_member, and_members, if_ok}
 use Rattle.pc_file_spec.proofs.Steps.{member_faults, member_names, member_rose, Made, Ends}
 use Rattle.pc_file_spec.proofs.Parts.{made_of}
 use Rattle.pc_name_laws.specs.Turns.{size_if, size, member_size, owned_size, nodes_of}
@@ -65,10 +65,10 @@ pub all_nodes : (file : t.File) (os : List Owned) (p q : Parts) → and_members 
 all_nodes file [] p q h = let same : length p.nodes ≡ length q.nodes = ap (λ (x : Parts). length x.nodes) (same_Some p q (ap value_in h)) in omega (arith, same)
 all_nodes file (o ∷ os) p q h = by (outcome (context_of file o) (length p.methods) o.owner o.member p.nodes) refl (λ r. all_nodes file os r q) h
   where
-    by : (x : Outcome) → outcome (context_of file o) (length p.methods) o.owner o.member p.nodes ≡ x → ((r : Parts) → and_members file r os ≡ Ok q → length q.nodes ≡ length r.nodes + nodes_of file os)
+    by : (x : MethodOutcome) → outcome (context_of file o) (length p.methods) o.owner o.member p.nodes ≡ x → ((r : Parts) → and_members file r os ≡ Ok q → length q.nodes ≡ length r.nodes + nodes_of file os)
         → if_ok (with_outcome (context_of file o) p o x) (λ r. and_members file r os) ≡ Ok q → length q.nodes ≡ length p.nodes + nodes_of file (o ∷ os)
     by (Ok r) e rest g =
-        let later = rest (joined (context_of file o) p o r) g in
+        let later = rest (joined_parts (context_of file o) p o r) g in
         let here = made_nodes (context_of file o) (length p.methods) o.owner o.member p.nodes r (made_of file p o r e) in
         omega (arith, later, here)
     by (Err f) e rest g = absurd (subst IsOk (sym g) tt)
@@ -104,7 +104,8 @@ stop file (o ∷ os) p f h = by (and_member (context_of file o) p o) refl (λ q.
 
 -- A fault of its body; or else its 65th slot; or else that there are too many nodes.
 pub data StopsAt (file : t.File) (o : Owned) (before : List Node) (f : NameFault) : Type 0 where
-  at_body : (g : Fault) (gs : List Fault) → member_faults (context_of file o) o.owner o.member ≡ g ∷ gs → f ≡ body_fault g → StopsAt file o before f
+  at_body : (g : BodyNameFault) (gs : List BodyNameFault) → member_faults (context_of file o) o.owner o.member ≡ g ∷ gs → f ≡ body_fault g
+      → StopsAt file o before f
   at_slot : (n : Name) → member_faults (context_of file o) o.owner o.member ≡ [] → slice_get (member_names o.owner o.member) 63 ≡ Some n → f ≡ fault.TooMany which.Slots n.span → StopsAt file o before f
   at_nodes : member_faults (context_of file o) o.owner o.member ≡ [] → slice_get (member_names o.owner o.member) 63 ≡ None → node_limit < length before + owned_size file o → f ≡ fault.TooMany which.Nodes (member_span o.owner.name.span o.member) → StopsAt file o before f
 
@@ -117,7 +118,7 @@ full : (c : Context) (p : Parts) (o : Owned) (m : ℕ) (s : Span) (r : Option Ro
 full c p o m s None before f h = absurd (subst IsOk h tt)
 full c p o m s (Some r) before f h = by (put m r before) (put_counts m r before) h
   where
-    by : (x : Numbered ℕ) → Counts x (length before + size r) → with_outcome c p o (numbered s x) ≡ Err f → (node_limit < length before + size r) × (f ≡ fault.TooMany which.Nodes s)
+    by : (x : Numbered ℕ) → Counts x (length before + size r) → with_outcome c p o (numbered_or_full s x) ≡ Err f → (node_limit < length before + size r) × (f ≡ fault.TooMany which.Nodes s)
     by None n g = (n, sym (same_fault (fault.TooMany which.Nodes s) f g))
     by (Some x) n g = absurd (subst IsOk g tt)
 
@@ -128,10 +129,10 @@ stops_at file p o f h =
     c : Context
     c = context_of file o
 
-    rest : Outcome
+    rest : MethodOutcome
     rest = put_body (length p.methods) (member_span o.owner.name.span o.member) (member_rose c o.owner o.member) p.nodes
 
-    by : (fs : List Fault) → member_faults (context_of file o) o.owner o.member ≡ fs → (x : Option Name) → slice_get (member_names o.owner o.member) 63 ≡ x
+    by : (fs : List BodyNameFault) → member_faults (context_of file o) o.owner o.member ≡ fs → (x : Option Name) → slice_get (member_names o.owner o.member) 63 ≡ x
         → with_outcome (context_of file o) p o (unless_fault fs (unless_name x rest)) ≡ Err f → StopsAt file o p.nodes f
     by (g ∷ gs) e x k s = at_body g gs e (sym (same_fault (body_fault g) f s))
     by [] e (Some n) k s = at_slot n e k (sym (same_fault (fault.TooMany which.Slots n.span) f s))

@@ -3,8 +3,8 @@ use Rattle.std.proofs.Common.{◌≡◌, ℕ, Bool, true, false, not, ◌||◌, 
 use Rattle.std.specs.Prelude.{nat_lt, codes}
 use Rattle.pc_caps.specs.Limits.{field_limit}
 use Rattle.pc_tree.specs.declared.file.ParamDef.{ParamDef}
-use Rattle.pc_tree.specs.declared.names.Name.{Name}
-use Rattle.pc_tree.specs.declared.names.TypeRef.{TypeRef}
+use Rattle.pc_tree.specs.declared.written_names.Name.{Name}
+use Rattle.pc_tree.specs.declared.written_names.TypeRef.{TypeRef}
 use Rattle.pc_tree.specs.Tree as t
 use Rattle.pc_names.specs.declared.fault.NameFault.{NameFault}
 use Rattle.pc_names.specs.declared.fault.NameFault.TheVariants as fault
@@ -12,8 +12,8 @@ use Rattle.pc_names.specs.declared.fault.Which.TheVariants as which
 use Rattle.pc_lists.specs.Texts.{Text}
 use Rattle.pc_members.specs.Words.{is_among, has_added, field_texts}
 use Rattle.pc_names.specs.Faults as spec
-use Rattle.pc_names.specs.Faults.{where_, either}
-use Rattle.pc_names.specs.Laws.{fault_start, start_of, result_places, field_places, param_places, method_places, places}
+use Rattle.pc_names.specs.Faults.{where_, either_fault}
+use Rattle.pc_names.specs.Laws.{fault_start, name_start, result_places, field_places, param_places, method_places, declared_places}
 use Rattle.pc_body_spec.proofs.Places.{Sub, none, skip, take, sub_join}
 use Rattle.pc_name_laws.proofs.Orders.{entity_start}
 
@@ -31,7 +31,7 @@ where_at : (b : Bool) (f : NameFault) → Stand (where_ b f) (fault_start f ∷ 
 where_at true f = record { sub = take f [] [] none }
 where_at false f = record { sub = skip [] (fault_start f) [] none }
 
-either_at : (b c : Bool) (f g : NameFault) → fault_start g ≡ fault_start f → Stand (either b f c g) (fault_start f ∷ [])
+either_at : (b c : Bool) (f g : NameFault) → fault_start g ≡ fault_start f → Stand (either_fault b f c g) (fault_start f ∷ [])
 either_at true c f g e = record { sub = take f [] [] none }
 either_at false c f g e = subst (λ n. Stand (where_ c g) (n ∷ [])) e (where_at c g)
 
@@ -43,14 +43,14 @@ name_at known (e ∷ es) =
 pub names_at : (known : List Text) (es : List t.Entity) → Sub fault_start (spec.entity_name_faults known es) (map entity_start es)
 names_at known es = (name_at known es).sub
 
-type_at : (entities : List Text) (ty : TypeRef) → Stand (spec.type_faults entities ty) (start_of ty.name ∷ [])
+type_at : (entities : List Text) (ty : TypeRef) → Stand (spec.type_faults entities ty) (name_start ty.name ∷ [])
 type_at entities ty = where_at (not (is_among ty.name.text entities)) (fault.Unknown ty.name.span)
 
 result_at : (entities : List Text) (ty : Option TypeRef) → Stand (spec.result_faults entities ty) (result_places ty)
 result_at entities None = nowhere
 result_at entities (Some ty) = type_at entities ty
 
-provided_at : (traits known : List Text) (ns : List Name) → Stand (spec.provided_faults traits known ns) (map start_of ns)
+provided_at : (traits known : List Text) (ns : List Name) → Stand (spec.provided_faults traits known ns) (map name_start ns)
 provided_at traits known [] = nowhere
 provided_at traits known (n ∷ ns) = join (either_at (not (is_among n.text traits)) (is_among n.text known) (fault.Unknown n.span) (fault.Double n.span) refl) (provided_at traits (known ++ n.text ∷ []) ns)
 
@@ -71,10 +71,10 @@ method_at entities fields known (m ∷ ms) =
     join (where_at (is_among m.name.text fields || is_among m.name.text known) (fault.Double m.name.span))
     (join (join (param_at entities fields [] m.params) (result_at entities m.result)) (method_at entities fields (known ++ m.name.text ∷ []) ms))
 
-pub entity_at : (entities traits : List Text) (e : t.Entity) → Sub fault_start (spec.entity_faults entities traits e) (places e)
+pub entity_at : (entities traits : List Text) (e : t.Entity) → Sub fault_start (spec.entity_faults entities traits e) (declared_places e)
 entity_at entities traits e = whole.sub
   where
-    whole : Stand (spec.entity_faults entities traits e) (places e)
+    whole : Stand (spec.entity_faults entities traits e) (declared_places e)
     whole =
-        join (where_at (has_added e && spec.is_taken (codes "create") e) (fault.Double e.name.span))
+        join (where_at (has_added e && spec.is_member_name (codes "create") e) (fault.Double e.name.span))
         (join (provided_at traits [] e.provides) (join (field_at entities [] e.fields) (method_at entities (field_texts e.fields) [] e.methods)))

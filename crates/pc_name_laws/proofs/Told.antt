@@ -14,19 +14,20 @@ use Rattle.pc_members.specs.Words.{built_in_names, entity_names}
 use Rattle.pc_members.specs.Tables.{trait_names}
 use Rattle.pc_names.specs.Faults.{entity_faults, entities_faults, entity_name_faults, declaration_faults}
 use Rattle.pc_members.specs.Chains as chains
-use Rattle.pc_members.specs.Chains.{Closes}
+use Rattle.pc_members.specs.Chains.{IsTransitiveClosure}
 use Rattle.pc_tree.specs.BuiltIn.{first_own}
 use Rattle.pc_names.specs.Cycles.{cycle_faults}
 use Rattle.pc_names.specs.Counts.{count_faults}
 use Rattle.pc_names.specs.Mains.{main_faults}
-use Rattle.pc_names.specs.Laws.{fault_start, places}
-use Rattle.pc_names.specs.Names.{OfFile}
+use Rattle.pc_names.specs.Laws.{fault_start, declared_places}
+use Rattle.pc_names.specs.Names.{IsNotMemory}
 use Rattle.pc_names.proofs.CycleFirsts.{cycle_is_first, no_cycle}
 use Rattle.pc_members.proofs.Closings.{no_entity}
 use Rattle.pc_text_order.proofs.Declarations.{declarations_ascend}
-use Rattle.pc_elab.specs.Cores.{Spelled}
+use Rattle.pc_elab.specs.Cores.{IsSpelledFile}
 use Rattle.pc_name_laws.specs.Declared.{IsDeclarationFault}
-use Rattle.pc_name_laws.specs.Turns.{Turn, entity_names as all_names, declarations, cycles, method_counts, main, body, slots, nodes, pass, part, Earlier, At}
+use Rattle.pc_name_laws.specs.Turns.{Turn, entity_names as all_names, declarations, cycles, method_counts, main, body, slots, nodes, pass, part, Earlier}
+use Rattle.pc_name_laws.specs.Turns.{IsFaultInTurn}
 use Rattle.pc_name_laws.proofs.Declarations.{entities_list, entity_lists}
 use Rattle.pc_name_laws.proofs.Orders.{entity_start, names_ascend}
 use Rattle.pc_name_laws.proofs.Places.{places_ascend, earlier_entity, fault_at}
@@ -35,14 +36,14 @@ use Rattle.pc_name_laws.proofs.Firsts.{Least, Heads, heads_either, heads_first, 
 use Rattle.pc_name_laws.proofs.Counting.{counts_at, file_counts, file_mains, one_main}
 
 abbrev pub Nothing : t.File → Turn → Type 0
-Nothing file u = (g : NameFault) → At file u g → ⊥
+Nothing file u = (g : NameFault) → IsFaultInTurn file u g → ⊥
 
 -- The fault is one of a turn before which there is none, and has the smallest start in it.
 pub record Told (file : t.File) (f : NameFault) : Type 0 where
   pub turn : Turn
-  pub at : At file turn f
+  pub at : IsFaultInTurn file turn f
   pub before : (u : Turn) → Earlier u turn → Nothing file u
-  pub within : Spelled file → (g : NameFault) → At file turn g → Least fault_start f g
+  pub within : IsSpelledFile file → (g : NameFault) → IsFaultInTurn file turn g → Least fault_start f g
 
 -- ---- turns before another
 
@@ -130,11 +131,11 @@ no_declared file none g at =
     none_has (declaration_faults file) g none (has_entity (entity_names file) (trait_names file.entities) file.entities at.1.0 at.0 g at.1.1 ((entity_lists file at.0 g).1 at.2))
 
 -- In its entity the fault has the smallest start, and later entities come after it.
-within_declared : (file : t.File) (f : NameFault) → FirstOf (entity_names file) (trait_names file.entities) file.entities f → Spelled file → (g : NameFault) (j : ℕ) (d : t.Entity) → slice_get file.entities j ≡ Some d → IsDeclarationFault file d g → Least fault_start f g
+within_declared : (file : t.File) (f : NameFault) → FirstOf (entity_names file) (trait_names file.entities) file.entities f → IsSpelledFile file → (g : NameFault) (j : ℕ) (d : t.Entity) → slice_get file.entities j ≡ Some d → IsDeclarationFault file d g → Least fault_start f g
 within_declared file f r s g j d at bad = elim (cases_order j r.place) [
   | inl e ↦
       let same : d ≡ r.entity = same_Some d r.entity (sym at ∙ ap (slice_get file.entities) e ∙ r.is_entity) in
-      least_of fault_start (entity_faults (entity_names file) (trait_names file.entities) r.entity) (places r.entity) (entity_at (entity_names file) (trait_names file.entities) r.entity) (declarations_ascend file s.0 s.1 s.2 r.place r.entity r.is_entity) f g r.heads
+      least_of fault_start (entity_faults (entity_names file) (trait_names file.entities) r.entity) (declared_places r.entity) (entity_at (entity_names file) (trait_names file.entities) r.entity) (declarations_ascend file s.0 s.1 s.2 r.place r.entity r.is_entity) f g r.heads
       ((entity_lists file r.entity g).1 (subst (λ (x : t.Entity). IsDeclarationFault file x g) same bad))
   | inr o ↦ elim o [
     | inl l ↦ absurd (none_has (entity_faults (entity_names file) (trait_names file.entities) d) g (r.clear j d l at) ((entity_lists file d g).1 bad))
@@ -184,10 +185,10 @@ start_order es i j d e a hd he l = elim (cases_order i j) [
   ]
 ]
 
-pub no_cycles : (file : t.File) (above : List (List ℕ)) → Closes file above → cycle_faults first_own file.entities (drop first_own above) ≡ [] → Nothing file cycles
+pub no_cycles : (file : t.File) (above : List (List ℕ)) → IsTransitiveClosure file above → cycle_faults first_own file.entities (drop first_own above) ≡ [] → Nothing file cycles
 no_cycles file above c none g at = no_cycle file above c none at.0 at.2
 
-pub told_cycle : (file : t.File) (above : List (List ℕ)) (f : NameFault) → OfFile f → Closes file above → Clear file 2 → Heads (cycle_faults first_own file.entities (drop first_own above)) f → Told file f
+pub told_cycle : (file : t.File) (above : List (List ℕ)) (f : NameFault) → IsNotMemory f → IsTransitiveClosure file above → Clear file 2 → Heads (cycle_faults first_own file.entities (drop first_own above)) f → Told file f
 told_cycle file above f real c clear h =
     let r = cycle_is_first file above f c real (heads_first f (cycle_faults first_own file.entities (drop first_own above)) h) in
     record {

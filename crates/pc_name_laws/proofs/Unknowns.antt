@@ -3,30 +3,31 @@ use Rattle.std.proofs.Common.{◌≡◌, refl, sym, ap, ◌∙◌, subst, inl, i
 use Rattle.std.specs.Prelude.{Option, Some, None}
 use Rattle.std.proofs.lemmas.Option.{same_Some, none-some}
 use Rattle.pc_caps.specs.declared.span.Span.{Span}
-use Rattle.pc_tree.specs.declared.names.Name.{Name}
+use Rattle.pc_tree.specs.declared.written_names.Name.{Name}
 use Rattle.pc_tree.specs.Tree as t
 use Rattle.pc_text_order.proofs.Tokens.{tokens_ascend}
 use Rattle.pc_names.specs.declared.fault.NameFault.{NameFault}
 use Rattle.pc_names.specs.declared.fault.NameFault.TheVariants as fault
 use Rattle.pc_names.specs.Laws.{fault_start}
 use Rattle.pc_body_spec.specs.Scopes.{Context}
-use Rattle.pc_body_spec.specs.Faults.{Fault, unknown, double, long_text}
+use Rattle.pc_body_spec.specs.Faults.{BodyNameFault, unknown, double, long_text}
 use Rattle.pc_file_spec.specs.Signatures.{context_of}
 use Rattle.pc_file_spec.specs.Parts.{body_fault}
-use Rattle.pc_elab.specs.Cores.{Spelled}
+use Rattle.pc_elab.specs.Cores.{IsSpelledFile}
 use Rattle.pc_name_laws.specs.Uses.{Spot}
 use Rattle.pc_name_laws.specs.Missing.{IsMissing, IsAtFault, place}
 use Rattle.pc_name_laws.specs.Declared as law
 use Rattle.pc_name_laws.specs.Declared.{IsEntityFault, IsMissingName, IsDeclarationFault}
-use Rattle.pc_name_laws.specs.Turns.{Turn, entity_names, declarations, cycles, method_counts, main, body, slots, nodes, At, IsBefore, NotBehind}
+use Rattle.pc_name_laws.specs.Turns.{Turn, entity_names, declarations, cycles, method_counts, main, body, slots, nodes, IsFaultInTurn, IsBefore, NotBehind}
 use Rattle.pc_name_laws.specs.Laws.{ToldIsLeast, ToldOfTextIsLeast, IsMissingAt, UnknownIsMissing, MissingIsTold}
 use Rattle.pc_name_laws.proofs.Told.{Told}
 use Rattle.pc_name_laws.proofs.Joined.{told, fault_is_told}
 
 -- ---- the least
 
-is_before : (file : t.File) (f : NameFault) (x : Told file f) → Spelled file → (u : Turn) (g : NameFault) → At file u g → IsBefore x.turn f u g
-is_before file f x s u g at = ((λ early. x.before u early g at), (λ same. x.within s g (subst (λ v. At file v g) (sym same) at)))
+is_before : (file : t.File) (f : NameFault) (x : Told file f) → IsSpelledFile file → (u : Turn) (g : NameFault) → IsFaultInTurn file u g
+    → IsBefore x.turn f u g
+is_before file f x s u g at = ((λ early. x.before u early g at), (λ same. x.within s g (subst (λ v. IsFaultInTurn file v g) (sym same) at)))
 
 -- What comes before a fault is not after its start.
 not_behind : (t u : Turn) (f g : NameFault) → IsBefore t f u g → NotBehind t f u (fault_start g)
@@ -65,7 +66,7 @@ entity_known : (file : t.File) (f : NameFault) → IsEntityFault file f → unkn
 entity_known file f (law.twice i e at r) = refl
 entity_known file f (law.too_many i e at r l) = refl
 
-main_known : (file : t.File) (f : NameFault) → At file main f → unknown_at f ≡ None
+main_known : (file : t.File) (f : NameFault) → IsFaultInTurn file main f → unknown_at f ≡ None
 main_known file f (inl a) = ap unknown_at a.0
 main_known file f (inr a) = ap unknown_at a.2
 
@@ -74,22 +75,22 @@ declared_missing file e f s (law.unknown n m) is = (n, m, sym (same_Some n.span 
 declared_missing file e f s (law.twice n m) is = absurd (none-some s is)
 declared_missing file e f s (law.too_many i x at fresh l) is = absurd (none-some s is)
 
-abbrev lost_at : Fault → Option Span
+abbrev lost_at : BodyNameFault → Option Span
 lost_at (unknown s) = Some s
 lost_at (double s) = None
 lost_at (long_text s) = None
 
-lost_is : (g : Fault) → unknown_at (body_fault g) ≡ lost_at g
+lost_is : (g : BodyNameFault) → unknown_at (body_fault g) ≡ lost_at g
 lost_is (unknown s) = refl
 lost_is (double s) = refl
 lost_is (long_text s) = refl
 
-at_missing : (c : Context) (x : Spot) (g : Fault) (s : Span) → lost_at g ≡ Some s → IsAtFault c x g → IsMissing c x × (s ≡ place x.what)
+at_missing : (c : Context) (x : Spot) (g : BodyNameFault) (s : Span) → lost_at g ≡ Some s → IsAtFault c x g → IsMissing c x × (s ≡ place x.what)
 at_missing c x g s is (inl a) = (a.1, same_Some s (place x.what) (sym is ∙ ap lost_at a.0))
 at_missing c x g s is (inr (inl a)) = absurd (none-some s (sym (ap lost_at a.0) ∙ is))
 at_missing c x g s is (inr (inr a)) = absurd (none-some s (sym (ap lost_at a.0) ∙ is))
 
-missing_at : (file : t.File) (u : Turn) (s : Span) → At file u (fault.Unknown s) → IsMissingAt file u s
+missing_at : (file : t.File) (u : Turn) (s : Span) → IsFaultInTurn file u (fault.Unknown s) → IsMissingAt file u s
 missing_at file entity_names s at = other_fault (fault.Unknown s) s (entity_known file (fault.Unknown s) at) refl
 missing_at file declarations s at = let r = declared_missing file at.0 (fault.Unknown s) s at.2 refl in (at.0, r.0, at.1, r.1, r.2)
 missing_at file cycles s at = other_fault (fault.Cycle at.1.name.span) s refl at.4
@@ -107,7 +108,7 @@ unknown_is_missing file s is = let x = told file (fault.Unknown s) is in (x.turn
 
 -- ---- a name without a meaning
 
-at_missing_name : (file : t.File) (u : Turn) (s : Span) → IsMissingAt file u s → At file u (fault.Unknown s)
+at_missing_name : (file : t.File) (u : Turn) (s : Span) → IsMissingAt file u s → IsFaultInTurn file u (fault.Unknown s)
 at_missing_name file entity_names s m = absurd m
 at_missing_name file declarations s m = (m.0, m.2, subst (λ (p : Span). IsDeclarationFault file m.0 (fault.Unknown p)) (sym m.4) (law.unknown m.1 m.3))
 at_missing_name file cycles s m = absurd m

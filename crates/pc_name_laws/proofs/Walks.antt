@@ -5,15 +5,17 @@ use Rattle.std.proofs.lemmas.List.{map-append}
 use Rattle.std.proofs.lemmas.Option.{same_Some, none-some}
 use Rattle.pc_lists.specs.Places.{Has}
 use Rattle.pc_lists.proofs.Elements.{has_on}
-use Rattle.pc_tree.specs.declared.names.Name.{Name}
+use Rattle.pc_tree.specs.declared.written_names.Name.{Name}
 use Rattle.pc_tree.specs.declared.file.ParamDef.{ParamDef}
 use Rattle.pc_tree.specs.declared.kinds.MethodWord.{MethodWord}
 use Rattle.pc_tree.specs.declared.kinds.MethodWord.TheVariants as word
 use Rattle.pc_tree.specs.Tree as t
-use Rattle.pc_body_spec.specs.Scopes.{Context, Scope, Visible, defined, resolve, primitive, created, no_value, scope_after, params_from, params_scope}
+use Rattle.pc_body_spec.specs.Scopes.{Context, Scope, Visible, defined_local, resolve, primitive, created, no_value, scope_after, params_from, params_scope}
 use Rattle.pc_body_spec.specs.Bodies.{initial_fields}
-use Rattle.pc_body_spec.specs.Expressions.{Start, with_method, with_type, with_value, start_of}
-use Rattle.pc_body_spec.specs.Faults.{Fault, double, when, is_taken, written_faults, Next, end, next_of, start_faults, faults_of, exprs_faults, suffixes_faults, arms_faults, arm_faults, other_faults, seq_faults, items_faults, item_faults, value_faults, initial_faults, written_body_faults}
+use Rattle.pc_body_spec.specs.Expressions.{Start, with_method, with_type, with_value, chain_start}
+use Rattle.pc_body_spec.specs.Faults.{BodyNameFault, double, fault_if, is_name_taken, written_faults, Next, end, next_of, start_faults, faults_of, exprs_faults}
+use Rattle.pc_body_spec.specs.Faults.{suffixes_faults, arms_faults, arm_faults, other_faults, seq_faults, items_faults, item_faults, value_faults}
+use Rattle.pc_body_spec.specs.Faults.{initial_faults, written_body_faults}
 use Rattle.pc_body_spec.specs.Places.{written_places, places, exprs_places, suffixes_places, arm_places, arms_places, other_places, seq_places, items_places, item_places, value_places, initial_places, written_body_places, body_places}
 use Rattle.pc_members.specs.Members.{Member, written, added}
 use Rattle.pc_file_spec.proofs.Steps.{member_faults}
@@ -23,7 +25,7 @@ use Rattle.pc_name_laws.proofs.Telling.{Tells, no_spot, either, turned}
 use Rattle.pc_name_laws.proofs.Meanings.{names}
 use Rattle.pc_name_laws.proofs.Uses.{bare_tells, consumed_tells, type_tells, Begins, dot_tells, name_begins, local_tells, written_tells, literal_tells}
 
-begins : (c : Context) (sc : Scope) (h : t.Expr) → Begins c (start_of c sc h) (type_name_of h)
+begins : (c : Context) (sc : Scope) (h : t.Expr) → Begins c (chain_start c sc h) (type_name_of h)
 begins c sc (t.number n s) = refl
 begins c sc (t.truth b s) = refl
 begins c sc (t.text b s) = refl
@@ -42,11 +44,12 @@ begins c sc (t.assign l r s) = refl
 
 -- One more local is visible.
 names_after : (c : Context) (sc : Scope) (i : t.Item) → names (scope_after c sc i) ≡ visible_after (names sc) i
-names_after c sc (t.local fixed n ty e s) = map-append (λ (v : Visible). v.name) sc (defined c n ∷ [])
+names_after c sc (t.local fixed n ty e s) = map-append (λ (v : Visible). v.name) sc (defined_local c n ∷ [])
 names_after c sc (t.plain e) = refl
 
 -- After the end of an expression nothing follows.
-at_end : {c : Context} {P : Spot → Type 0} {ns : List ℕ} (st : Start) (fs : List Fault) → Tells c (start_faults st end fs) P ns → Tells c fs P ns
+at_end : {c : Context} {P : Spot → Type 0} {ns : List ℕ} (st : Start) (fs : List BodyNameFault) → Tells c (start_faults st end fs) P ns
+    → Tells c fs P ns
 at_end (with_method n) fs h = h
 at_end (with_type (primitive e)) fs h = h
 at_end (with_type (created actor cs)) fs h = h
@@ -54,8 +57,9 @@ at_end (with_type no_value) fs h = h
 at_end with_value fs h = h
 
 -- A local, with its type and its value.
-local_item : (c : Context) (sc : Scope) (n : Name) (ws fs : List Fault) (P Q : Spot → Type 0) (ns ms : List ℕ) → Tells c ws P ns → Tells c fs Q ms
-    → Tells c (when (is_taken (resolve c sc n.text)) (double n.span) ++ ws ++ fs) (λ x. Here (names sc) (u.local n) x ⊎ P x ⊎ Q x) (n.span.start ∷ (ns ++ ms))
+local_item : (c : Context) (sc : Scope) (n : Name) (ws fs : List BodyNameFault) (P Q : Spot → Type 0) (ns ms : List ℕ) → Tells c ws P ns
+    → Tells c fs Q ms
+    → Tells c (fault_if (is_name_taken (resolve c sc n.text)) (double n.span) ++ ws ++ fs) (λ x. Here (names sc) (u.local n) x ⊎ P x ⊎ Q x) (n.span.start ∷ (ns ++ ms))
 local_item c sc n ws fs P Q ns ms p q =
     turned (λ x. Here (names sc) (u.local n) x ⊎ P x ⊎ Q x)
     (λ x h. ⊎_elim (λ a. ⊎_elim (λ b. inl b) (λ b. inr (inl b)) a) (λ a. inr (inr a)) h)
@@ -63,7 +67,7 @@ local_item c sc n ws fs P Q ns ms p q =
     (either (either (local_tells c sc n) p) q)
 
 mutual
-  expr_tells : (c : Context) (sc : Scope) (next : Next) (e : t.Expr) → Tells c (start_faults (start_of c sc e) next (faults_of c sc e)) (In (names sc) next e) (places e)
+  expr_tells : (c : Context) (sc : Scope) (next : Next) (e : t.Expr) → Tells c (start_faults (chain_start c sc e) next (faults_of c sc e)) (In (names sc) next e) (places e)
   expr_tells c sc next (t.number n s) = no_spot c []
   expr_tells c sc next (t.truth b s) = no_spot c []
   expr_tells c sc next (t.text b s) = literal_tells c (names sc) b s
@@ -71,18 +75,18 @@ mutual
   expr_tells c sc next (t.type_name n) = type_tells c (names sc) n next
   expr_tells c sc next (t.this s) = no_spot c []
   expr_tells c sc next (t.consume n s) = consumed_tells c sc n
-  expr_tells c sc next (t.not_ e s) = at_end (start_of c sc e) (faults_of c sc e) (expr_tells c sc end e)
+  expr_tells c sc next (t.not_ e s) = at_end (chain_start c sc e) (faults_of c sc e) (expr_tells c sc end e)
   expr_tells c sc next (t.infix_ o es s) = exprs_tell c sc es
-  expr_tells c sc next (t.chain h ss s) = either (expr_tells c sc (next_of ss) h) (suffixes_tell c sc (start_of c sc h) (type_name_of h) ss (begins c sc h))
+  expr_tells c sc next (t.chain h ss s) = either (expr_tells c sc (next_of ss) h) (suffixes_tell c sc (chain_start c sc h) (type_name_of h) ss (begins c sc h))
   expr_tells c sc next (t.group b s) = seq_tells c sc b
   expr_tells c sc next (t.if_ as' o s) = either (arms_tell c sc as') (other_tells c sc o)
   expr_tells c sc next (t.while_ cond b s) = either (seq_tells c sc cond) (seq_tells c sc b)
   expr_tells c sc next (t.recover k b s) = seq_tells c sc b
-  expr_tells c sc next (t.assign l r s) = either (at_end (start_of c sc l) (faults_of c sc l) (expr_tells c sc end l)) (at_end (start_of c sc r) (faults_of c sc r) (expr_tells c sc end r))
+  expr_tells c sc next (t.assign l r s) = either (at_end (chain_start c sc l) (faults_of c sc l) (expr_tells c sc end l)) (at_end (chain_start c sc r) (faults_of c sc r) (expr_tells c sc end r))
 
   exprs_tell : (c : Context) (sc : Scope) (es : t.Exprs) → Tells c (exprs_faults c sc es) (InExprs (names sc) es) (exprs_places es)
   exprs_tell c sc t.no_exprs = no_spot c []
-  exprs_tell c sc (t.expr e es) = either (at_end (start_of c sc e) (faults_of c sc e) (expr_tells c sc end e)) (exprs_tell c sc es)
+  exprs_tell c sc (t.expr e es) = either (at_end (chain_start c sc e) (faults_of c sc e) (expr_tells c sc end e)) (exprs_tell c sc es)
 
   suffixes_tell : (c : Context) (sc : Scope) (st : Start) (of : Option Name) (ss : t.Suffixes) → Begins c st of → Tells c (suffixes_faults c sc st ss) (InSuffixes (names sc) of ss) (suffixes_places ss)
   suffixes_tell c sc st of t.no_suffixes h = no_spot c []
@@ -111,14 +115,14 @@ mutual
   item_tells : (c : Context) (sc : Scope) (i : t.Item) → Tells c (item_faults c sc i) (InItem (names sc) i) (item_places i)
   item_tells c sc (t.local fixed n ty e s) =
       local_item c sc n (written_faults c ty) (faults_of c sc e) (TypeIn (names sc) ty) (In (names sc) end e) (written_places ty) (places e)
-      (written_tells c (names sc) ty) (at_end (start_of c sc e) (faults_of c sc e) (expr_tells c sc end e))
-  item_tells c sc (t.plain e) = at_end (start_of c sc e) (faults_of c sc e) (expr_tells c sc end e)
+      (written_tells c (names sc) ty) (at_end (chain_start c sc e) (faults_of c sc e) (expr_tells c sc end e))
+  item_tells c sc (t.plain e) = at_end (chain_start c sc e) (faults_of c sc e) (expr_tells c sc end e)
 
 -- ---- initial values and bodies
 
 value_tells : (c : Context) (v : Option t.Expr) → Tells c (value_faults c v) (InValue v) (value_places v)
 value_tells c None = no_spot c []
-value_tells c (Some e) = at_end (start_of c [] e) (faults_of c [] e) (expr_tells c [] end e)
+value_tells c (Some e) = at_end (chain_start c [] e) (faults_of c [] e) (expr_tells c [] end e)
 
 pub initials_tell : (c : Context) (fs : List t.Field) → Tells c (initial_faults c fs) (InInitials fs) (initial_places fs)
 initials_tell c [] = turned (InInitials []) (λ x h. absurd h) (λ x h. none-some h.0 h.1.1) (no_spot c [])

@@ -2,7 +2,7 @@
 use Rattle.std.specs.Prelude.{◌≡◌, ◌⊎◌, ◌↔◌, ℕ, List, slice_get, Some}
 use Rattle.pc_lists.specs.Places.{Has, Ascends}
 use Rattle.pc_caps.specs.declared.span.Span.{Span}
-use Rattle.pc_tree.specs.declared.names.Name.{Name}
+use Rattle.pc_tree.specs.declared.written_names.Name.{Name}
 use Rattle.pc_tree.specs.Tree as t
 use Rattle.pc_token.specs.declared.kinds.Token.{Token}
 use Rattle.pc_lex.specs.Pieces.{Tokens}
@@ -15,9 +15,9 @@ use Rattle.pc_members.specs.Tables.{trait_names}
 use Rattle.pc_names.specs.Faults.{entity_name_faults, entity_faults}
 use Rattle.pc_names.specs.Counts.{count_faults}
 use Rattle.pc_names.specs.Mains.{main_faults}
-use Rattle.pc_names.specs.Names.{IsNameFault, OfFile}
+use Rattle.pc_names.specs.Names.{IsNameFault, IsNotMemory}
 use Rattle.pc_body_spec.specs.Scopes.{Context}
-use Rattle.pc_body_spec.specs.Faults.{Fault, body_faults, initial_faults}
+use Rattle.pc_body_spec.specs.Faults.{BodyNameFault, body_faults, initial_faults}
 use Rattle.pc_members.specs.Members.{written, added}
 use Rattle.pc_file_spec.specs.Members.{Owned}
 use Rattle.pc_file_spec.specs.Signatures.{context_of}
@@ -25,7 +25,8 @@ use Rattle.pc_file_spec.specs.Cores.{IsElabFault}
 use Rattle.pc_name_laws.specs.Uses.{Spot, InMember}
 use Rattle.pc_name_laws.specs.Missing.{IsMissing, IsBodyFault, place}
 use Rattle.pc_name_laws.specs.Declared.{IsEntityFault, IsDeclarationFault, IsMissingName}
-use Rattle.pc_name_laws.specs.Turns.{Turn, entity_names, declarations, cycles, method_counts, main, body, slots, nodes, IsCountFault, IsMainFault, At, IsBefore, NotBehind, all_members}
+use Rattle.pc_name_laws.specs.Turns.{Turn, entity_names, declarations, cycles, method_counts, main, body, slots, nodes, IsCountFault, IsMainFault}
+use Rattle.pc_name_laws.specs.Turns.{IsFaultInTurn, IsBefore, NotBehind, all_members}
 
 -- ---- what the passes look for
 
@@ -44,20 +45,20 @@ abbrev pub MainsAreListed : Type 0
 MainsAreListed = (file : t.File) (f : NameFault) → Has (main_faults file.entities) f ↔ IsMainFault file f
 
 abbrev pub BodiesAreListed : Type 0
-BodiesAreListed = (c : Context) (e : t.Entity) (m : t.Method) (f : Fault) → Has (body_faults c e.fields m) f ↔ IsBodyFault c e (written m) f
+BodiesAreListed = (c : Context) (e : t.Entity) (m : t.Method) (f : BodyNameFault) → Has (body_faults c e.fields m) f ↔ IsBodyFault c e (written m) f
 
 abbrev pub AddedBodiesAreListed : Type 0
-AddedBodiesAreListed = (c : Context) (e : t.Entity) (f : Fault) → Has (initial_faults c e.fields) f ↔ IsBodyFault c e added f
+AddedBodiesAreListed = (c : Context) (e : t.Entity) (f : BodyNameFault) → Has (initial_faults c e.fields) f ↔ IsBodyFault c e added f
 
 -- ---- the fault that is reported
 
 -- The fault that is reported for a file: the first fault of its names, or if they have none that of its members.
 abbrev pub IsTold : t.File → NameFault → Type 0
-IsTold file f = OfFile f × (IsNameFault file f ⊎ IsElabFault file f)
+IsTold file f = IsNotMemory f × (IsNameFault file f ⊎ IsElabFault file f)
 
 -- The fault is one of this turn, and precedes all other faults of all turns.
 abbrev pub IsLeast : t.File → Turn → NameFault → Type 0
-IsLeast file t f = At file t f × ((u : Turn) (g : NameFault) → At file u g → IsBefore t f u g)
+IsLeast file t f = IsFaultInTurn file t f × ((u : Turn) (g : NameFault) → IsFaultInTurn file u g → IsBefore t f u g)
 
 -- For a file that tokens spell in the order of a text, the reported fault is the least of all.
 abbrev pub ToldIsLeast : Type 0
@@ -69,7 +70,7 @@ ToldOfTextIsLeast = (text : List ℕ) (file : t.File) (ts : List Token) (f : Nam
 
 -- If a file has a fault, one is reported.
 abbrev pub FaultIsTold : Type 0
-FaultIsTold = (file : t.File) (t : Turn) (g : NameFault) → At file t g → (f : NameFault) × IsTold file f
+FaultIsTold = (file : t.File) (t : Turn) (g : NameFault) → IsFaultInTurn file t g → (f : NameFault) × IsTold file f
 
 -- ---- unknown names
 
@@ -92,4 +93,4 @@ UnknownIsMissing = (file : t.File) (s : Span) → IsTold file (fault.Unknown s) 
 abbrev pub MissingIsTold : Type 0
 MissingIsTold =
     (file : t.File) (ts : List Token) (t : Turn) (s : Span) → SpellsFile file ts → Ascends (starts ts) → IsMissingAt file t s
-    → (f : NameFault) × (u : Turn) × IsTold file f × At file u f × NotBehind u f t s.start
+    → (f : NameFault) × (u : Turn) × IsTold file f × IsFaultInTurn file u f × NotBehind u f t s.start

@@ -3,7 +3,7 @@
 use Rattle.std.specs.Prelude.{◌≡◌, ◌⊎◌, ℕ, suc, ◌+◌, ◌*◌, ◌<◌, ◌≤◌, false, List, [], ◌∷◌, take, Option, Some, None, slice_get, codes, ◌-◌}
 use Rattle.pc_caps.specs.Limits.{method_limit, node_limit, slot_limit}
 use Rattle.pc_lists.specs.Places.{Has}
-use Rattle.pc_tree.specs.declared.names.Name.{Name}
+use Rattle.pc_tree.specs.declared.written_names.Name.{Name}
 use Rattle.pc_tree.specs.Tree as t
 use Rattle.pc_names.specs.declared.fault.NameFault.{NameFault}
 use Rattle.pc_names.specs.declared.fault.NameFault.TheVariants as fault
@@ -19,7 +19,7 @@ use Rattle.pc_body_spec.specs.Scopes.{Context}
 use Rattle.pc_body_spec.specs.Bodies.{body_of, added_body}
 use Rattle.pc_body_spec.specs.Slots.{initial_locals}
 use Rattle.pc_body_spec.specs.Methods.{slot_names, local_names}
-use Rattle.pc_body_spec.specs.Faults.{Fault}
+use Rattle.pc_body_spec.specs.Faults.{BodyNameFault}
 use Rattle.pc_members.specs.Members.{Member, written, added, member_span}
 use Rattle.pc_file_spec.specs.Members.{Owned, members_from}
 use Rattle.pc_file_spec.specs.Signatures.{context_of}
@@ -124,15 +124,15 @@ nodes_of file (o ∷ os) = owned_size file o + nodes_of file os
 -- ---- all faults
 
 -- The file has this fault in this turn.
-abbrev pub At : t.File → Turn → NameFault → Type 0
-At file entity_names f = IsEntityFault file f
-At file declarations f = (e : t.Entity) × Has file.entities e × IsDeclarationFault file e f
-At file cycles f = IsCycleFault file f
-At file method_counts f = IsCountFault file f
-At file main f = IsMainFault file f
-At file (body k) f = (o : Owned) × (g : Fault) × (slice_get (all_members file) k ≡ Some o) × IsBodyFault (context_of file o) o.owner o.member g × (f ≡ body_fault g)
-At file (slots k) f = (o : Owned) × (n : Name) × (slice_get (all_members file) k ≡ Some o) × (slice_get (slots_named o.owner o.member) (slot_limit - 1) ≡ Some n) × (f ≡ fault.TooMany which.Slots n.span)
-At file (nodes k) f = (o : Owned) × (slice_get (all_members file) k ≡ Some o) × (node_limit < nodes_of file (take (suc k) (all_members file))) × (f ≡ fault.TooMany which.Nodes (member_span o.owner.name.span o.member))
+abbrev pub IsFaultInTurn : t.File → Turn → NameFault → Type 0
+IsFaultInTurn file entity_names f = IsEntityFault file f
+IsFaultInTurn file declarations f = (e : t.Entity) × Has file.entities e × IsDeclarationFault file e f
+IsFaultInTurn file cycles f = IsCycleFault file f
+IsFaultInTurn file method_counts f = IsCountFault file f
+IsFaultInTurn file main f = IsMainFault file f
+IsFaultInTurn file (body k) f = (o : Owned) × (g : BodyNameFault) × (slice_get (all_members file) k ≡ Some o) × IsBodyFault (context_of file o) o.owner o.member g × (f ≡ body_fault g)
+IsFaultInTurn file (slots k) f = (o : Owned) × (n : Name) × (slice_get (all_members file) k ≡ Some o) × (slice_get (slots_named o.owner o.member) (slot_limit - 1) ≡ Some n) × (f ≡ fault.TooMany which.Slots n.span)
+IsFaultInTurn file (nodes k) f = (o : Owned) × (slice_get (all_members file) k ≡ Some o) × (node_limit < nodes_of file (take (suc k) (all_members file))) × (f ≡ fault.TooMany which.Nodes (member_span o.owner.name.span o.member))
 
 -- A fault in a turn precedes another in a turn, or equals it: its turn is not later, and within one turn it has the
 -- smaller start.

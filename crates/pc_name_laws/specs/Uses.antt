@@ -3,8 +3,8 @@ use Rattle.std.specs.Prelude.{◌≡◌, ◌⊎◌, ℕ, List, [], ◌∷◌, �
 use Rattle.pc_lists.specs.Places.{Has}
 use Rattle.pc_caps.specs.declared.span.Span.{Span}
 use Rattle.pc_tree.specs.declared.kinds.MethodWord.TheVariants as word
-use Rattle.pc_tree.specs.declared.names.Name.{Name}
-use Rattle.pc_tree.specs.declared.names.TypeRef.{TypeRef}
+use Rattle.pc_tree.specs.declared.written_names.Name.{Name}
+use Rattle.pc_tree.specs.declared.written_names.TypeRef.{TypeRef}
 use Rattle.pc_tree.specs.declared.file.ParamDef.{ParamDef}
 use Rattle.pc_tree.specs.Tree as t
 use Rattle.pc_lists.specs.Texts.{Text}
@@ -12,30 +12,30 @@ use Rattle.pc_body_spec.specs.Faults.{Next, end, next_of}
 use Rattle.pc_members.specs.Members.{Member, written, added}
 
 -- What can be at fault in a body.
-pub data Use : Type 0 where
+pub data NameUse : Type 0 where
   -- a bare name, and what follows it directly
-  bare : Name → Next → Use
+  bare : Name → Next → NameUse
   -- the name after `consume`
-  consumed : Name → Use
+  consumed : Name → NameUse
   -- a type name as an expression, and what follows it directly
-  type_value : Name → Next → Use
+  type_value : Name → Next → NameUse
   -- a type name that starts a chain, the name after its `.`, and what follows that directly
-  member_of : Name → Name → Next → Use
+  member_of : Name → Name → Next → NameUse
   -- the name of a local, at its definition
-  local : Name → Use
+  local : Name → NameUse
   -- the type that is written for a local
-  local_type : Name → Use
-  literal : List ℕ → Span → Use
+  local_type : Name → NameUse
+  literal : List ℕ → Span → NameUse
 
 -- A use, with the names of the locals and parameters that are visible there.
 pub record Spot : Type 0 where
   pub visible : List Text
-  pub what : Use
+  pub what : NameUse
 
-abbrev pub spot : List Text → Use → Spot
+abbrev pub spot : List Text → NameUse → Spot
 spot visible u = record { visible = visible; what = u }
 
-abbrev pub Here : List Text → Use → Spot → Type 0
+abbrev pub Here : List Text → NameUse → Spot → Type 0
 Here visible u x = x ≡ spot visible u
 
 -- The type name with which a chain starts.

@@ -8,8 +8,8 @@ use Rattle.pc_names.specs.declared.fault.NameFault.{NameFault}
 use Rattle.pc_names.specs.declared.fault.NameFault.TheVariants as fault
 use Rattle.pc_tree.specs.Kinds.{is_abstract}
 use Rattle.pc_names.specs.Faults.{where_}
-use Rattle.pc_members.specs.Reach.{has}
-use Rattle.pc_members.specs.Chains.{Closes, InCycle, Leads, entity_at}
+use Rattle.pc_members.specs.Reach.{has_number}
+use Rattle.pc_members.specs.Chains.{IsTransitiveClosure, InCycle, LeadsInFile, entity_at}
 use Rattle.pc_tree.specs.BuiltIn.{first_own}
 use Rattle.pc_names.specs.Cycles.{cycle_faults}
 use Rattle.pc_names.specs.Laws.{CycleIsFirst, NoCycle}
@@ -22,7 +22,7 @@ use Rattle.pc_lists.proofs.Bools.{no_both}
 
 -- Entity number a is a trait that is above itself.
 abbrev pub bad : ℕ → t.Entity → List ℕ → Bool
-bad a e l = is_abstract e.kind && has l a
+bad a e l = is_abstract e.kind && has_number l a
 
 -- None of the first entities is.
 abbrev pub Clear : ℕ → List t.Entity → List (List ℕ) → ℕ → Type 0
@@ -121,24 +121,24 @@ own_list above i = get_drop above first_own i ∙ ap (slice_get above) (is_own i
 
 -- ---- cycles
 
-bad_cycle : (file : t.File) (above : List (List ℕ)) (i : ℕ) (e : t.Entity) (l : List ℕ) → Closes file above → slice_get file.entities i ≡ Some e → slice_get (drop first_own above) i ≡ Some l
+bad_cycle : (file : t.File) (above : List (List ℕ)) (i : ℕ) (e : t.Entity) (l : List ℕ) → IsTransitiveClosure file above → slice_get file.entities i ≡ Some e → slice_get (drop first_own above) i ≡ Some l
     → bad (first_own + i) e l ≡ true → InCycle file (own i)
 bad_cycle file above i e l c he hl b =
-    let p = and_parts (is_abstract e.kind) (has l (first_own + i)) b in
-    let h : has l (own i) ≡ true = ap (has l) (sym (is_own i)) ∙ p.1 in
+    let p = and_parts (is_abstract e.kind) (has_number l (first_own + i)) b in
+    let h : has_number l (own i) ≡ true = ap (has_number l) (sym (is_own i)) ∙ p.1 in
     let a = c.1 (own i) l (sym (own_list above i) ∙ hl) in
     (e, get_some file.entities i e he, p.0, (a.1 (own i)).0 (in_get l (own i) (has_in l (own i) h)))
 
-cycle_bad : (file : t.File) (above : List (List ℕ)) (a : ℕ) → Closes file above → InCycle file a
+cycle_bad : (file : t.File) (above : List (List ℕ)) (a : ℕ) → IsTransitiveClosure file above → InCycle file a
     → (j : ℕ) × (d : t.Entity) × (m : List ℕ) × (a ≡ own j) × (slice_get file.entities j ≡ Some d) × (slice_get (drop first_own above) j ≡ Some m) × (bad (first_own + j) d m ≡ true)
 cycle_bad file above a c x =
     let o = entity_own file a x.0 x.1 in
     let w = slice_get_within file.entities o.0 x.0 o.2 in
     let g = get_within above (own o.0) (let n = c.0 in omega (arith, w, n)) in
     let above_it = c.1 (own o.0) g.0 g.1 in
-    let h = (above_it.1 (own o.0)).1 (subst (λ k. Leads file k k) o.1 x.3) in
-    let b : has g.0 (first_own + o.0) ≡ true = ap (has g.0) (is_own o.0) ∙ in_has g.0 (own o.0) (get_in g.0 h.0 (own o.0) h.1) in
-    (o.0, x.0, g.0, o.1, o.2, own_list above o.0 ∙ g.1, ap (λ k. k && has g.0 (first_own + o.0)) x.2 ∙ b)
+    let h = (above_it.1 (own o.0)).1 (subst (λ k. LeadsInFile file k k) o.1 x.3) in
+    let b : has_number g.0 (first_own + o.0) ≡ true = ap (has_number g.0) (is_own o.0) ∙ in_has g.0 (own o.0) (get_in g.0 h.0 (own o.0) h.1) in
+    (o.0, x.0, g.0, o.1, o.2, own_list above o.0 ∙ g.1, ap (λ k. k && has_number g.0 (first_own + o.0)) x.2 ∙ b)
 
 pub no_cycle : NoCycle
 no_cycle file above c none a x =

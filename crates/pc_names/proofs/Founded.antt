@@ -4,7 +4,7 @@ use Rattle.std.specs.Prelude.{nat_lt, drop}
 use Rattle.std.proofs.lemmas.Bool.{ltb-true, not-false}
 use Rattle.std.proofs.lemmas.Option.{same_Some, none-some}
 use Rattle.std.proofs.lemmas.List.{length_push, append_assoc}
-use Rattle.pc_tree.specs.declared.names.Name.{Name}
+use Rattle.pc_tree.specs.declared.written_names.Name.{Name}
 use Rattle.pc_tree.specs.Tree as t
 use Rattle.pc_lists.specs.Places.{Has, Differ}
 use Rattle.pc_lists.proofs.Elements.{differ_none}
@@ -15,11 +15,12 @@ use Rattle.pc_names.specs.declared.fault.Which.TheVariants as which
 use Rattle.pc_lists.specs.Texts.{Text}
 use Rattle.pc_members.specs.Words.{is_among, built_in_names, texts_of, entity_names}
 use Rattle.pc_members.specs.Tables.{trait_names}
-use Rattle.pc_members.specs.Chains.{Closes}
+use Rattle.pc_members.specs.Chains.{IsTransitiveClosure}
 use Rattle.pc_members.specs.Founded.{IsFounded}
 use Rattle.pc_tree.specs.BuiltIn.{first_own}
 use Rattle.pc_members.proofs.Differences.{differ_push, among_has}
-use Rattle.pc_names.specs.Faults.{where_, either, provided_faults, added_faults, entity_faults, entities_faults, entity_name_faults, declaration_faults, known_limit}
+use Rattle.pc_names.specs.Faults.{where_, either_fault, provided_faults, added_faults, entity_faults, entities_faults, entity_name_faults, declaration_faults}
+use Rattle.pc_names.specs.Faults.{known_limit}
 use Rattle.pc_names.specs.Cycles.{cycle_faults}
 use Rattle.pc_names.specs.Names.{NamesData, Collected}
 use Rattle.pc_names.proofs.CycleFirsts.{no_cycle}
@@ -34,7 +35,7 @@ pub where_none : (b : Bool) (f : NameFault) → where_ b f ≡ [] → b ≡ fals
 where_none true f h = absurd (subst IsNone (sym h) tt)
 where_none false f h = refl
 
-pub either_none : (b : Bool) (f : NameFault) (c : Bool) (g : NameFault) → either b f c g ≡ [] → (b ≡ false) × (c ≡ false)
+pub either_none : (b : Bool) (f : NameFault) (c : Bool) (g : NameFault) → either_fault b f c g ≡ [] → (b ≡ false) × (c ≡ false)
 either_none true f c g h = absurd (subst IsNone (sym h) tt)
 either_none false f c g h = (refl, where_none c g h)
 
@@ -58,7 +59,7 @@ names_add known (e ∷ es) few h =
     let low : length known < known_limit = ltb-true (length known) known_limit (not-false (nat_lt (length known) known_limit) e0.1) in
     let count : length (known ++ e.name.text ∷ []) ≡ length known + 1 = length_push known e.name.text in
     let more : length (known ++ e.name.text ∷ []) ≤ known_limit = omega (arith, low, count) in
-    let rest = names_add (known ++ e.name.text ∷ []) es more (nil_right (either (is_among e.name.text known) (fault.Double e.name.span) (not (nat_lt (length known) known_limit)) (fault.TooMany which.Entities e.name.span)) _ h) in
+    let rest = names_add (known ++ e.name.text ∷ []) es more (nil_right (either_fault (is_among e.name.text known) (fault.Double e.name.span) (not (nat_lt (length known) known_limit)) (fault.TooMany which.Entities e.name.span)) _ h) in
     let total : length (known ++ e.name.text ∷ []) + length es ≤ known_limit = rest.1 in
     ((e0.0, rest.0), omega (arith, total, count))
 
@@ -77,7 +78,7 @@ pub provided_are : (traits known : List Text) (ns : List Name) → provided_faul
 provided_are traits known [] h n g = absurd (none-some n g.1)
 provided_are traits known (x ∷ ns) h n g =
     let e0 = either_none (not (is_among x.text traits)) (fault.Unknown x.span) (is_among x.text known) (fault.Double x.span) (nil_left _ _ h) in
-    first (among_has x.text traits (not-false (is_among x.text traits) e0.0)) (provided_are traits (known ++ x.text ∷ []) ns (nil_right (either (not (is_among x.text traits)) (fault.Unknown x.span) (is_among x.text known) (fault.Double x.span)) _ h)) n g
+    first (among_has x.text traits (not-false (is_among x.text traits) e0.0)) (provided_are traits (known ++ x.text ∷ []) ns (nil_right (either_fault (not (is_among x.text traits)) (fault.Unknown x.span) (is_among x.text known) (fault.Double x.span)) _ h)) n g
   where
     first : Has traits x.text → ((n : Name) → Has ns n → Has traits n.text) → (n : Name) → Has (x ∷ ns) n → Has traits n.text
     first a b n (zero, g) = subst (λ (y : Name). Has traits y.text) (same_Some x n g) a
@@ -95,7 +96,7 @@ all_provided entities traits (x ∷ es) h e g =
 
 -- ---- the whole file
 
-pub founded : (file : t.File) (above : List (List ℕ)) → Closes file above → entity_name_faults built_in_names file.entities ≡ [] → declaration_faults file ≡ [] → cycle_faults first_own file.entities (drop first_own above) ≡ [] → IsFounded file
+pub founded : (file : t.File) (above : List (List ℕ)) → IsTransitiveClosure file above → entity_name_faults built_in_names file.entities ≡ [] → declaration_faults file ≡ [] → cycle_faults first_own file.entities (drop first_own above) ≡ [] → IsFounded file
 founded file above closed names declared cycles = record {
   names = (all_differ file names).0;
   provides = λ e n he hn. all_provided (entity_names file) (trait_names file.entities) file.entities declared e he n hn;

@@ -5,8 +5,8 @@ use Rattle.std.proofs.lemmas.Option.{same_Some, none-some}
 use Rattle.pc_caps.specs.Limits.{field_limit}
 use Rattle.pc_lists.specs.Places.{Has, Ascends}
 use Rattle.pc_tree.specs.declared.file.ParamDef.{ParamDef}
-use Rattle.pc_tree.specs.declared.names.Name.{Name}
-use Rattle.pc_tree.specs.declared.names.TypeRef.{TypeRef}
+use Rattle.pc_tree.specs.declared.written_names.Name.{Name}
+use Rattle.pc_tree.specs.declared.written_names.TypeRef.{TypeRef}
 use Rattle.pc_tree.specs.Tree as t
 use Rattle.pc_names.specs.declared.fault.NameFault.{NameFault}
 use Rattle.pc_names.specs.declared.fault.NameFault.TheVariants as fault
@@ -14,8 +14,8 @@ use Rattle.pc_names.specs.declared.fault.Which.TheVariants as which
 use Rattle.pc_lists.specs.Texts.{Text}
 use Rattle.pc_members.specs.Words.{is_among, has_added, field_texts}
 use Rattle.pc_names.specs.Faults as spec
-use Rattle.pc_names.specs.Faults.{where_, either}
-use Rattle.pc_names.specs.Laws.{FirstIsLeast, fault_start, start_of, result_places, field_places, param_places, method_places, places}
+use Rattle.pc_names.specs.Faults.{where_, either_fault}
+use Rattle.pc_names.specs.Laws.{FirstIsLeast, fault_start, name_start, result_places, field_places, param_places, method_places, declared_places}
 use Rattle.pc_names.proofs.Ones.{ascends_tail, first_is}
 
 -- The faults are at some of the places, in their order, at most one at a place.
@@ -37,18 +37,18 @@ where_at : (b : Bool) (f : NameFault) → At (where_ b f) (fault_start f ∷ [])
 where_at true f = keep done
 where_at false f = done
 
-either_at : (b c : Bool) (f g : NameFault) → fault_start g ≡ fault_start f → At (either b f c g) (fault_start f ∷ [])
+either_at : (b c : Bool) (f g : NameFault) → fault_start g ≡ fault_start f → At (either_fault b f c g) (fault_start f ∷ [])
 either_at true c f g e = keep done
 either_at false c f g e = subst (λ p. At (where_ c g) (p ∷ [])) e (where_at c g)
 
-type_at : (entities : List Text) (ty : TypeRef) → At (spec.type_faults entities ty) (start_of ty.name ∷ [])
+type_at : (entities : List Text) (ty : TypeRef) → At (spec.type_faults entities ty) (name_start ty.name ∷ [])
 type_at entities ty = where_at (not (is_among ty.name.text entities)) (fault.Unknown ty.name.span)
 
 result_at : (entities : List Text) (ty : Option TypeRef) → At (spec.result_faults entities ty) (result_places ty)
 result_at entities None = done
 result_at entities (Some ty) = type_at entities ty
 
-provided_at : (traits known : List Text) (ns : List Name) → At (spec.provided_faults traits known ns) (map start_of ns)
+provided_at : (traits known : List Text) (ns : List Name) → At (spec.provided_faults traits known ns) (map name_start ns)
 provided_at traits known [] = done
 provided_at traits known (n ∷ ns) =
     join (either_at (not (is_among n.text traits)) (is_among n.text known) (fault.Unknown n.span) (fault.Double n.span) refl) (provided_at traits (known ++ n.text ∷ []) ns)
@@ -71,9 +71,9 @@ method_at entities fields known (m ∷ ms) =
     join (where_at (is_among m.name.text fields || is_among m.name.text known) (fault.Double m.name.span))
     (join (join (param_at entities fields [] m.params) (result_at entities m.result)) (method_at entities fields (known ++ m.name.text ∷ []) ms))
 
-entity_at : (entities traits : List Text) (e : t.Entity) → At (spec.entity_faults entities traits e) (places e)
+entity_at : (entities traits : List Text) (e : t.Entity) → At (spec.entity_faults entities traits e) (declared_places e)
 entity_at entities traits e =
-    join (where_at (has_added e && spec.is_taken (codes "create") e) (fault.Double e.name.span))
+    join (where_at (has_added e && spec.is_member_name (codes "create") e) (fault.Double e.name.span))
     (join (provided_at traits [] e.provides) (join (field_at entities [] e.fields) (method_at entities (field_texts e.fields) [] e.methods)))
 
 at_place : {fs : List NameFault} {ps : List ℕ} → At fs ps → (g : NameFault) (i : ℕ) → slice_get fs i ≡ Some g → Has ps (fault_start g)

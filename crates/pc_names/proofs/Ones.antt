@@ -6,9 +6,9 @@ use Rattle.pc_lists.specs.Places.{Each, Has, Ascends}
 use Rattle.pc_tree.specs.Tree as t
 use Rattle.pc_names.specs.declared.fault.NameFault.{NameFault}
 use Rattle.pc_names.specs.declared.fault.NameFault.TheVariants as fault
-use Rattle.pc_names.specs.Faults.{IsFirst}
+use Rattle.pc_names.specs.Faults.{IsFirstNameFault}
 use Rattle.pc_members.specs.Chains.{IsAbove}
-use Rattle.pc_names.specs.Names.{name_faults, OfFile}
+use Rattle.pc_names.specs.Names.{name_faults, IsNotMemory}
 use Rattle.pc_names.specs.Laws.{OneClosing, OneFault, NotBoth}
 
 -- ---- ascending lists
@@ -67,7 +67,7 @@ one_closing file one other x y = same_lists (λ a l. IsAbove file a l) (above_on
 
 -- ---- the first fault
 
-pub first_is : (f : NameFault) (fs : List NameFault) → OfFile f → IsFirst f fs → slice_get fs 0 ≡ Some f
+pub first_is : (f : NameFault) (fs : List NameFault) → IsNotMemory f → IsFirstNameFault f fs → slice_get fs 0 ≡ Some f
 first_is (fault.Double s) fs o h = h
 first_is (fault.Unknown s) fs o h = h
 first_is fault.NoMain fs o h = h

@@ -5,7 +5,7 @@ use Rattle.pc_tree.specs.Tree as t
 use Rattle.pc_lists.specs.Texts.{Text}
 use Rattle.pc_members.specs.Words.{field_texts, method_texts}
 use Rattle.pc_members.specs.Tables.{with_names}
-use Rattle.pc_names.specs.Texts.{with_members, other_texts, built_in_texts}
+use Rattle.pc_names.specs.Texts.{with_members, built_in_and_member_texts, built_in_texts}
 use Rattle.pc_members.proofs.Differences.{names_differ}
 use Rattle.pc_lists.proofs.Elements.{differ_none}
 
@@ -13,5 +13,5 @@ pub members_differ : (es : List t.Entity) (names : List Text) → Differ names �
 members_differ [] names d = d
 members_differ (e ∷ es) names d = members_differ es (with_names names (field_texts e.fields ++ method_texts e.methods)) (names_differ (field_texts e.fields ++ method_texts e.methods) names d)
 
-pub other_texts_differ : (es : List t.Entity) → Differ (other_texts es)
+pub other_texts_differ : (es : List t.Entity) → Differ (built_in_and_member_texts es)
 other_texts_differ es = members_differ es (with_names [] built_in_texts) (names_differ built_in_texts [] differ_none)

@@ -3,8 +3,8 @@
 use Rattle.std.specs.Prelude.{◌≡◌, ℕ, Bool, true, false, ◌&&◌, ◌||◌, not, List, [], ◌∷◌, ◌++◌, length, Option, Some, None, Result, Ok, Err, slice_get, nat_lt, codes, ◌+◌}
 use Rattle.pc_caps.specs.Limits.{entity_limit, field_limit}
 use Rattle.pc_tree.specs.declared.file.ParamDef.{ParamDef}
-use Rattle.pc_tree.specs.declared.names.Name.{Name}
-use Rattle.pc_tree.specs.declared.names.TypeRef.{TypeRef}
+use Rattle.pc_tree.specs.declared.written_names.Name.{Name}
+use Rattle.pc_tree.specs.declared.written_names.TypeRef.{TypeRef}
 use Rattle.pc_tree.specs.Tree as t
 use Rattle.pc_tree.specs.BuiltIn.{first_own}
 use Rattle.pc_names.specs.declared.fault.NameFault.{NameFault}
@@ -20,19 +20,19 @@ where_ true f = f ∷ []
 where_ false f = []
 
 -- One fault or the other, the first taking precedence, or none.
-abbrev pub either : Bool → NameFault → Bool → NameFault → List NameFault
-either true f b g = f ∷ []
-either false f b g = where_ b g
+abbrev pub either_fault : Bool → NameFault → Bool → NameFault → List NameFault
+either_fault true f b g = f ∷ []
+either_fault false f b g = where_ b g
 
 -- The fault is the first of the list. Memory may run out at any time.
-abbrev pub IsFirst : NameFault → List NameFault → Type 0
-IsFirst fault.Memory fs = Unit {0}
-IsFirst f fs = slice_get fs 0 ≡ Some f
+abbrev pub IsFirstNameFault : NameFault → List NameFault → Type 0
+IsFirstNameFault fault.Memory fs = Unit {0}
+IsFirstNameFault f fs = slice_get fs 0 ≡ Some f
 
 -- The first fault of a list is reported, and none if the list is empty.
-abbrev pub Tells : {A : Type 0} → Result A NameFault → List NameFault → Type 0
-Tells (Ok x) fs = fs ≡ []
-Tells (Err f) fs = IsFirst f fs
+abbrev pub TellsFirst : {A : Type 0} → Result A NameFault → List NameFault → Type 0
+TellsFirst (Ok x) fs = fs ≡ []
+TellsFirst (Err f) fs = IsFirstNameFault f fs
 
 -- ---- the names of entities
 
@@ -44,7 +44,7 @@ known_limit = first_own + entity_limit
 abbrev pub entity_name_faults : List Text → List t.Entity → List NameFault
 entity_name_faults known [] = []
 entity_name_faults known (e ∷ es) =
-    either (is_among e.name.text known) (fault.Double e.name.span) (not (nat_lt (length known) known_limit)) (fault.TooMany which.Entities e.name.span)
+    either_fault (is_among e.name.text known) (fault.Double e.name.span) (not (nat_lt (length known) known_limit)) (fault.TooMany which.Entities e.name.span)
     ++ entity_name_faults (known ++ e.name.text ∷ []) es
 
 -- ---- declarations, entity by entity
@@ -61,14 +61,14 @@ result_faults entities (Some ty) = type_faults entities ty
 abbrev pub provided_faults : List Text → List Text → List Name → List NameFault
 provided_faults traits known [] = []
 provided_faults traits known (n ∷ ns) =
-    either (not (is_among n.text traits)) (fault.Unknown n.span) (is_among n.text known) (fault.Double n.span)
+    either_fault (not (is_among n.text traits)) (fault.Unknown n.span) (is_among n.text known) (fault.Double n.span)
     ++ provided_faults traits (known ++ n.text ∷ []) ns
 
 -- A field whose name an earlier field has, the 65th field, and the field's type.
 abbrev pub field_faults : List Text → List Text → List t.Field → List NameFault
 field_faults entities known [] = []
 field_faults entities known (f ∷ fs) =
-    either (is_among f.name.text known) (fault.Double f.name.span) (not (nat_lt (length known) field_limit)) (fault.TooMany which.Fields f.name.span)
+    either_fault (is_among f.name.text known) (fault.Double f.name.span) (not (nat_lt (length known) field_limit)) (fault.TooMany which.Fields f.name.span)
     ++ (type_faults entities f.ty ++ field_faults entities (known ++ f.name.text ∷ []) fs)
 
 -- A parameter whose name a field or an earlier parameter has, and its type.
@@ -90,11 +90,11 @@ method_faults entities fields known (m ∷ ms) =
     ++ (signature_faults entities fields m ++ method_faults entities fields (known ++ m.name.text ∷ []) ms)
 
 -- An added `create` comes after all fields and methods, and its name is at that of the entity.
-abbrev pub is_taken : Text → t.Entity → Bool
-is_taken text e = is_among text (field_texts e.fields) || is_among text (method_texts e.methods)
+abbrev pub is_member_name : Text → t.Entity → Bool
+is_member_name text e = is_among text (field_texts e.fields) || is_among text (method_texts e.methods)
 
 abbrev pub added_faults : t.Entity → List NameFault
-added_faults e = where_ (has_added e && is_taken (codes "create") e) (fault.Double e.name.span)
+added_faults e = where_ (has_added e && is_member_name (codes "create") e) (fault.Double e.name.span)
 
 -- The faults of an entity, given the names of all entities and those of all traits.
 abbrev pub entity_faults : List Text → List Text → t.Entity → List NameFault

@@ -7,7 +7,7 @@ use Rattle.pc_caps.specs.declared.capability.Cap.TheVariants as cap
 use Rattle.pc_tree.specs.declared.file.ParamDef.{ParamDef}
 use Rattle.pc_tree.specs.declared.kinds.EntityKind.{EntityKind}
 use Rattle.pc_tree.specs.declared.kinds.EntityKind.TheVariants as kind
-use Rattle.pc_tree.specs.declared.names.TypeRef.{TypeRef}
+use Rattle.pc_tree.specs.declared.written_names.TypeRef.{TypeRef}
 use Rattle.pc_tree.specs.Tree as t
 use Rattle.pc_names.specs.declared.fault.NameFault.{NameFault}
 use Rattle.pc_names.specs.declared.fault.NameFault.TheVariants as fault
@@ -35,11 +35,11 @@ takes_env (p ∷ []) = is_env p.ty
 takes_env ps = false
 
 -- The constructor with which a program starts.
-abbrev pub begins : t.Method → Bool
-begins m = is_new m.word && (bytes_eq m.name.text (codes "create") && takes_env m.params)
+abbrev pub begins_program : t.Method → Bool
+begins_program m = is_new m.word && (bytes_eq m.name.text (codes "create") && takes_env m.params)
 
 abbrev pub is_main : t.Entity → Bool
-is_main e = is_actor e.kind && list_any begins e.methods
+is_main e = is_actor e.kind && list_any begins_program e.methods
 
 -- The first entity with this name.
 abbrev pub main_faults : List t.Entity → List NameFault

@@ -5,8 +5,8 @@ use Rattle.pc_tree.specs.Tree as t
 use Rattle.pc_names.specs.declared.fault.NameFault.{NameFault}
 use Rattle.pc_lists.specs.Texts.{Text}
 use Rattle.pc_members.specs.Words.{built_in_names, entity_names}
-use Rattle.pc_names.specs.Faults.{IsFirst, entity_name_faults, declaration_faults}
-use Rattle.pc_members.specs.Chains.{Closes}
+use Rattle.pc_names.specs.Faults.{IsFirstNameFault, entity_name_faults, declaration_faults}
+use Rattle.pc_members.specs.Chains.{IsTransitiveClosure}
 use Rattle.pc_tree.specs.BuiltIn.{first_own}
 use Rattle.pc_names.specs.Cycles.{cycle_faults}
 use Rattle.pc_names.specs.Counts.{count_faults}
@@ -35,13 +35,13 @@ name_faults file above = entity_name_faults built_in_names file.entities ++ (dec
 pub record Collected (file : t.File) (names : NamesData) : Type 0 where
   pub faults : name_faults file names.above ≡ []
   pub entities : names.entities ≡ entity_names file
-  pub above : Closes file names.above
+  pub above : IsTransitiveClosure file names.above
   pub texts : Differ names.texts
 
 -- The first fault of the file's names.
 abbrev pub IsNameFault : t.File → NameFault → Type 0
-IsNameFault file f = (above : List (List ℕ)) × Closes file above × IsFirst f (name_faults file above)
+IsNameFault file f = (above : List (List ℕ)) × IsTransitiveClosure file above × IsFirstNameFault f (name_faults file above)
 
 -- A fault other than running out of memory.
-abbrev pub OfFile : NameFault → Type 0
-OfFile f = f ≡ fault.Memory → ⊥
+abbrev pub IsNotMemory : NameFault → Type 0
+IsNotMemory f = f ≡ fault.Memory → ⊥

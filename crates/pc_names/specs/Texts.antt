@@ -14,5 +14,5 @@ abbrev pub with_members : List Text → List t.Entity → List Text
 with_members known [] = known
 with_members known (e ∷ es) = with_members (with_names known (field_texts e.fields ++ method_texts e.methods)) es
 
-abbrev pub other_texts : List t.Entity → List Text
-other_texts es = with_members (with_names [] built_in_texts) es
+abbrev pub built_in_and_member_texts : List t.Entity → List Text
+built_in_and_member_texts es = with_members (with_names [] built_in_texts) es

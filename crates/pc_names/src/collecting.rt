@@ -1,12 +1,12 @@
 //! The names of a file, or their first fault.
 ghost use Rattle.std.specs.Prelude.{◌≡◌, ◌+◌, ◌<◌, ◌^◌, [], drop, length, IfOk, IfErr};
 ghost use Rattle.pc_tree.specs.View.{file_view};
-ghost use Rattle.pc_members.specs.Chains.{Closes};
+ghost use Rattle.pc_members.specs.Chains.{IsTransitiveClosure};
 ghost use Rattle.pc_members.specs.Founded.{IsFounded};
 ghost use Rattle.pc_members.specs.Edges.{edges_of};
 ghost use Rattle.pc_tree.specs.BuiltIn.{first_own};
 ghost use Rattle.pc_names.specs.Cycles.{cycle_faults};
-ghost use Rattle.pc_names.specs.Faults.{Tells, declaration_faults, entity_name_faults};
+ghost use Rattle.pc_names.specs.Faults.{TellsFirst, declaration_faults, entity_name_faults};
 ghost use Rattle.pc_names.specs.Names.{Collected, IsNameFault, above_faults, member_faults};
 ghost use Rattle.pc_members.specs.Reach.{above_all};
 ghost use Rattle.pc_members.specs.Words.{built_in_names, entity_names};
@@ -17,7 +17,7 @@ use crate::declarations::check_entities;
 use crate::entities::{table_entities, table_traits};
 use crate::fault::NameFault;
 use crate::mains::check_main;
-use crate::names::Names;
+use crate::collected_names::Names;
 use crate::texts::table_texts;
 use pc_caps::List;
 use pc_member_counts::count_members;
@@ -28,7 +28,7 @@ use std::alloc::{AllocError, Global};
 // Checks the declarations of a file whose entities have these names.
 fn check_declarations(alloc: Global, entities: &NameTable, file: &File) -> Result<(), NameFault>
     requires { entities.now ≡ entity_names (file_view file.now) }
-    ensures { Tells result (declaration_faults (file_view file.now)) }
+    ensures { TellsFirst result (declaration_faults (file_view file.now)) }
 {
     let traits = table_traits(alloc, entities, file)?;
     check_entities(alloc, entities, &traits, file.entities.as_slice())
@@ -52,9 +52,9 @@ fn list_above(
 // No trait or interface of a file is above itself, given the entities above each.
 #[tactic(auto, using(crate::proofs::Passes::own_lengths, crate::proofs::Passes::own_few))]
 fn check_own_cycles(file: &File, above: &[List<u32>]) -> Result<(), NameFault>
-    requires closes { Closes (file_view file.now) above.now }
+    requires closes { IsTransitiveClosure (file_view file.now) above.now }
     requires numbers { first_own + length file.now.entities < 2 ^ 32 }
-    ensures { Tells result (cycle_faults first_own (file_view file.now).entities (drop first_own above.now)) }
+    ensures { TellsFirst result (cycle_faults first_own (file_view file.now).entities (drop first_own above.now)) }
 {
     check_cycles(FIRST_OWN, file.entities.as_slice(), own_part(above))
 }
@@ -68,9 +68,9 @@ fn check_members(
     file: &File,
 ) -> Result<(), NameFault>
     requires names { entities.now ≡ entity_names (file_view file.now) }
-    requires closes { Closes (file_view file.now) above.now }
+    requires closes { IsTransitiveClosure (file_view file.now) above.now }
     requires founded { IsFounded (file_view file.now) }
-    ensures { Tells result (member_faults (file_view file.now).entities) }
+    ensures { TellsFirst result (member_faults (file_view file.now).entities) }
 {
     let counts = count_members(alloc, entities, above, file)?;
     check_counts(file.entities.as_slice(), counts.as_slice())?;
@@ -87,11 +87,11 @@ fn check_above(
     file: &File,
 ) -> Result<(), NameFault>
     requires names { entities.now ≡ entity_names (file_view file.now) }
-    requires closes { Closes (file_view file.now) above.now }
+    requires closes { IsTransitiveClosure (file_view file.now) above.now }
     requires differ { entity_name_faults built_in_names (file_view file.now).entities ≡ [] }
     requires declared { declaration_faults (file_view file.now) ≡ [] }
     requires numbers { first_own + length file.now.entities < 2 ^ 32 }
-    ensures { Tells result (above_faults (file_view file.now).entities (drop first_own above.now)) }
+    ensures { TellsFirst result (above_faults (file_view file.now).entities (drop first_own above.now)) }
 {
     check_own_cycles(file, above)?;
     check_members(alloc, entities, above, file)

@@ -2,7 +2,7 @@
 ghost use Rattle.std.specs.Prelude.{◌≡◌, map, length};
 ghost use Rattle.pc_tree.specs.View.{entity_view};
 ghost use Rattle.pc_names.specs.Counts as spec;
-ghost use Rattle.pc_names.specs.Faults.{Tells};
+ghost use Rattle.pc_names.specs.Faults.{TellsFirst};
 
 use crate::fault::{NameFault, Which};
 use pc_caps::METHOD_LIMIT;
@@ -11,7 +11,7 @@ use pc_tree::Entity;
 // These entities, with these numbers of members, do not have more members than a file may have.
 fn add_counts(all: &[Entity], counts: &[usize]) -> Result<(), NameFault>
     requires { length counts.now ≡ length all.now }
-    ensures { Tells result (spec.faults_by_count 0 (map entity_view all.now) counts.now) }
+    ensures { TellsFirst result (spec.faults_by_count 0 (map entity_view all.now) counts.now) }
 {
     let mut total = 0;
     for at in 0..all.len() {
@@ -29,7 +29,7 @@ fn add_counts(all: &[Entity], counts: &[usize]) -> Result<(), NameFault>
 #[tactic(auto, using(crate::proofs::Counted::counts_alike, crate::proofs::Counted::counted))]
 pub(crate) fn check_counts(all: &[Entity], counts: &[usize]) -> Result<(), NameFault>
     requires { counts.now ≡ map (spec.method_count (map entity_view all.now)) (map entity_view all.now) }
-    ensures { Tells result (spec.count_faults (map entity_view all.now) 0 (map entity_view all.now)) }
+    ensures { TellsFirst result (spec.count_faults (map entity_view all.now) 0 (map entity_view all.now)) }
 {
     add_counts(all, counts)
 }

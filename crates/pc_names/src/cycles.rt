@@ -3,7 +3,7 @@ ghost use Rattle.std.specs.Prelude.{◌≡◌, ◌&&◌, ◌+◌, ◌<◌, ◌^�
 ghost use Rattle.pc_tree.specs.Kinds.{is_abstract};
 ghost use Rattle.pc_tree.specs.View.{entity_view};
 ghost use Rattle.pc_names.specs.Cycles.{cycle_faults};
-ghost use Rattle.pc_names.specs.Faults.{Tells};
+ghost use Rattle.pc_names.specs.Faults.{TellsFirst};
 ghost use Rattle.pc_members.specs.Reach as reach;
 
 use crate::fault::NameFault;
@@ -12,7 +12,7 @@ use pc_tree::Entity;
 
 // Whether the number is in the list.
 fn has(numbers: &[u32], wanted: u32) -> bool
-    ensures { result ≡ reach.has numbers.now wanted }
+    ensures { result ≡ reach.has_number numbers.now wanted }
 {
     for number in numbers {
         if *number == wanted {
@@ -24,7 +24,7 @@ fn has(numbers: &[u32], wanted: u32) -> bool
 
 // Whether the entity with this number is a trait or an interface that is among those above it.
 fn is_in_cycle(entity: &Entity, above: &[u32], number: u32) -> bool
-    ensures { result ≡ (is_abstract entity.now.kind && reach.has above.now number) }
+    ensures { result ≡ (is_abstract entity.now.kind && reach.has_number above.now number) }
 {
     entity.kind.is_abstract() && has(above, number)
 }
@@ -37,7 +37,7 @@ pub(crate) fn check_cycles(
 ) -> Result<(), NameFault>
     requires lists { length above.now ≡ length entities.now }
     requires numbers { first + length entities.now < 2 ^ 32 }
-    ensures { Tells result (cycle_faults first (map entity_view entities.now) above.now) }
+    ensures { TellsFirst result (cycle_faults first (map entity_view entities.now) above.now) }
 {
     for at in 0..entities.len() {
         let entity = &entities[at];

@@ -1,7 +1,7 @@
 //! The numbers of the entities.
 ghost use Rattle.std.specs.Prelude.{◌≡◌, ◌++◌, ◌≤◌, [], map, length, take, IfOk, OnOk};
 ghost use Rattle.pc_tree.specs.View.{entity_view, file_view};
-ghost use Rattle.pc_names.specs.Faults.{Tells, entity_name_faults, known_limit};
+ghost use Rattle.pc_names.specs.Faults.{TellsFirst, entity_name_faults, known_limit};
 ghost use Rattle.pc_members.specs.Tables.{trait_names, with_traits};
 ghost use Rattle.pc_members.specs.Words.{built_in_names, entity_names, texts_of};
 
@@ -47,7 +47,7 @@ fn add_last_built_in(table: &mut NameTable) -> Result<(), AllocError>
 // Appends the names of these entities.
 fn add_entities(table: &mut NameTable, entities: &[Entity]) -> Result<(), NameFault>
     requires { length table.old ≤ known_limit }
-    ensures tells { Tells result (entity_name_faults table.old (map entity_view entities.now)) }
+    ensures tells { TellsFirst result (entity_name_faults table.old (map entity_view entities.now)) }
     ensures names { OnOk result (table.new ≡ table.old ++ texts_of (map entity_view entities.now)) }
 {
     for entity in entities {
@@ -66,7 +66,7 @@ fn add_entities(table: &mut NameTable, entities: &[Entity]) -> Result<(), NameFa
 // Adds the names of all entities, the built-in ones first, to a table without names.
 fn add_all(table: &mut NameTable, entities: &[Entity]) -> Result<(), NameFault>
     requires { table.old ≡ [] }
-    ensures tells { Tells result (entity_name_faults built_in_names (map entity_view entities.now)) }
+    ensures tells { TellsFirst result (entity_name_faults built_in_names (map entity_view entities.now)) }
     ensures names { OnOk result (table.new ≡ built_in_names ++ texts_of (map entity_view entities.now)) }
 {
     add_built_in(table)?;
@@ -76,7 +76,7 @@ fn add_all(table: &mut NameTable, entities: &[Entity]) -> Result<(), NameFault>
 /// The names of all entities of a file in the order of their numbers, the built-in ones first. The key is made of all
 /// names of the file.
 pub(crate) fn table_entities(alloc: Global, file: &File) -> Result<NameTable, NameFault>
-    ensures tells { Tells result (entity_name_faults built_in_names (file_view file.now).entities) }
+    ensures tells { TellsFirst result (entity_name_faults built_in_names (file_view file.now).entities) }
     ensures names { IfOk result (λ t. t ≡ entity_names (file_view file.now)) }
 {
     let mut table = NameTable::new(alloc, keyed_by_names(file));

@@ -15,11 +15,11 @@ mod entities;
 mod fault;
 mod laws;
 mod mains;
-mod names;
+mod collected_names;
 mod texts;
 
 pub use collecting::collect;
 pub use fault::{NameFault, Which};
 pub use laws::{cycles_are_chains, first_is_least, names_are_one};
-pub use names::Names;
+pub use collected_names::Names;
 pub use texts::add_member_texts;

@@ -2,7 +2,7 @@
 ghost use Rattle.std.specs.Prelude.{◌≡◌, map};
 ghost use Rattle.std.specs.List.{list_any};
 ghost use Rattle.pc_tree.specs.View.{entity_view, method_view};
-ghost use Rattle.pc_names.specs.Faults.{Tells};
+ghost use Rattle.pc_names.specs.Faults.{TellsFirst};
 ghost use Rattle.pc_names.specs.Mains as spec;
 
 use crate::fault::NameFault;
@@ -36,7 +36,7 @@ fn takes_env(params: &[ParamDef]) -> bool
 
 // Whether a program may start with this method.
 fn begins(method: &MethodDef) -> bool
-    ensures { result ≡ spec.begins (method_view method.now) }
+    ensures { result ≡ spec.begins_program (method_view method.now) }
 {
     is_new(method.word)
         && (method.name.text.as_slice() == b"create".as_slice()
@@ -45,7 +45,7 @@ fn begins(method: &MethodDef) -> bool
 
 // Whether a program may start with one of these methods.
 fn has_beginning(methods: &[MethodDef]) -> bool
-    ensures { result ≡ list_any spec.begins (map method_view methods.now) }
+    ensures { result ≡ list_any spec.begins_program (map method_view methods.now) }
 {
     for method in methods {
         if begins(method) {
@@ -64,7 +64,7 @@ fn is_main(entity: &Entity) -> bool
 
 /// The first of these entities that is named `Main` is one with which a program may start.
 pub(crate) fn check_main(entities: &[Entity]) -> Result<(), NameFault>
-    ensures { Tells result (spec.main_faults (map entity_view entities.now)) }
+    ensures { TellsFirst result (spec.main_faults (map entity_view entities.now)) }
 {
     for entity in entities {
         if entity.name.text.as_slice() == b"Main".as_slice() {

@@ -21,7 +21,7 @@ use Rattle.pc_semantics.specs.declared.frames.Frame.{Frame}
 use Rattle.pc_semantics.specs.declared.frames.Task.{Task}
 use Rattle.pc_semantics.specs.declared.frames.Task.TheVariants as task
 use Rattle.pc_semantics.specs.Configurations.{Configuration, start}
-use Rattle.pc_semantics.specs.Around.{entity_of}
+use Rattle.pc_semantics.specs.Around.{value_entity}
 use Rattle.pc_semantics.specs.Runs.{after}
 use Rattle.pc_rules.specs.Parts.{type_of, last_child}
 use Rattle.pc_valid.specs.Words.{Ty}
@@ -42,9 +42,9 @@ use Rattle.pc_types.proofs.Steps.{run_ok}
 use Rattle.pc_types.proofs.AllTasks.{keeps}
 use Rattle.pc_types.proofs.Takes.{takes}
 use Rattle.pc_types.proofs.Starts.{start_typed}
-use Rattle.pc_sends.specs.Held.{invoked, receiver_of, call_of as next_call, IsNoted, HeldAt}
+use Rattle.pc_sends.specs.Held.{invoked, receiver_child, call_held as next_call, IsNoted, HeldAt}
 use Rattle.pc_sends.specs.Uses.{noted_at}
-use Rattle.pc_noted_receivers.specs.Noted.{entities, noted_in, entity_in}
+use Rattle.pc_noted_receivers.specs.Noted.{noted_entities, noted_in, noted_entity}
 use Rattle.pc_noted_receivers.specs.Laws.{AcceptedHeld}
 
 -- ---- entities
@@ -55,7 +55,7 @@ module _ (core : CoreData) (ann : Ann) (needs : Needs core ann) where
   named e (inl zero) = (_, ap (slice_get core.entities) zero ∙ needs.formed.built_in.none)
   named e (inr other) = (other.1.0, other.1.1)
 
-  own_there : (objects : ObjectMap) (d : ℕ) (v : Value) → OfKind core d v → entity_of objects v ≡ Some d → (x : EntityDef) × (slice_get core.entities d ≡ Some x)
+  own_there : (objects : ObjectMap) (d : ℕ) (v : Value) → OfKind core d v → value_entity objects v ≡ Some d → (x : EntityDef) × (slice_get core.entities d ≡ Some x)
   own_there objects d (Num n) k e = (_, ap (slice_get core.entities) (sym (same_Some 1 d e)) ∙ needs.formed.built_in.numbers)
   own_there objects d (Truth b) k e = (_, ap (slice_get core.entities) (sym (same_Some 2 d e)) ∙ needs.formed.built_in.truths)
   own_there objects d (Text s) k e = (_, ap (slice_get core.entities) (sym (same_Some 3 d e)) ∙ needs.formed.built_in.texts)
@@ -64,12 +64,12 @@ module _ (core : CoreData) (ann : Ann) (needs : Needs core ann) where
 
   -- ---- a value of the noted type
 
-  note_entity : (r : ℕ) (ty : Ty) → type_of ann r ≡ Some ty → noted_at (entities ann) r ≡ Some ty.0
+  note_entity : (r : ℕ) (ty : Ty) → type_of ann r ≡ Some ty → noted_at (noted_entities ann) r ≡ Some ty.0
   note_entity r ty e =
       let n = bind_some (slice_get ann.notes r) (λ (t : Note). t.ty) ty e in
-      bind_is (slice_get (entities ann) r) (λ (e : Option ℕ). e) (noted_in n.0) (get_map noted_in ann.notes r n.0 n.1) ∙ ap entity_in n.2
+      bind_is (slice_get (noted_entities ann) r) (λ (e : Option ℕ). e) (noted_in n.0) (get_map noted_in ann.notes r n.0 n.1) ∙ ap noted_entity n.2
 
-  value_noted : (objects : ObjectMap) (r : ℕ) (ty : Ty) (v : Value) → type_of ann r ≡ Some ty → OfType core objects ty v → IsNoted core (entities ann) objects r v
+  value_noted : (objects : ObjectMap) (r : ℕ) (ty : Ty) (v : Value) → type_of ann r ≡ Some ty → OfType core objects ty v → IsNoted core (noted_entities ann) objects r v
   value_noted objects r ty v e t =
       let x = own_there objects t.entity v t.kind t.is_entity in
       record {
@@ -106,49 +106,50 @@ module _ (core : CoreData) (ann : Ann) (needs : Needs core ann) where
       let same : top.top ≡ v = same_Some top.top v (sym (ap (λ (vs : List Value). slice_get vs 0) top.is) ∙ at) in
       subst (OfType core objects ty) same (subst (λ (o : Option Ty). OfSome core objects o top.top) typed top.answers.0)
 
-  receiver_kind : (k : NodeKind) (name : ℕ) (cs : List ℕ) (r : ℕ) → k ≡ nodes.Call name → receiver_of k cs ≡ Some r → last_child cs ≡ Some r
-  receiver_kind k name cs r is e = sym (ap (λ (q : NodeKind). receiver_of q cs) is) ∙ e
+  receiver_kind : (k : NodeKind) (name : ℕ) (cs : List ℕ) (r : ℕ) → k ≡ nodes.Call name → receiver_child k cs ≡ Some r
+      → last_child cs ≡ Some r
+  receiver_kind k name cs r is e = sym (ap (λ (q : NodeKind). receiver_child q cs) is) ∙ e
 
   finish_noted : (objects : ObjectMap) (m : ℕ) (l s : Mask) (g : List Want) (n : ℕ) (go : Mask → Mask → List Want → Type 0) (this : Value) (stack : List Value) (x : Node) (r : ℕ) (v : Value)
       → FinishOk core ann m l s g invokes n go → StackOk core objects this g stack
-      → slice_get core.nodes n ≡ Some x → receiver_of x.kind x.children ≡ Some r → slice_get stack 0 ≡ Some v → IsNoted core (entities ann) objects r v
+      → slice_get core.nodes n ≡ Some x → receiver_child x.kind x.children ≡ Some r → slice_get stack 0 ≡ Some v → IsNoted core (noted_entities ann) objects r v
   finish_noted objects m l s g n go this stack x r v e ok at receiver top =
       let same : x ≡ e.node = same_Some x e.node (sym at ∙ e.is_node) in
       let call = invokes_is e.node.kind e.kind in
-      let last = receiver_kind e.node.kind call.0 e.node.children r call.1 (subst (λ (y : Node). receiver_of y.kind y.children ≡ Some r) same receiver) in
+      let last = receiver_kind e.node.kind call.0 e.node.children r call.1 (subst (λ (y : Node). receiver_child y.kind y.children ≡ Some r) same receiver) in
       let ty = receiver_typed n e.node e.note call.0 r e.is_node e.is_note call.1 last in
       value_noted objects r ty.0 v ty.1 (top_typed objects this e.node.children r ty.0 e.below stack v last ty.1 (subst (λ (ws : List Want). StackOk core objects this ws stack) e.stack ok) top)
 
   -- The first task is a call.
   tasks_noted : (objects : ObjectMap) (m : ℕ) (l s : Mask) (g : List Want) (this : Value) (stack : List Value) (ts : List Task) (n : ℕ) (x : Node) (r : ℕ) (v : Value) (t : Task)
       → TasksOk core ann m ts l s g → StackOk core objects this g stack → slice_get ts 0 ≡ Some t → invoked t ≡ Some n
-      → slice_get core.nodes n ≡ Some x → receiver_of x.kind x.children ≡ Some r → slice_get stack 0 ≡ Some v → IsNoted core (entities ann) objects r v
+      → slice_get core.nodes n ≡ Some x → receiver_child x.kind x.children ≡ Some r → slice_get stack 0 ≡ Some v → IsNoted core (noted_entities ann) objects r v
   tasks_noted objects m l s g this stack [] n x r v t k ok first is at receiver top = absurd k
   tasks_noted objects m l s g this stack (task.Invoke i ∷ ts) n x r v t k ok first is at receiver top =
       let same : i ≡ n = same_Some i n (ap invoked (same_Some (task.Invoke i) t first) ∙ is) in
       finish_noted objects m l s g i _ this stack x r v k ok (ap (slice_get core.nodes) same ∙ at) receiver top
   tasks_noted objects m l s g this stack (u ∷ ts) n x r v t k ok first is at receiver top = absurd (none-some n (ap invoked (same_Some u t first) ∙ is))
 
-  frame_noted : (objects : ObjectMap) (f : Frame) (r : ℕ) (v : Value) → FrameOk core ann objects [] f → next_call core f ≡ Some (r, v) → IsNoted core (entities ann) objects r v
+  frame_noted : (objects : ObjectMap) (f : Frame) (r : ℕ) (v : Value) → FrameOk core ann objects [] f → next_call core f ≡ Some (r, v) → IsNoted core (noted_entities ann) objects r v
   frame_noted objects f r v k e =
       let a = bind_some (slice_get f.tasks 0) _ (r, v) e in
       let b = bind_some (invoked a.0) _ (r, v) a.2 in
       let c = bind_some (slice_get core.nodes b.0) _ (r, v) b.2 in
-      let d = bind_some (receiver_of c.0.kind c.0.children) _ (r, v) c.2 in
+      let d = bind_some (receiver_child c.0.kind c.0.children) _ (r, v) c.2 in
       let w = bind_some (slice_get f.stack 0) (λ (u : Value). Some (d.0, u)) (r, v) d.2 in
       let pair : (d.0, w.0) ≡ (r, v) = same_Some (d.0, w.0) (r, v) w.2 in
-      subst (λ (p : ℕ × Value). IsNoted core (entities ann) objects p.0 p.1) pair
+      subst (λ (p : ℕ × Value). IsNoted core (noted_entities ann) objects p.0 p.1) pair
       (tasks_noted objects f.method k.0.live k.0.set k.0.wants k.0.this f.stack f.tasks b.0 c.0 d.0 w.0 a.0 k.1 k.0.stack_ok a.1 b.1 c.1 d.1 w.1)
 
-  frames_noted : (objects : ObjectMap) (i : ℕ) (fs : List Frame) (f : Frame) (r : ℕ) (v : Value) → FramesOk core ann objects i fs → slice_get fs 0 ≡ Some f → next_call core f ≡ Some (r, v) → IsNoted core (entities ann) objects r v
+  frames_noted : (objects : ObjectMap) (i : ℕ) (fs : List Frame) (f : Frame) (r : ℕ) (v : Value) → FramesOk core ann objects i fs → slice_get fs 0 ≡ Some f → next_call core f ≡ Some (r, v) → IsNoted core (noted_entities ann) objects r v
   frames_noted objects i [] f r v k at e = absurd (none-some f at)
-  frames_noted objects i (g ∷ fs) f r v k at e = subst (λ (h : Frame). next_call core h ≡ Some (r, v) → IsNoted core (entities ann) objects r v) (same_Some g f at) (frame_noted objects g r v k.0) e
+  frames_noted objects i (g ∷ fs) f r v k at e = subst (λ (h : Frame). next_call core h ≡ Some (r, v) → IsNoted core (noted_entities ann) objects r v) (same_Some g f at) (frame_noted objects g r v k.0) e
 
-  actor_noted : (objects : ObjectMap) (i : ℕ) (a : Actor) (f : Frame) (r : ℕ) (v : Value) → ActorOk core ann objects i a → slice_get a.frames 0 ≡ Some f → next_call core f ≡ Some (r, v) → IsNoted core (entities ann) objects r v
+  actor_noted : (objects : ObjectMap) (i : ℕ) (a : Actor) (f : Frame) (r : ℕ) (v : Value) → ActorOk core ann objects i a → slice_get a.frames 0 ≡ Some f → next_call core f ≡ Some (r, v) → IsNoted core (noted_entities ann) objects r v
   actor_noted objects i a f r v (inl idle) at e = absurd (none-some f (sym (ap (λ (fs : List Frame). slice_get fs 0) idle.0) ∙ at))
   actor_noted objects i a f r v (inr runs) at e = frames_noted objects i a.frames f r v runs.0 at e
 
-  held_at : (c : Configuration) → WellTyped core ann c → HeldAt core (entities ann) c
+  held_at : (c : Configuration) → WellTyped core ann c → HeldAt core (noted_entities ann) c
   held_at c w i f r v runs e =
       let a = bind_some (slice_get c.actors i) (λ (b : Actor). slice_get b.frames 0) f runs in
       actor_noted c.objects i a.0 f r v (w.actors i a.0 a.1) a.2 e

@@ -35,7 +35,7 @@ fn all_noted(alloc: Global, notes: &[Note]) -> Result<List<Option<u32>>, AllocEr
 pub fn entities(alloc: Global, core: &Core, ann: &Ann) -> Result<List<Option<u32>>, AllocError>
     requires valid { Valid core.now ann.now }
 
-    ensures noted { IfOk result (λ entities. entities ≡ spec.entities ann.now) }
+    ensures noted { IfOk result (λ entities. entities ≡ spec.noted_entities ann.now) }
     ensures whole { IfOk result (λ entities. length entities ≡ length core.now.nodes) }
 
     // Over every list of actors, if an actor's next task is a call, the receiver's own entity is the noted one, or

@@ -11,7 +11,7 @@ use Rattle.pc_outcomes.specs.declared.entry.Ending.TheVariants.{Done, Cut, TooLo
 use Rattle.pc_outcomes.specs.declared.entry.Entry.{Entry}
 use Rattle.pc_outcomes.specs.declared.entry.Play.{Play}
 use Rattle.pc_outcomes.specs.Plays.{has_outcome, same_ending}
-use Rattle.pc_outcomes.specs.Tables.{AreEntries, Ascend, IsEntry, IsFirst, shows}
+use Rattle.pc_outcomes.specs.Tables.{AreEntries, Ascend, IsEntry, IsFirstPlay, shows_outcome}
 use Rattle.pc_outcome_laws.proofs.Lists.{all_at, any_take, none_counted, some_at, there}
 
 -- ---- outcomes
@@ -73,22 +73,23 @@ seed_above i low (e ∷ es) a (inr h) = let l = a.0 in let r = seed_above i (e.s
 
 module _ (all : List Play) where
   -- An entry whose first seed is this one has the outcome of the play there.
-  first_at : (e : Entry) (i : ℕ) (p : Play) → IsEntry all e → e.seed ≡ i → slice_get all i ≡ Some p → IsFirst e p
+  first_at : (e : Entry) (i : ℕ) (p : Play) → IsEntry all e → e.seed ≡ i → slice_get all i ≡ Some p → IsFirstPlay e p
   first_at e i p is s at =
-      let t = there (IsFirst e) (slice_get all e.seed) is.first in
+      let t = there (IsFirstPlay e) (slice_get all e.seed) is.first in
       let same : Some t.0 ≡ Some p = sym t.1 ∙ ap (slice_get all) s ∙ at in
-      subst (λ (o : Option Play). IsSomeAnd o (IsFirst e)) same t.2
+      subst (λ (o : Option Play). IsSomeAnd o (IsFirstPlay e)) same t.2
 
   -- none before it has
-  first_new : (e : Entry) (p : Play) (seen : List Play) → IsEntry all e → IsFirst e p → take e.seed all ≡ seen → list_any (has_outcome p.text p.ending) seen ≡ false
+  first_new : (e : Entry) (p : Play) (seen : List Play) → IsEntry all e → IsFirstPlay e p → take e.seed all ≡ seen → list_any (has_outcome p.text p.ending) seen ≡ false
   first_new e p seen is f same =
-      let none : list_any (shows e) seen ≡ false = none_counted (shows e) seen (subst (λ (l : List Play). count_by (shows e) l ≡ 0) same is.none_before) in
+      let none : list_any (shows_outcome e) seen ≡ false =
+          none_counted (shows_outcome e) seen (subst (λ (l : List Play). count_by (shows_outcome e) l ≡ 0) same is.none_before) in
       ap (λ (t : List ℕ). list_any (λ (q : Play). bytes_eq t q.text && same_ending p.ending q.ending) seen) f.text
       ∙ ap (λ (a : Ending). list_any (λ (q : Play). bytes_eq e.text q.text && same_ending a q.ending) seen) f.ending ∙ none
 
-  entry_is : (e : Entry) (i : ℕ) (p : Play) → IsEntry all e → IsFirst e p → e.seed ≡ i → e ≡ entry_at all i p
+  entry_is : (e : Entry) (i : ℕ) (p : Play) → IsEntry all e → IsFirstPlay e p → e.seed ≡ i → e ≡ entry_at all i p
   entry_is e i p is f s =
-      let counts : count_by (shows e) all ≡ count_by (has_outcome p.text p.ending) all =
+      let counts : count_by (shows_outcome e) all ≡ count_by (has_outcome p.text p.ending) all =
       ap (λ (t : List ℕ). count_by (λ (q : Play). bytes_eq t q.text && same_ending e.ending q.ending) all) (sym f.text)
       ∙ ap (λ (a : Ending). count_by (λ (q : Play). bytes_eq p.text q.text && same_ending a q.ending) all) (sym f.ending) in
       same_entry e i (count_by (has_outcome p.text p.ending) all) p.steps p.text p.ending s (is.number ∙ counts) (sym f.steps) (sym f.text) (sym f.ending)
@@ -98,28 +99,28 @@ module _ (all : List Play) where
   Complete low es = (i : ℕ) (p : Play) → low ≤ i → slice_get all i ≡ Some p → list_any (has_outcome p.text p.ending) (take i all) ≡ false → HasSeed i es
 
   -- an entry that shows a new play begins with it
-  shows_new : (e : Entry) (i : ℕ) (p : Play) → IsEntry all e → shows e p ≡ true → slice_get all i ≡ Some p → list_any (has_outcome p.text p.ending) (take i all) ≡ false → (e.seed < i) ⊎ (i ≤ e.seed) → (i < e.seed) ⊎ (e.seed ≤ i) → e.seed ≡ i
+  shows_new : (e : Entry) (i : ℕ) (p : Play) → IsEntry all e → shows_outcome e p ≡ true → slice_get all i ≡ Some p → list_any (has_outcome p.text p.ending) (take i all) ≡ false → (e.seed < i) ⊎ (i ≤ e.seed) → (i < e.seed) ⊎ (e.seed ≤ i) → e.seed ≡ i
   shows_new e i p is h at new (inl under) q =
-      let t = there (IsFirst e) (slice_get all e.seed) is.first in
+      let t = there (IsFirstPlay e) (slice_get all e.seed) is.first in
       let o = outcome_is e.text e.ending p h in
       let own : has_outcome p.text p.ending t.0 ≡ true = has_own p.text p.ending t.0 (sym o.0 ∙ sym t.2.text) (sym o.1 ∙ sym t.2.ending) in
       absurd (false≢true (sym new ∙ any_take (has_outcome p.text p.ending) all i e.seed t.0 under t.1 own))
   shows_new e i p is h at new (inr low) (inl over) =
-      absurd (false≢true (sym (none_counted (shows e) (take e.seed all) is.none_before) ∙ any_take (shows e) all e.seed i p over at h))
+      absurd (false≢true (sym (none_counted (shows_outcome e) (take e.seed all) is.none_before) ∙ any_take (shows_outcome e) all e.seed i p over at h))
   shows_new e i p is h at new (inr low) (inr high) = omega (arith, low, high)
 
-  has_here : (i : ℕ) (p : Play) → slice_get all i ≡ Some p → list_any (has_outcome p.text p.ending) (take i all) ≡ false → (e : Entry) (es : List Entry) → IsEntry all e → (list_any (λ f. shows f p) es ≡ true → HasSeed i es)
-      → (b : Bool) → shows e p ≡ b → (b || list_any (λ f. shows f p) es) ≡ true → HasSeed i (e ∷ es)
+  has_here : (i : ℕ) (p : Play) → slice_get all i ≡ Some p → list_any (has_outcome p.text p.ending) (take i all) ≡ false → (e : Entry) (es : List Entry) → IsEntry all e → (list_any (λ f. shows_outcome f p) es ≡ true → HasSeed i es)
+      → (b : Bool) → shows_outcome e p ≡ b → (b || list_any (λ f. shows_outcome f p) es) ≡ true → HasSeed i (e ∷ es)
   has_here i p at new e es is more true h any = inl (shows_new e i p is h at new (cases_lt e.seed i) (cases_lt i e.seed))
   has_here i p at new e es is more false h any = inr (more any)
 
-  has_new : (i : ℕ) (p : Play) → slice_get all i ≡ Some p → list_any (has_outcome p.text p.ending) (take i all) ≡ false → (es : List Entry) → AllByRecursion (IsEntry all) es → list_any (λ e. shows e p) es ≡ true → HasSeed i es
+  has_new : (i : ℕ) (p : Play) → slice_get all i ≡ Some p → list_any (has_outcome p.text p.ending) (take i all) ≡ false → (es : List Entry) → AllByRecursion (IsEntry all) es → list_any (λ e. shows_outcome e p) es ≡ true → HasSeed i es
   has_new i p at new [] is any = absurd (false≢true any)
-  has_new i p at new (e ∷ es) is any = has_here i p at new e es is.0 (λ m. has_new i p at new es is.1 m) (shows e p) refl any
+  has_new i p at new (e ∷ es) is any = has_here i p at new e es is.0 (λ m. has_new i p at new es is.1 m) (shows_outcome e p) refl any
 
   pub complete : (es : List Entry) → AreEntries all es → Complete 0 es
   complete es are i p low at new =
-      has_new i p at new es are.each (all_at (λ play. list_any (λ e. shows e play) es ≡ true) all i p at are.every)
+      has_new i p at new es are.each (all_at (λ play. list_any (λ e. shows_outcome e play) es ≡ true) all i p at are.every)
 
   -- ---- the entries from a place on
 
@@ -166,7 +167,7 @@ module _ (all : List Play) where
   none_past : (es : List Entry) (seen : List Play) → all ≡ seen ++ [] → AllByRecursion (IsEntry all) es → Ascend (length seen) es → es ≡ []
   none_past [] seen same is a = refl
   none_past (e ∷ es) seen same is a =
-      let t = there (IsFirst e) (slice_get all e.seed) is.0.first in
+      let t = there (IsFirstPlay e) (slice_get all e.seed) is.0.first in
       let within = slice_get_within all e.seed t.0 t.1 in
       let long : length all ≡ length seen = ap (λ (l : List Play). length l) (same ∙ append-nil seen) in
       let low = a.0 in

@@ -7,7 +7,7 @@ use Rattle.pc_outcomes.specs.declared.entry.Ending.{Ending}
 use Rattle.pc_outcomes.specs.declared.entry.Entry.{Entry}
 use Rattle.pc_outcomes.specs.declared.entry.Play.{Play}
 use Rattle.pc_outcomes.specs.Plays.{has_outcome}
-use Rattle.pc_outcomes.specs.Tables.{AreEntries, shows, total_steps, total_texts}
+use Rattle.pc_outcomes.specs.Tables.{AreEntries, shows_outcome, total_steps, total_texts}
 use Rattle.pc_outcome_laws.proofs.Firsts.{entry_at, firsts, one_table, outcome_is}
 use Rattle.pc_outcome_laws.proofs.Lists.{found}
 
@@ -54,18 +54,18 @@ new_among : (b : Bool) → (b ≡ true → ⊥) → b ≡ false
 new_among true n = absurd (n refl)
 new_among false n = refl
 
-shown : (es : List Entry) (p q : Play) → has_outcome p.text p.ending q ≡ true → list_any (λ e. shows e q) es ≡ true → list_any (λ e. shows e p) es ≡ true
+shown : (es : List Entry) (p q : Play) → has_outcome p.text p.ending q ≡ true → list_any (λ e. shows_outcome e q) es ≡ true → list_any (λ e. shows_outcome e p) es ≡ true
 shown es p q h any =
     let o = outcome_is p.text p.ending q h in
     ap (λ (t : List ℕ). list_any (λ (e : Entry). has_outcome e.text e.ending (record { text = t; ending = p.ending; steps = p.steps })) es) o.0
     ∙ ap (λ (a : Ending). list_any (λ (e : Entry). has_outcome e.text e.ending (record { text = q.text; ending = a; steps = p.steps })) es) o.1 ∙ any
 
-is_new : (ps : List Play) (es : List Entry) (p : Play) → AllByRecursion (λ q. list_any (λ e. shows e q) es ≡ true) ps → list_any (λ e. shows e p) es ≡ false → list_any (has_outcome p.text p.ending) ps ≡ false
+is_new : (ps : List Play) (es : List Entry) (p : Play) → AllByRecursion (λ q. list_any (λ e. shows_outcome e q) es ≡ true) ps → list_any (λ e. shows_outcome e p) es ≡ false → list_any (has_outcome p.text p.ending) ps ≡ false
 is_new ps es p every none =
     new_among (list_any (has_outcome p.text p.ending) ps)
-    (λ any. found (has_outcome p.text p.ending) (λ q. list_any (λ e. shows e q) es ≡ true) ⊥ ps (λ q h a. false≢true (sym none ∙ shown es p q h a)) every any)
+    (λ any. found (has_outcome p.text p.ending) (λ q. list_any (λ e. shows_outcome e q) es ≡ true) ⊥ ps (λ q h a. false≢true (sym none ∙ shown es p q h a)) every any)
 
-pub texts_grow : (ps : List Play) (p : Play) (rest : List Play) (es fs : List Entry) → AreEntries ps es → AreEntries (ps ++ p ∷ rest) fs → list_any (λ e. shows e p) es ≡ false
+pub texts_grow : (ps : List Play) (p : Play) (rest : List Play) (es fs : List Entry) → AreEntries ps es → AreEntries (ps ++ p ∷ rest) fs → list_any (λ e. shows_outcome e p) es ≡ false
     → total_texts es + length p.text ≤ total_texts fs
 texts_grow ps p rest es fs a b none =
     let first : total_texts es ≡ bytes_of [] ps = ap total_texts (one_table ps es a) ∙ texts_are ps [] ps in

@@ -7,8 +7,8 @@ use Rattle.pc_choose.specs.Laws.{ListsAreOne}
 use Rattle.pc_outcomes.specs.declared.entry.Entry.{Entry}
 use Rattle.pc_outcomes.specs.declared.entry.Play.{Play}
 use Rattle.pc_outcomes.specs.declared.fault.OutcomesFault.TheVariants.{Memory, Steps, Texts}
-use Rattle.pc_outcomes.specs.Plays.{ArePlays, IsPlay}
-use Rattle.pc_outcomes.specs.Tables.{AreEntries, StepsPass, TextsPass, Told, total_steps}
+use Rattle.pc_outcomes.specs.Plays.{ArePlays, IsPlayOfSeed}
+use Rattle.pc_outcomes.specs.Tables.{AreEntries, StepsPass, TextsPass, IsOutcomesTable, total_steps}
 use Rattle.pc_outcome_laws.specs.Laws.{AnswersAreOne}
 use Rattle.pc_outcome_laws.proofs.Firsts.{firsts, one_table}
 use Rattle.pc_outcome_laws.proofs.Limits.{steps_grow, texts_grow}
@@ -19,7 +19,7 @@ module _ (one : ListsAreOne) (core : CoreData) where
   -- ---- the plays of more seeds
 
   -- The plays of the seeds below a seed, that of the seed, and the rest.
-  next_play : (seed count : ℕ) (ps : List Play) (p : Play) (qs rest : List Play) → seed < count → ArePlays core seed ps → IsPlay core seed p → ArePlays core count qs → qs ≡ ps ++ rest → (more : List Play) × (qs ≡ ps ++ p ∷ more)
+  next_play : (seed count : ℕ) (ps : List Play) (p : Play) (qs rest : List Play) → seed < count → ArePlays core seed ps → IsPlayOfSeed core seed p → ArePlays core count qs → qs ≡ ps ++ rest → (more : List Play) × (qs ≡ ps ++ p ∷ more)
   next_play seed count ps p qs [] l a is b e =
       let m = a.all in
       let n = b.all in
@@ -27,11 +27,11 @@ module _ (one : ListsAreOne) (core : CoreData) where
       absurd (omega (arith, l, m, n, same))
   next_play seed count ps p qs (q ∷ more) l a is b e =
       let at = ap (λ (x : List Play). slice_get x (length ps)) e ∙ some_at ps q more in
-      let there : IsPlay core (length ps) q = of_some (IsPlay core (length ps)) (slice_get qs (length ps)) q at (b.are (length ps)) in
-      let own : q ≡ p = one_play one core seed q p (subst (λ (s : ℕ). IsPlay core s q) a.all there) is in
+      let there : IsPlayOfSeed core (length ps) q = of_some (IsPlayOfSeed core (length ps)) (slice_get qs (length ps)) q at (b.are (length ps)) in
+      let own : q ≡ p = one_play one core seed q p (subst (λ (s : ℕ). IsPlayOfSeed core s q) a.all there) is in
       (more, subst (λ (x : Play). qs ≡ ps ++ x ∷ more) own e)
 
-  with_play : (seed count : ℕ) (ps : List Play) (p : Play) (qs : List Play) → seed < count → ArePlays core seed ps → IsPlay core seed p → ArePlays core count qs → (more : List Play) × (qs ≡ ps ++ p ∷ more)
+  with_play : (seed count : ℕ) (ps : List Play) (p : Play) (qs : List Play) → seed < count → ArePlays core seed ps → IsPlayOfSeed core seed p → ArePlays core count qs → (more : List Play) × (qs ≡ ps ++ p ∷ more)
   with_play seed count ps p qs l a is b = let f = front_plays one core seed count ps qs (omega (arith, l)) a b in next_play seed count ps p qs f.0 l a is b f.1
 
   no_rest : (count : ℕ) (ps qs rest : List Play) → ArePlays core count ps → ArePlays core count qs → qs ≡ ps ++ rest → ps ≡ qs
@@ -47,7 +47,7 @@ module _ (one : ListsAreOne) (core : CoreData) where
 
   -- ---- a seed that passes a limit
 
-  not_told : (count seed : ℕ) (es : List Entry) → seed < count → Told core count es → StepsPass core seed → ⊥
+  not_told : (count seed : ℕ) (es : List Entry) → seed < count → IsOutcomesTable core count es → StepsPass core seed → ⊥
   not_told count seed es l t s =
       let w = with_play seed count s.told.plays s.play t.plays l s.told.are s.is t.are in
       let grow = steps_grow s.told.plays s.play w.0 in
@@ -56,7 +56,7 @@ module _ (one : ListsAreOne) (core : CoreData) where
       let past = s.passes in
       omega (arith, grow, few, same, past)
 
-  not_told_texts : (count seed : ℕ) (es : List Entry) → seed < count → Told core count es → TextsPass core seed → ⊥
+  not_told_texts : (count seed : ℕ) (es : List Entry) → seed < count → IsOutcomesTable core count es → TextsPass core seed → ⊥
   not_told_texts count seed es l t s =
       let w = with_play seed count s.told.plays s.play t.plays l s.told.are s.is t.are in
       let are = subst (λ (x : List Play). AreEntries x es) w.1 t.entries_are in
@@ -75,7 +75,7 @@ module _ (one : ListsAreOne) (core : CoreData) where
 
   -- ---- the table
 
-  same_table : (count : ℕ) (es fs : List Entry) → Told core count es → Told core count fs → es ≡ fs
+  same_table : (count : ℕ) (es fs : List Entry) → IsOutcomesTable core count es → IsOutcomesTable core count fs → es ≡ fs
   same_table count es fs t u =
       one_table t.plays es t.entries_are ∙ ap (λ (x : List Play). firsts x [] x) (same_plays count t.plays u.plays t.are u.are) ∙ sym (one_table u.plays fs u.entries_are)
 

@@ -1,7 +1,7 @@
 -- There is only one answer to which outcomes the seeds below a count have.
 use Rattle.std.specs.Prelude.{◌≡◌, ◌≢◌, ℕ, List, Result, Err}
 use Rattle.pc_core.specs.CoreData.{CoreData}
-use Rattle.pc_outcomes.specs.Tables.{Answers}
+use Rattle.pc_outcomes.specs.Tables.{AnswersTable}
 use Rattle.pc_outcomes.specs.declared.entry.Entry.{Entry}
 use Rattle.pc_outcomes.specs.declared.fault.OutcomesFault.{OutcomesFault}
 use Rattle.pc_outcomes.specs.declared.fault.OutcomesFault.TheVariants.{Memory}
@@ -9,4 +9,4 @@ use Rattle.pc_outcomes.specs.declared.fault.OutcomesFault.TheVariants.{Memory}
 -- Any two answers are equal, unless memory ran out for one of them.
 abbrev pub AnswersAreOne : Type 0
 AnswersAreOne =
-    (core : CoreData) (count : ℕ) (a b : Result (List Entry) OutcomesFault) → a ≢ Err Memory → b ≢ Err Memory → Answers core count a → Answers core count b → a ≡ b
+    (core : CoreData) (count : ℕ) (a b : Result (List Entry) OutcomesFault) → a ≢ Err Memory → b ≢ Err Memory → AnswersTable core count a → AnswersTable core count b → a ≡ b

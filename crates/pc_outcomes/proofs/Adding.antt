@@ -11,8 +11,8 @@ use Rattle.pc_core.specs.CoreData.{CoreData}
 use Rattle.pc_outcomes.specs.declared.entry.Entry.{Entry}
 use Rattle.pc_outcomes.specs.declared.entry.Play.{Play}
 use Rattle.pc_outcomes.specs.declared.table.Totals.{Totals}
-use Rattle.pc_outcomes.specs.Plays.{ArePlays, IsPlay}
-use Rattle.pc_outcomes.specs.Tables.{Answers, shows, IsEntry, StepsPass, TextsPass, steps_limit, texts_limit, total_steps}
+use Rattle.pc_outcomes.specs.Plays.{ArePlays, IsPlayOfSeed}
+use Rattle.pc_outcomes.specs.Tables.{AnswersTable, shows_outcome, IsEntry, StepsPass, TextsPass, steps_limit, texts_limit, total_steps}
 use Rattle.pc_outcomes.specs.declared.fault.OutcomesFault.{OutcomesFault}
 use Rattle.pc_outcomes.specs.declared.fault.OutcomesFault.TheVariants as fault
 use Rattle.pc_outcomes.specs.Under.{Under, AddsTo, one_more, entry_of}
@@ -53,11 +53,11 @@ not_found p xs e = none_of p xs (nat_lt (position_or_len p xs) (length xs)) (pos
 abbrev steps_in : Play → ℕ
 steps_in p = p.steps
 
-module _ (core : CoreData) (seed : ℕ) (es : List Entry) (totals : Totals) (u : Under core seed es totals) (p : Play) (is : IsPlay core seed p) where
+module _ (core : CoreData) (seed : ℕ) (es : List Entry) (totals : Totals) (u : Under core seed es totals) (p : Play) (is : IsPlayOfSeed core seed p) where
   plays_push : ArePlays core (seed + 1) (u.told.plays ++ p ∷ [])
   plays_push = record {
     all = length-append u.told.plays (p ∷ []) ∙ ap (λ (n : ℕ). n + 1) u.told.are.all;
-    are = if_push (λ s. IsPlay core s) u.told.plays p u.told.are.are (subst (λ (s : ℕ). IsPlay core s p) (sym u.told.are.all) is);
+    are = if_push (λ s. IsPlayOfSeed core s) u.told.plays p u.told.are.are (subst (λ (s : ℕ). IsPlayOfSeed core s p) (sym u.told.are.all) is);
   }
 
   steps_push : total_steps (u.told.plays ++ p ∷ []) ≡ totals.steps + p.steps
@@ -66,14 +66,14 @@ module _ (core : CoreData) (seed : ℕ) (es : List Entry) (totals : Totals) (u :
   pub steps_pass : steps_limit < totals.steps + p.steps → StepsPass core seed
   steps_pass l = record { entries = es; told = u.told; play = p; is = is; passes = let e = u.steps in omega (arith, e, l) }
 
-  pub texts_pass : totals.steps + p.steps ≤ steps_limit → position (λ e. shows e p) es ≡ None → texts_limit < totals.texts + length p.text → TextsPass core seed
+  pub texts_pass : totals.steps + p.steps ≤ steps_limit → position (λ e. shows_outcome e p) es ≡ None → texts_limit < totals.texts + length p.text → TextsPass core seed
   texts_pass s n l = record {
     entries = es;
     told = u.told;
     play = p;
     is = is;
     within = let e = u.steps in omega (arith, e, s);
-    new = not_found (λ e. shows e p) es n;
+    new = not_found (λ e. shows_outcome e p) es n;
     passes = let e = u.texts in omega (arith, e, l);
   }
 
@@ -81,9 +81,9 @@ module _ (core : CoreData) (seed : ℕ) (es : List Entry) (totals : Totals) (u :
     few_now : total_steps (u.told.plays ++ p ∷ []) ≤ steps_limit
     few_now = let e = steps_push in omega (arith, e, s)
 
-    pub adds_new : position (λ e. shows e p) es ≡ None → totals.texts + length p.text ≤ texts_limit → Under core (seed + 1) (es ++ entry_of seed p ∷ []) (record { steps = totals.steps + p.steps; texts = totals.texts + length p.text })
+    pub adds_new : position (λ e. shows_outcome e p) es ≡ None → totals.texts + length p.text ≤ texts_limit → Under core (seed + 1) (es ++ entry_of seed p ∷ []) (record { steps = totals.steps + p.steps; texts = totals.texts + length p.text })
     adds_new n l =
-        let none = not_found (λ e. shows e p) es n in
+        let none = not_found (λ e. shows_outcome e p) es n in
         subst (λ (k : ℕ). Under core (seed + 1) (es ++ entry_of k p ∷ []) (record { steps = totals.steps + p.steps; texts = totals.texts + length p.text })) u.told.are.all
         (record {
           told = record {
@@ -97,15 +97,15 @@ module _ (core : CoreData) (seed : ℕ) (es : List Entry) (totals : Totals) (u :
           texts = let e = texts_new u.told.plays p es in let f = u.texts in omega (arith, e, f);
         })
 
-    module _ (j : ℕ) (found : position (λ e. shows e p) es ≡ Some j) (e : Entry) (there : slice_get es j ≡ Some e) (now : List Entry) (set : now ≡ slice_set es j (one_more e)) where
+    module _ (j : ℕ) (found : position (λ e. shows_outcome e p) es ≡ Some j) (e : Entry) (there : slice_get es j ≡ Some e) (now : List Entry) (set : now ≡ slice_set es j (one_more e)) where
       at : get_or es j e ≡ e
       at = get_or_from_slice_get es j e e there
 
-      shown : list_any (λ f. shows f p) es ≡ true
-      shown = let q = position-Some (λ f. shows f p) es j e found in list_any_at (λ f. shows f p) es j e q.0 q.1
+      shown : list_any (λ f. shows_outcome f p) es ≡ true
+      shown = let q = position-Some (λ f. shows_outcome f p) es j e found in list_any_at (λ f. shows_outcome f p) es j e q.0 q.1
 
       now_is : now ≡ counted u.told.plays p es
-      now_is = let q = position-Some (λ f. shows f p) es j e found in set ∙ ap (λ (x : Entry). slice_set es j (one_more x)) (sym at) ∙ set_counted u.told.plays p es j e q.0 q.1 q.2
+      now_is = let q = position-Some (λ f. shows_outcome f p) es j e found in set ∙ ap (λ (x : Entry). slice_set es j (one_more x)) (sym at) ∙ set_counted u.told.plays p es j e q.0 q.1 q.2
 
       pub adds_again : Under core (seed + 1) now (record { steps = totals.steps + p.steps; texts = totals.texts })
       adds_again =
@@ -122,11 +122,11 @@ module _ (core : CoreData) (seed : ℕ) (es : List Entry) (totals : Totals) (u :
             texts = u.texts ∙ sym (texts_counted u.told.plays p es);
           })
 
-    module _ (j : ℕ) (found : position (λ e. shows e p) es ≡ Some j) (now : List Entry) where
+    module _ (j : ℕ) (found : position (λ e. shows_outcome e p) es ≡ Some j) (now : List Entry) where
       by_there : (o : Option Entry) → slice_get es j ≡ o → IfSome o (λ e. now ≡ slice_set es j (one_more e)) → Under core (seed + 1) now (record { steps = totals.steps + p.steps; texts = totals.texts })
       by_there None t h =
           let d : Entry = entry_of 0 p in
-          let q = position-Some (λ e. shows e p) es j d found in
+          let q = position-Some (λ e. shows_outcome e p) es j d found in
           absurd (gone (get_or es j d) (sym (slice_get-get_or es j d q.0) ∙ t))
       by_there (Some e) t h = adds_again j found e t now h
 
@@ -137,7 +137,7 @@ module _ (core : CoreData) (seed : ℕ) (es : List Entry) (totals : Totals) (u :
 
 few_in : (ps : List Play) (seed : ℕ) → length ps ≡ seed → (es : List Entry) → AllByRecursion (IsEntry ps) es → (at : ℕ) → IfSome (slice_get es at) (λ e. e.number ≤ seed)
 few_in ps seed l [] a at = tt
-few_in ps seed l (e ∷ es) a zero = let n = a.0.number in let c = count_by-le-length (shows e) ps in omega (arith, n, c, l)
+few_in ps seed l (e ∷ es) a zero = let n = a.0.number in let c = count_by-le-length (shows_outcome e) ps in omega (arith, n, c, l)
 few_in ps seed l (e ∷ es) a (suc at) = few_in ps seed l es a.1 at
 
 pub numbers_few : (core : CoreData) (seed : ℕ) (es : List Entry) (totals : Totals) → Under core seed es totals → (at : ℕ) → IfSome (slice_get es at) (λ e. e.number ≤ seed)
@@ -170,7 +170,7 @@ if_map P Q f (Some x) a = f x a
 pub numbers_fit : (core : CoreData) (seed : ℕ) (es : List Entry) (totals : Totals) → Under core seed es totals → seed + 1 < 2 ^ 32 → (at : ℕ) → IfSome (slice_get es at) (λ e. e.number + 1 < 2 ^ 32)
 numbers_fit core seed es totals u l at = if_map (λ e. e.number ≤ seed) (λ e. e.number + 1 < 2 ^ 32) (λ e n. omega (arith, n, l)) (slice_get es at) (numbers_few core seed es totals u at)
 
-pub ends : (core : CoreData) (seed count : ℕ) (es : List Entry) (f : OutcomesFault) → seed < count → AddsTo core seed es (Err f) → Answers core count (Err f)
+pub ends : (core : CoreData) (seed count : ℕ) (es : List Entry) (f : OutcomesFault) → seed < count → AddsTo core seed es (Err f) → AnswersTable core count (Err f)
 ends core seed count es (fault.Steps s) l a = subst (λ (k : ℕ). (k < count) × StepsPass core k) (sym a.0) (l, a.1)
 ends core seed count es (fault.Texts s) l a = subst (λ (k : ℕ). (k < count) × TextsPass core k) (sym a.0) (l, a.1)
 ends core seed count es fault.Memory l a = tt

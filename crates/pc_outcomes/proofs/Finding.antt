@@ -21,7 +21,7 @@ use Rattle.pc_outcomes.specs.declared.entry.Play.{Play}
 use Rattle.pc_outcomes.specs.declared.entry.Seeds.{Seeds}
 use Rattle.pc_outcomes.specs.Shown.{play_with, shown}
 use Rattle.pc_outcomes.specs.Plays.{same_ending}
-use Rattle.pc_outcomes.specs.Tables.{shows}
+use Rattle.pc_outcomes.specs.Tables.{shows_outcome}
 use Rattle.pc_outcomes.specs.Under.{one_more}
 use Rattle.pc_outcomes.proofs.Adding.{not_found}
 
@@ -47,7 +47,7 @@ ending_same TooLong Done = refl
 ending_same TooLong Cut = refl
 ending_same TooLong TooLong = refl
 
-pub outcome_same : (o : Outcome) (e : Outcome × Seeds) → (outcome_eq.ghosts).eq o e.0 ≡ shows (shown e) (play_with o 0)
+pub outcome_same : (o : Outcome) (e : Outcome × Seeds) → (outcome_eq.ghosts).eq o e.0 ≡ shows_outcome (shown e) (play_with o 0)
 outcome_same o e =
     ap (λ (b : Bool). b && (ending_eq.ghosts).eq o.ending e.0.ending) (bytes_sym o.text.items e.0.text.items)
     ∙ ap (λ (b : Bool). bytes_eq e.0.text.items o.text.items && b) (ending_same o.ending e.0.ending)

@@ -12,23 +12,23 @@ use Rattle.pc_outcomes.specs.declared.entry.Ending.TheVariants.{Done, Cut, TooLo
 use Rattle.pc_outcomes.specs.declared.entry.Play.{Play}
 
 -- How a run ended, given how many actors are able after it and the step that ended it, if one did.
-abbrev pub ended : (able : ℕ) → Option (ℕ × Outcome) → Ending
-ended zero None = Done
-ended (suc n) None = Cut
-ended n (Some end) = TooLong
+abbrev pub ending_after : (able : ℕ) → Option (ℕ × Outcome) → Ending
+ending_after zero None = Done
+ending_after (suc n) None = Cut
+ending_after n (Some end) = TooLong
 
 -- The play of a seed: the run of its list.
-pub record IsPlay (core : CoreData) (seed : ℕ) (play : Play) : Type 0 where
+pub record IsPlayOfSeed (core : CoreData) (seed : ℕ) (play : Play) : Type 0 where
   pub list : List ℕ
   pub chosen : Chosen core seed list
   pub text : play.text ≡ lines (after core list).printed
-  pub ending : play.ending ≡ ended (length (able_actors (after core list))) (end_of (outcomes core list))
+  pub ending : play.ending ≡ ending_after (length (able_actors (after core list))) (end_of (outcomes core list))
   pub steps : play.steps ≡ length list
 
 -- The plays of the seeds below a count, in order.
 pub record ArePlays (core : CoreData) (count : ℕ) (plays : List Play) : Type 0 where
   pub all : length plays ≡ count
-  pub are : (seed : ℕ) → IfSome (slice_get plays seed) (IsPlay core seed)
+  pub are : (seed : ℕ) → IfSome (slice_get plays seed) (IsPlayOfSeed core seed)
 
 -- ---- outcomes
 

@@ -11,8 +11,8 @@ ending_words Cut = codes " (cut)"
 ending_words TooLong = codes " (too long)"
 
 -- `seed S: N of COUNT, M steps`
-abbrev pub numbers_of : (count seed number steps : ℕ) → List ℕ
-numbers_of count seed number steps =
+abbrev pub seed_numbers : (count seed number steps : ℕ) → List ℕ
+seed_numbers count seed number steps =
     codes "seed " ++ (decimal seed ++ (codes ": " ++ (decimal number ++ (codes " of " ++ (decimal count ++ (codes ", " ++ (decimal steps ++ codes " steps")))))))
 
 -- Two blanks before a byte that begins a line.
@@ -31,8 +31,8 @@ indented text = indented_from true text
 
 -- The head of an entry, with its numbers and how the play ended, and its text.
 abbrev pub entry_text : (count : ℕ) → Entry → List ℕ
-entry_text count e = numbers_of count e.seed e.number e.steps ++ ending_words e.ending ++ 10 ∷ [] ++ indented e.text
+entry_text count e = seed_numbers count e.seed e.number e.steps ++ ending_words e.ending ++ 10 ∷ [] ++ indented e.text
 
 -- The text of a table: the texts of its entries, one after another.
-abbrev pub text_of : (count : ℕ) → List Entry → List ℕ
-text_of count entries = flat_map (entry_text count) entries
+abbrev pub outcomes_text : (count : ℕ) → List Entry → List ℕ
+outcomes_text count entries = flat_map (entry_text count) entries

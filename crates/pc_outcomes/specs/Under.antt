@@ -6,7 +6,7 @@ use Rattle.pc_outcomes.specs.declared.entry.Play.{Play}
 use Rattle.pc_outcomes.specs.declared.fault.OutcomesFault.{OutcomesFault}
 use Rattle.pc_outcomes.specs.declared.fault.OutcomesFault.TheVariants as fault
 use Rattle.pc_outcomes.specs.declared.table.Totals.{Totals}
-use Rattle.pc_outcomes.specs.Tables.{Told, StepsPass, TextsPass, total_steps, total_texts}
+use Rattle.pc_outcomes.specs.Tables.{IsOutcomesTable, StepsPass, TextsPass, total_steps, total_texts}
 
 -- The entry with one seed more.
 abbrev pub one_more : Entry → Entry
@@ -18,7 +18,7 @@ entry_of seed p = record { seed = seed; number = 1; steps = p.steps; text = p.te
 
 -- The seeds below this one have these entries and these totals.
 pub record Under (core : CoreData) (seed : ℕ) (entries : List Entry) (totals : Totals) : Type 0 where
-  pub told : Told core seed entries
+  pub told : IsOutcomesTable core seed entries
   pub steps : totals.steps ≡ total_steps told.plays
   pub texts : totals.texts ≡ total_texts entries
 

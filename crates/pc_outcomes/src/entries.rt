@@ -1,7 +1,7 @@
 //! The outcomes of the seeds so far.
 ghost use Rattle.std.specs.Prelude.{◌≡◌, ◌+◌, ◌<◌, ◌++◌, ◌∷◌, [], ◌^◌, length, position, slice_get, slice_set, IfOk, IfSome, None, OnOk};
 ghost use Rattle.pc_outcomes.specs.Shown.{play_with, shown};
-ghost use Rattle.pc_outcomes.specs.Tables.{shows};
+ghost use Rattle.pc_outcomes.specs.Tables.{shows_outcome};
 ghost use Rattle.pc_outcomes.specs.Under.{one_more, entry_of};
 
 use crate::entry::{Ending, Entry, Outcome, Seeds};
@@ -64,7 +64,7 @@ impl Entries {
 
     /// The place of an outcome. `None` iff no seed so far has it.
     pub fn place_of(&self, outcome: &Outcome) -> Option<usize>
-        ensures { result ≡ position (λ e. shows e (play_with outcome.now 0)) self.now }
+        ensures { result ≡ position (λ e. shows_outcome e (play_with outcome.now 0)) self.now }
     {
         self.seeds.get_index_of(outcome)
     }
@@ -81,7 +81,7 @@ impl Entries {
 
     /// The first seed with an outcome that no seed so far has.
     pub fn push(&mut self, seed: u32, steps: u32, outcome: Outcome) -> Result<(), AllocError>
-        requires { position (λ e. shows e (play_with outcome 0)) self.old ≡ None }
+        requires { position (λ e. shows_outcome e (play_with outcome 0)) self.old ≡ None }
         ensures { OnOk result (self.new ≡ self.old ++ entry_of seed (play_with outcome steps) ∷ []) }
     {
         let seeds = Seeds {

@@ -6,8 +6,8 @@ ghost use Rattle.pc_semantics.specs.Runs as run;
 ghost use Rattle.pc_lists.specs.Texts.{line_end};
 ghost use Rattle.pc_semantics.specs.Text.{lines, end_of};
 ghost use Rattle.pc_run.specs.Ends.{NeverLacks};
-ghost use Rattle.pc_run.specs.Underway.{Reached};
-ghost use Rattle.pc_outcomes.specs.Plays.{IsPlay, ended};
+ghost use Rattle.pc_run.specs.Underway.{ReachedSoFar};
+ghost use Rattle.pc_outcomes.specs.Plays.{IsPlayOfSeed, ending_after};
 
 use crate::entry::{Ending, Play};
 use pc_caps::List;
@@ -39,7 +39,7 @@ fn joined(alloc: Global, texts: &[List<u8>]) -> Result<List<u8>, AllocError>
 
 // How a play ended, given how many actors are able after it.
 fn ending_of(progress: Progress, able: u32) -> Ending
-    ensures { (core : CoreData) (list : Sequence ℕ) (c : Configuration) → Reached core list c [] progress → result ≡ ended able (end_of (run.outcomes core list)) }
+    ensures { (core : CoreData) (list : Sequence ℕ) (c : Configuration) → ReachedSoFar core list c [] progress → result ≡ ending_after able (end_of (run.outcomes core list)) }
 {
     match progress {
         Progress::Going(_) => { if able == 0 { Ending::Done } else { Ending::Cut } }
@@ -50,7 +50,7 @@ fn ending_of(progress: Progress, able: u32) -> Ending
 /// The play of a seed. No step of the core lacks anything, over any list of actors.
 pub fn play_of(alloc: Global, core: &Core, seed: u32) -> Result<Play, AllocError>
     requires never_lacks { NeverLacks core.now }
-    ensures { IfOk result (IsPlay core.now seed) }
+    ensures { IfOk result (IsPlayOfSeed core.now seed) }
 {
     let through = play_through(alloc, core, u64::from(seed))?;
     let able = count_able(alloc, &through.machine)?;

@@ -2,10 +2,10 @@
 ghost use Rattle.std.specs.Prelude.{◌≡◌, ◌+◌, ◌<◌, ◌≤◌, ◌^◌, ℕ, position, slice_get, IfSome, None};
 ghost use Rattle.pc_core.specs.CoreData.{CoreData};
 ghost use Rattle.pc_run.specs.Ends.{NeverLacks};
-ghost use Rattle.pc_outcomes.specs.Plays.{IsPlay};
+ghost use Rattle.pc_outcomes.specs.Plays.{IsPlayOfSeed};
 ghost use Rattle.pc_outcomes.specs.Shown.{play_with};
 ghost use Rattle.pc_outcomes.specs.Tables as table;
-ghost use Rattle.pc_outcomes.specs.Tables.{Answers};
+ghost use Rattle.pc_outcomes.specs.Tables.{AnswersTable};
 ghost use Rattle.pc_outcomes.specs.Under.{Under, AddsTo};
 
 use crate::entries::{Entries, outcome_of};
@@ -40,8 +40,8 @@ fn add_new(
     outcome: Outcome,
 ) -> Result<Totals, OutcomesFault>
     requires texts { totals.texts ≤ table.texts_limit }
-    requires new { position (λ e. table.shows e (play_with outcome 0)) entries.old ≡ None }
-    ensures { (core : CoreData) (before : ℕ) → Under core seed entries.old (record { steps = before; texts = totals.texts }) → IsPlay core seed (play_with outcome steps) → totals.steps ≡ before + steps → totals.steps ≤ table.steps_limit → AddsTo core seed entries.new result }
+    requires new { position (λ e. table.shows_outcome e (play_with outcome 0)) entries.old ≡ None }
+    ensures { (core : CoreData) (before : ℕ) → Under core seed entries.old (record { steps = before; texts = totals.texts }) → IsPlayOfSeed core seed (play_with outcome steps) → totals.steps ≡ before + steps → totals.steps ≤ table.steps_limit → AddsTo core seed entries.new result }
 {
     let texts = totals.texts + outcome.text.len() as u64;
     if texts > TEXTS_LIMIT {
@@ -64,7 +64,7 @@ fn add(
     requires steps { totals.steps ≤ table.steps_limit }
     requires texts { totals.texts ≤ table.texts_limit }
     requires few { (at : ℕ) → IfSome (slice_get entries.old at) (λ e. e.number + 1 < 2 ^ 32) }
-    ensures { (core : CoreData) → Under core seed entries.old totals → IsPlay core seed play → AddsTo core seed entries.new result }
+    ensures { (core : CoreData) → Under core seed entries.old totals → IsPlayOfSeed core seed play → AddsTo core seed entries.new result }
 {
     let steps = totals.steps + u64::from(play.steps);
     if steps > STEPS_LIMIT {
@@ -101,7 +101,7 @@ fn add(
 pub fn outcomes(alloc: Global, core: &Core, count: u32) -> Result<List<Entry>, OutcomesFault>
     requires few { count < 2 ^ 31 }
     requires never_lacks { NeverLacks core.now }
-    ensures { Answers core.now count result }
+    ensures { AnswersTable core.now count result }
 {
     let mut entries = Entries::new(alloc);
     let mut totals = Totals { steps: 0, texts: 0 };

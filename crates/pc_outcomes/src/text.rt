@@ -25,7 +25,7 @@ fn head_of(
     number: u32,
     steps: u32,
 ) -> Result<String, AllocError>
-    ensures { IfOk result (λ line. string_bytes line ≡ spec.numbers_of count seed number steps) }
+    ensures { IfOk result (λ line. string_bytes line ≡ spec.seed_numbers count seed number steps) }
 {
     format!(in alloc; "seed {seed}: {number} of {count}, {steps} steps")
 }
@@ -59,7 +59,7 @@ fn push_entry(alloc: Global, all: &mut Vec<u8>, count: u32, entry: &Entry) -> Re
 /// The text of a table: for each entry, a head `seed S: N of COUNT, M steps`, with ` (cut)` or ` (too long)` if its
 /// play ended so, and then its text, with two blanks before each line.
 pub fn text_of(alloc: Global, count: u32, entries: &[Entry]) -> Result<List<u8>, AllocError>
-    ensures { IfOk result (λ text. text ≡ spec.text_of count entries.now) }
+    ensures { IfOk result (λ text. text ≡ spec.outcomes_text count entries.now) }
 {
     let mut all = Vec::new(alloc);
     'entries: for entry in entries {

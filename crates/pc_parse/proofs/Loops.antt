@@ -1,11 +1,11 @@
 -- A repetition that begins with nothing.
 use Rattle.std.proofs.Common.{◌≡◌, List, [], ◌++◌, length, Option, Ok, Err, refl, sym, subst, arith}
 use Rattle.pc_token.specs.declared.kinds.Token.{Token}
-use Rattle.pc_grammar.specs.Reading.{Outcome, Parser, and_then, pure, all, many}
+use Rattle.pc_grammar.specs.Reading.{ReadingOutcome, Parser, and_then, pure, all, many}
 use Rattle.pc_expr.proofs.Loops.{Loop}
 
 module _ {A : Type 0} where
-  as_read : (o : Outcome (List A)) → o ≡ and_then o (λ more. pure ([] ++ more))
+  as_read : (o : ReadingOutcome (List A)) → o ≡ and_then o (λ more. pure ([] ++ more))
   as_read (Ok r) = refl
   as_read (Err e) = refl
 

@@ -5,7 +5,7 @@ use Rattle.pc_tree.specs.declared.file.File.{File}
 use Rattle.pc_tree.specs.View.{file_view}
 use Rattle.pc_token.specs.declared.kinds.Token.{Token}
 use Rattle.pc_grammar.specs.Reading as reading
-use Rattle.pc_grammar.specs.Reading.{Outcome}
+use Rattle.pc_grammar.specs.Reading.{ReadingOutcome}
 use Rattle.pc_grammar.specs.ReadingFile as rules
 use Rattle.pc_grammar.specs.FileAnswers.{FileAnswer, spelled, unexpected, too_deep, IsFileAnswer}
 use Rattle.pc_grammar.specs.Laws.{AnswersFor}
@@ -15,8 +15,8 @@ use Rattle.pc_expr.specs.declared.stop.ParseStop.TheVariants as stop
 use Rattle.pc_expr.specs.declared.fault.ParseFault.{ParseFault}
 use Rattle.pc_expr.specs.declared.fault.ParseFault.TheVariants as fault
 use Rattle.pc_expr.specs.Gives.{Stops}
-use Rattle.pc_expr.specs.Answers.{Names}
-use Rattle.pc_parse.specs.Answers.{StopsRight, Refuses, Is}
+use Rattle.pc_expr.specs.Answers.{NamesByte}
+use Rattle.pc_parse.specs.Answers.{StopsRight, RefusesFile, Is}
 
 -- ---- what is read, by the number of tokens left
 
@@ -32,7 +32,7 @@ refused_left : (ts rest : List Token) → 0 < length rest → AnswersFor ts (Err
 refused_left ts [] some h = absurd (omega (arith, some))
 refused_left ts (x ∷ rest) some h = h
 
-answers : (tokens : List Token) (o : Outcome t.File) → rules.file 199 tokens ≡ o → AnswersFor tokens o
+answers : (tokens : List Token) (o : ReadingOutcome t.File) → rules.file 199 tokens ≡ o → AnswersFor tokens o
 answers tokens o e = subst (λ v. AnswersFor tokens v) e (file_is_answered tokens)
 
 pub spells_all : (tokens : List Token) (to : ℕ) (f : t.File) → rules.file 199 tokens ≡ Ok (f, drop to tokens) → length tokens ≤ to → IsFileAnswer tokens (spelled f)
@@ -55,17 +55,17 @@ stops_right tokens stop.Memory s = tt
 
 -- ---- faults, by the first byte of their token
 
-pub refused : (tokens : List Token) (e : ParseStop) (f : ParseFault) → StopsRight tokens e → Names tokens e f → Refuses tokens f
-refused tokens (stop.Unexpected k) f s named = subst (λ v. Refuses tokens v) (sym named.1) (k, named.2, s.1)
-refused tokens (stop.TooDeep k) f s named = subst (λ v. Refuses tokens v) (sym named.1) (k, named.2, s.1)
-refused tokens stop.Memory f s named = subst (λ v. Refuses tokens v) (sym named) tt
+pub refused : (tokens : List Token) (e : ParseStop) (f : ParseFault) → StopsRight tokens e → NamesByte tokens e f → RefusesFile tokens f
+refused tokens (stop.Unexpected k) f s named = subst (λ v. RefusesFile tokens v) (sym named.1) (k, named.2, s.1)
+refused tokens (stop.TooDeep k) f s named = subst (λ v. RefusesFile tokens v) (sym named.1) (k, named.2, s.1)
+refused tokens stop.Memory f s named = subst (λ v. RefusesFile tokens v) (sym named) tt
 
 -- ---- no other answer
 
 pub only_tree : (tokens : List Token) (f : File) → IsFileAnswer tokens (spelled (file_view f)) → (answer : FileAnswer) → IsFileAnswer tokens answer → Is answer (Ok f)
 only_tree tokens f read answer is = one_file_answer tokens answer (spelled (file_view f)) is read
 
-pub only_fault : (tokens : List Token) (f : ParseFault) → Refuses tokens f → (answer : FileAnswer) → IsFileAnswer tokens answer → Is answer (Err f)
+pub only_fault : (tokens : List Token) (f : ParseFault) → RefusesFile tokens f → (answer : FileAnswer) → IsFileAnswer tokens answer → Is answer (Err f)
 only_fault tokens (fault.Unexpected p) h answer is =
     let here = h.1 in
     (here.0, here.1, one_file_answer tokens answer (unexpected (drop h.0 tokens)) is h.2 ∙ ap unexpected here.2, here.3)

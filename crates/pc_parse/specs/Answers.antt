@@ -12,10 +12,10 @@ use Rattle.pc_expr.specs.Answers.{Places}
 
 -- Why there is no tree, by the first byte of the token with which no file begins any more, or with which only deeper
 -- ones begin. Or memory ran out.
-abbrev pub Refuses : List Token → ParseFault → Type 0
-Refuses tokens (fault.Unexpected p) = (k : ℕ) × Places tokens k p × IsFileAnswer tokens (unexpected (drop k tokens))
-Refuses tokens (fault.TooDeep p) = (k : ℕ) × Places tokens k p × IsFileAnswer tokens (too_deep (drop k tokens))
-Refuses tokens fault.Memory = Unit {0}
+abbrev pub RefusesFile : List Token → ParseFault → Type 0
+RefusesFile tokens (fault.Unexpected p) = (k : ℕ) × Places tokens k p × IsFileAnswer tokens (unexpected (drop k tokens))
+RefusesFile tokens (fault.TooDeep p) = (k : ℕ) × Places tokens k p × IsFileAnswer tokens (too_deep (drop k tokens))
+RefusesFile tokens fault.Memory = Unit {0}
 
 -- The result is this answer, with a fault given by the first byte of its token; or memory ran out.
 abbrev pub Is : FileAnswer → Result File ParseFault → Type 0

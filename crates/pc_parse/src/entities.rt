@@ -3,7 +3,7 @@ ghost use Rattle.std.specs.Prelude.{◌≡◌, ◌≤◌, drop, map, IfOk, Ok};
 ghost use Rattle.pc_tree.specs.View.{entity_view};
 ghost use Rattle.pc_grammar.specs.ReadingFile as rules;
 ghost use Rattle.pc_grammar.specs.FileAnswers.{inner_levels};
-ghost use Rattle.pc_expr.specs.Gives.{At, Moves, Gives};
+ghost use Rattle.pc_expr.specs.Gives.{StandsAtToken, Moves, GivesReading};
 ghost use Rattle.pc_parse.specs.Parts as parts;
 
 use crate::fields::fields;
@@ -18,9 +18,9 @@ use std::alloc::Global;
 
 /// [Cap], if such an entity may have one.
 fn entity_cap(tokens: &[Token], at: usize, kind: EntityKind) -> (Option<Cap>, usize)
-    requires { At tokens.now at }
+    requires { StandsAtToken tokens.now at }
     ensures gives { rules.entity_cap kind (drop at tokens.now) ≡ Ok (result.0, drop result.1 tokens.now) }
-    ensures moves { (at ≤ result.1) × At tokens.now result.1 }
+    ensures moves { (at ≤ result.1) × StandsAtToken tokens.now result.1 }
 {
     if kind.may_have_cap() {
         maybe_cap(tokens, at)
@@ -37,8 +37,8 @@ fn entity_of(
     at: usize,
     kind: EntityKind,
 ) -> Result<(Entity, usize), ParseStop>
-    requires { At tokens.now at }
-    ensures gives { Gives entity_view tokens.now result (rules.entity_of inner_levels kind (drop at tokens.now)) }
+    requires { StandsAtToken tokens.now at }
+    ensures gives { GivesReading entity_view tokens.now result (rules.entity_of inner_levels kind (drop at tokens.now)) }
     ensures moves { IfOk result (λ r. Moves tokens.now at r.1) }
 {
     let (_, begin) = take_word(tokens, at, entity_word(kind))?;
@@ -64,8 +64,8 @@ fn entity_of(
 /// ("class" [Cap] | "trait" [Cap] | "interface" [Cap] | "actor" | "primitive") TypeName, and what follows.
 #[tactic(auto, unfolding(pc_grammar::specs::ReadingFile::entity, pc_grammar::specs::Reading::peek))]
 fn entity(alloc: Global, tokens: &[Token], at: usize) -> Result<(Entity, usize), ParseStop>
-    requires { At tokens.now at }
-    ensures gives { Gives entity_view tokens.now result (rules.entity inner_levels (drop at tokens.now)) }
+    requires { StandsAtToken tokens.now at }
+    ensures gives { GivesReading entity_view tokens.now result (rules.entity inner_levels (drop at tokens.now)) }
     ensures moves { IfOk result (λ r. Moves tokens.now at r.1) }
 {
     let token = look(tokens, at);
@@ -91,9 +91,9 @@ fn more_entities(
     at: usize,
     so_far: List<Entity>,
 ) -> Result<(List<Entity>, usize), ParseStop>
-    requires { At tokens.now at }
-    ensures gives { Gives (map entity_view) tokens.now result (parts.more_entities (map entity_view so_far) (drop at tokens.now)) }
-    ensures moves { IfOk result (λ r. (at ≤ r.1) × At tokens.now r.1) }
+    requires { StandsAtToken tokens.now at }
+    ensures gives { GivesReading (map entity_view) tokens.now result (parts.more_entities (map entity_view so_far) (drop at tokens.now)) }
+    ensures moves { IfOk result (λ r. (at ≤ r.1) × StandsAtToken tokens.now r.1) }
 {
     let mut entities = so_far;
     let mut to = at;
@@ -112,8 +112,8 @@ pub fn some_entities(
     tokens: &[Token],
     at: usize,
 ) -> Result<(List<Entity>, usize), ParseStop>
-    requires { At tokens.now at }
-    ensures gives { Gives (map entity_view) tokens.now result (parts.some_entities (drop at tokens.now)) }
+    requires { StandsAtToken tokens.now at }
+    ensures gives { GivesReading (map entity_view) tokens.now result (parts.some_entities (drop at tokens.now)) }
     ensures moves { IfOk result (λ r. Moves tokens.now at r.1) }
 {
     let (first, to) = entity(alloc, tokens, at)?;

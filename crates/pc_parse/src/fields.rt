@@ -3,7 +3,7 @@ ghost use Rattle.std.specs.Prelude.{◌≤◌, drop, map, IfOk};
 ghost use Rattle.pc_tree.specs.View.{maybe_expr, field_view};
 ghost use Rattle.pc_grammar.specs.ReadingFile as rules;
 ghost use Rattle.pc_grammar.specs.FileAnswers.{inner_levels};
-ghost use Rattle.pc_expr.specs.Gives.{At, Moves, Gives};
+ghost use Rattle.pc_expr.specs.Gives.{StandsAtToken, Moves, GivesReading};
 ghost use Rattle.pc_parse.specs.Parts as parts;
 
 use crate::levels::INNER_LEVELS;
@@ -19,9 +19,9 @@ use std::alloc::Global;
 /// ["=" Infix]
 #[tactic(auto, unfolding(pc_grammar::specs::ReadingFile::value, pc_grammar::specs::Reading::peek))]
 fn value(alloc: Global, tokens: &[Token], at: usize) -> Result<(Option<Expr>, usize), ParseStop>
-    requires { At tokens.now at }
-    ensures gives { Gives maybe_expr tokens.now result (rules.value inner_levels (drop at tokens.now)) }
-    ensures moves { IfOk result (λ r. (at ≤ r.1) × At tokens.now r.1) }
+    requires { StandsAtToken tokens.now at }
+    ensures gives { GivesReading maybe_expr tokens.now result (rules.value inner_levels (drop at tokens.now)) }
+    ensures moves { IfOk result (λ r. (at ≤ r.1) × StandsAtToken tokens.now r.1) }
 {
     if !is_sign(look(tokens, at), Sign::Assign) {
         return Ok((None, at));
@@ -39,8 +39,8 @@ fn field(
     at: usize,
     fixed: bool,
 ) -> Result<(FieldDef, usize), ParseStop>
-    requires { At tokens.now at }
-    ensures gives { Gives field_view tokens.now result (rules.field inner_levels fixed (drop at tokens.now)) }
+    requires { StandsAtToken tokens.now at }
+    ensures gives { GivesReading field_view tokens.now result (rules.field inner_levels fixed (drop at tokens.now)) }
     ensures moves { IfOk result (λ r. Moves tokens.now at r.1) }
 {
     let (_, begin) = take_word(tokens, at, local_word(fixed))?;
@@ -63,8 +63,8 @@ fn field(
 /// ("var" | "let") Name ":" Type ["=" Infix] [doc]
 #[tactic(auto, unfolding(pc_grammar::specs::ReadingFile::some_field, pc_grammar::specs::Reading::peek))]
 fn some_field(alloc: Global, tokens: &[Token], at: usize) -> Result<(FieldDef, usize), ParseStop>
-    requires { At tokens.now at }
-    ensures gives { Gives field_view tokens.now result (rules.some_field inner_levels (drop at tokens.now)) }
+    requires { StandsAtToken tokens.now at }
+    ensures gives { GivesReading field_view tokens.now result (rules.some_field inner_levels (drop at tokens.now)) }
     ensures moves { IfOk result (λ r. Moves tokens.now at r.1) }
 {
     let fixed = is_word(look(tokens, at), Word::LetWord);
@@ -77,9 +77,9 @@ fn all_fields(
     tokens: &[Token],
     at: usize,
 ) -> Result<(List<FieldDef>, usize), ParseStop>
-    requires { At tokens.now at }
-    ensures gives { Gives (map field_view) tokens.now result (parts.all_fields (drop at tokens.now)) }
-    ensures moves { IfOk result (λ r. (at ≤ r.1) × At tokens.now r.1) }
+    requires { StandsAtToken tokens.now at }
+    ensures gives { GivesReading (map field_view) tokens.now result (parts.all_fields (drop at tokens.now)) }
+    ensures moves { IfOk result (λ r. (at ≤ r.1) × StandsAtToken tokens.now r.1) }
 {
     let mut fields = List::new(alloc);
     let mut to = at;
@@ -98,9 +98,9 @@ pub fn fields(
     at: usize,
     kind: EntityKind,
 ) -> Result<(List<FieldDef>, usize), ParseStop>
-    requires { At tokens.now at }
-    ensures gives { Gives (map field_view) tokens.now result (rules.fields inner_levels kind (drop at tokens.now)) }
-    ensures moves { IfOk result (λ r. (at ≤ r.1) × At tokens.now r.1) }
+    requires { StandsAtToken tokens.now at }
+    ensures gives { GivesReading (map field_view) tokens.now result (rules.fields inner_levels kind (drop at tokens.now)) }
+    ensures moves { IfOk result (λ r. (at ≤ r.1) × StandsAtToken tokens.now r.1) }
 {
     if kind.may_have_fields() {
         all_fields(alloc, tokens, at)

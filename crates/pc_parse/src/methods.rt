@@ -3,7 +3,7 @@ ghost use Rattle.std.specs.Prelude.{◌≡◌, ◌≤◌, drop, map, IfOk, Ok};
 ghost use Rattle.pc_tree.specs.View.{maybe_seq, method_view};
 ghost use Rattle.pc_grammar.specs.ReadingFile as rules;
 ghost use Rattle.pc_grammar.specs.FileAnswers.{inner_levels};
-ghost use Rattle.pc_expr.specs.Gives.{At, Moves, Gives};
+ghost use Rattle.pc_expr.specs.Gives.{StandsAtToken, Moves, GivesReading};
 ghost use Rattle.pc_parse.specs.Parts as parts;
 
 use crate::levels::INNER_LEVELS;
@@ -23,9 +23,9 @@ fn method_cap(
     kind: EntityKind,
     word: MethodWord,
 ) -> (Option<Cap>, usize)
-    requires { At tokens.now at }
+    requires { StandsAtToken tokens.now at }
     ensures gives { rules.method_cap kind word (drop at tokens.now) ≡ Ok (result.0, drop result.1 tokens.now) }
-    ensures moves { (at ≤ result.1) × At tokens.now result.1 }
+    ensures moves { (at ≤ result.1) × StandsAtToken tokens.now result.1 }
 {
     if kind.may_have_method_cap(word) {
         maybe_cap(tokens, at)
@@ -41,9 +41,9 @@ fn written_body(
     tokens: &[Token],
     at: usize,
 ) -> Result<(Option<Seq>, usize), ParseStop>
-    requires { At tokens.now at }
-    ensures gives { Gives maybe_seq tokens.now result (rules.written_body inner_levels (drop at tokens.now)) }
-    ensures moves { IfOk result (λ r. (at ≤ r.1) × At tokens.now r.1) }
+    requires { StandsAtToken tokens.now at }
+    ensures gives { GivesReading maybe_seq tokens.now result (rules.written_body inner_levels (drop at tokens.now)) }
+    ensures moves { IfOk result (λ r. (at ≤ r.1) × StandsAtToken tokens.now r.1) }
 {
     let (_, begin) = take_sign(tokens, at, Sign::Arrow)?;
     let begin = after_doc(tokens, begin);
@@ -54,9 +54,9 @@ fn written_body(
 /// ["=>" [doc] Seq]
 #[tactic(auto, unfolding(pc_grammar::specs::ReadingFile::maybe_body, pc_grammar::specs::Reading::peek))]
 fn maybe_body(alloc: Global, tokens: &[Token], at: usize) -> Result<(Option<Seq>, usize), ParseStop>
-    requires { At tokens.now at }
-    ensures gives { Gives maybe_seq tokens.now result (rules.maybe_body inner_levels (drop at tokens.now)) }
-    ensures moves { IfOk result (λ r. (at ≤ r.1) × At tokens.now r.1) }
+    requires { StandsAtToken tokens.now at }
+    ensures gives { GivesReading maybe_seq tokens.now result (rules.maybe_body inner_levels (drop at tokens.now)) }
+    ensures moves { IfOk result (λ r. (at ≤ r.1) × StandsAtToken tokens.now r.1) }
 {
     if is_sign(look(tokens, at), Sign::Arrow) {
         written_body(alloc, tokens, at)
@@ -72,9 +72,9 @@ fn body(
     at: usize,
     kind: EntityKind,
 ) -> Result<(Option<Seq>, usize), ParseStop>
-    requires { At tokens.now at }
-    ensures gives { Gives maybe_seq tokens.now result (rules.body inner_levels kind (drop at tokens.now)) }
-    ensures moves { IfOk result (λ r. (at ≤ r.1) × At tokens.now r.1) }
+    requires { StandsAtToken tokens.now at }
+    ensures gives { GivesReading maybe_seq tokens.now result (rules.body inner_levels kind (drop at tokens.now)) }
+    ensures moves { IfOk result (λ r. (at ≤ r.1) × StandsAtToken tokens.now r.1) }
 {
     if kind.is_abstract() {
         maybe_body(alloc, tokens, at)
@@ -92,8 +92,8 @@ fn method_of(
     kind: EntityKind,
     word: MethodWord,
 ) -> Result<(MethodDef, usize), ParseStop>
-    requires { At tokens.now at }
-    ensures gives { Gives method_view tokens.now result (rules.method_of inner_levels kind word (drop at tokens.now)) }
+    requires { StandsAtToken tokens.now at }
+    ensures gives { GivesReading method_view tokens.now result (rules.method_of inner_levels kind word (drop at tokens.now)) }
     ensures moves { IfOk result (λ r. Moves tokens.now at r.1) }
 {
     let (_, begin) = take_word(tokens, at, method_word(word))?;
@@ -124,8 +124,8 @@ fn some_method(
     at: usize,
     kind: EntityKind,
 ) -> Result<(MethodDef, usize), ParseStop>
-    requires { At tokens.now at }
-    ensures gives { Gives method_view tokens.now result (rules.some_method inner_levels kind (drop at tokens.now)) }
+    requires { StandsAtToken tokens.now at }
+    ensures gives { GivesReading method_view tokens.now result (rules.some_method inner_levels kind (drop at tokens.now)) }
     ensures moves { IfOk result (λ r. Moves tokens.now at r.1) }
 {
     let token = look(tokens, at);
@@ -145,9 +145,9 @@ pub fn methods(
     at: usize,
     kind: EntityKind,
 ) -> Result<(List<MethodDef>, usize), ParseStop>
-    requires { At tokens.now at }
-    ensures gives { Gives (map method_view) tokens.now result (parts.all_methods kind (drop at tokens.now)) }
-    ensures moves { IfOk result (λ r. (at ≤ r.1) × At tokens.now r.1) }
+    requires { StandsAtToken tokens.now at }
+    ensures gives { GivesReading (map method_view) tokens.now result (parts.all_methods kind (drop at tokens.now)) }
+    ensures moves { IfOk result (λ r. (at ≤ r.1) × StandsAtToken tokens.now r.1) }
 {
     let mut methods = List::new(alloc);
     let mut to = at;

@@ -1,7 +1,7 @@
 //! The parameters of a method.
 ghost use Rattle.std.specs.Prelude.{◌≤◌, drop, IfOk};
 ghost use Rattle.pc_grammar.specs.ReadingFile as rules;
-ghost use Rattle.pc_expr.specs.Gives.{At, Moves, Gives};
+ghost use Rattle.pc_expr.specs.Gives.{StandsAtToken, Moves, GivesReading};
 ghost use Rattle.pc_parse.specs.Parts as parts;
 
 use pc_caps::List;
@@ -13,8 +13,8 @@ use std::alloc::Global;
 /// Name ":" Type
 #[tactic(auto, unfolding(pc_grammar::specs::ReadingFile::param))]
 fn param(alloc: Global, tokens: &[Token], at: usize) -> Result<(ParamDef, usize), ParseStop>
-    requires { At tokens.now at }
-    ensures gives { Gives (λ m. m) tokens.now result (rules.param (drop at tokens.now)) }
+    requires { StandsAtToken tokens.now at }
+    ensures gives { GivesReading (λ m. m) tokens.now result (rules.param (drop at tokens.now)) }
     ensures moves { IfOk result (λ r. Moves tokens.now at r.1) }
 {
     let (name, to) = name(alloc, tokens, at)?;
@@ -30,9 +30,9 @@ fn more_params(
     at: usize,
     so_far: List<ParamDef>,
 ) -> Result<(List<ParamDef>, usize), ParseStop>
-    requires { At tokens.now at }
-    ensures gives { Gives (λ m. m) tokens.now result (parts.more_params so_far (drop at tokens.now)) }
-    ensures moves { IfOk result (λ r. (at ≤ r.1) × At tokens.now r.1) }
+    requires { StandsAtToken tokens.now at }
+    ensures gives { GivesReading (λ m. m) tokens.now result (parts.more_params so_far (drop at tokens.now)) }
+    ensures moves { IfOk result (λ r. (at ≤ r.1) × StandsAtToken tokens.now r.1) }
 {
     let mut params = so_far;
     let mut to = at;
@@ -51,8 +51,8 @@ fn some_params(
     tokens: &[Token],
     at: usize,
 ) -> Result<(List<ParamDef>, usize), ParseStop>
-    requires { At tokens.now at }
-    ensures gives { Gives (λ m. m) tokens.now result (parts.some_params (drop at tokens.now)) }
+    requires { StandsAtToken tokens.now at }
+    ensures gives { GivesReading (λ m. m) tokens.now result (parts.some_params (drop at tokens.now)) }
     ensures moves { IfOk result (λ r. Moves tokens.now at r.1) }
 {
     let (first, to) = param(alloc, tokens, at)?;
@@ -68,9 +68,9 @@ fn param_list(
     tokens: &[Token],
     at: usize,
 ) -> Result<(List<ParamDef>, usize), ParseStop>
-    requires { At tokens.now at }
-    ensures gives { Gives (λ m. m) tokens.now result (rules.param_list (drop at tokens.now)) }
-    ensures moves { IfOk result (λ r. (at ≤ r.1) × At tokens.now r.1) }
+    requires { StandsAtToken tokens.now at }
+    ensures gives { GivesReading (λ m. m) tokens.now result (rules.param_list (drop at tokens.now)) }
+    ensures moves { IfOk result (λ r. (at ≤ r.1) × StandsAtToken tokens.now r.1) }
 {
     if is_sign(look(tokens, at), Sign::CloseParen) {
         return Ok((List::new(alloc), at));
@@ -85,8 +85,8 @@ pub fn params(
     tokens: &[Token],
     at: usize,
 ) -> Result<(List<ParamDef>, usize), ParseStop>
-    requires { At tokens.now at }
-    ensures gives { Gives (λ m. m) tokens.now result (rules.params (drop at tokens.now)) }
+    requires { StandsAtToken tokens.now at }
+    ensures gives { GivesReading (λ m. m) tokens.now result (rules.params (drop at tokens.now)) }
     ensures moves { IfOk result (λ r. Moves tokens.now at r.1) }
 {
     let (_, begin) = take_sign(tokens, at, Sign::OpenParen)?;

@@ -3,8 +3,8 @@ ghost use Rattle.std.specs.Prelude.{◌≤◌, length, IfOk, IfErr};
 ghost use Rattle.pc_tree.specs.View.{file_view};
 ghost use Rattle.pc_grammar.specs.ReadingFile as rules;
 ghost use Rattle.pc_grammar.specs.FileAnswers.{IsFileAnswer, spelled, inner_levels};
-ghost use Rattle.pc_expr.specs.Gives.{EndsWithEnd, At, Gives};
-ghost use Rattle.pc_parse.specs.Answers.{StopsRight, Refuses, IsOnly};
+ghost use Rattle.pc_expr.specs.Gives.{EndsWithEnd, StandsAtToken, GivesReading};
+ghost use Rattle.pc_parse.specs.Answers.{StopsRight, RefusesFile, IsOnly};
 
 use crate::entities::some_entities;
 use crate::tokens::{after_doc, is_end};
@@ -17,8 +17,8 @@ use std::alloc::Global;
 /// [doc] Entity {Entity} End, with the place after it.
 #[tactic(auto, using(crate::proofs::Parts::file_by_parts), unfolding(crate::specs::Parts::file_parts, pc_grammar::specs::Reading::take_if))]
 fn front(alloc: Global, tokens: &[Token]) -> Result<(File, usize), ParseStop>
-    requires { At tokens.now 0 }
-    ensures gives { Gives file_view tokens.now result (rules.file inner_levels tokens.now) }
+    requires { StandsAtToken tokens.now 0 }
+    ensures gives { GivesReading file_view tokens.now result (rules.file inner_levels tokens.now) }
     ensures within { IfOk result (λ r. r.1 ≤ length tokens.now) }
 {
     let begin = after_doc(tokens, 0);
@@ -31,7 +31,7 @@ fn front(alloc: Global, tokens: &[Token]) -> Result<(File, usize), ParseStop>
 
 /// [doc] Entity {Entity} End, and nothing after it.
 fn whole(alloc: Global, tokens: &[Token]) -> Result<File, ParseStop>
-    requires { At tokens.now 0 }
+    requires { StandsAtToken tokens.now 0 }
     ensures read { IfOk result (λ f. IsFileAnswer tokens.now (spelled (file_view f))) }
     ensures refused { IfErr result (StopsRight tokens.now) }
 {
@@ -52,7 +52,7 @@ pub fn file(alloc: Global, tokens: &[Token]) -> Result<File, ParseFault>
     // The tree that the tokens spell, all of them, within 200 levels.
     ensures read { IfOk result (λ f. IsFileAnswer tokens.now (spelled (file_view f))) }
     // Why there is none, by the first byte of the faulty token; or memory ran out.
-    ensures refused { IfErr result (Refuses tokens.now) }
+    ensures refused { IfErr result (RefusesFile tokens.now) }
     // Whatever answer holds for the tokens is the result, unless memory ran out.
     ensures exact { IsOnly tokens.now result }
 {

@@ -1,7 +1,7 @@
 //! The type names after `is`.
 ghost use Rattle.std.specs.Prelude.{◌≤◌, drop, IfOk};
 ghost use Rattle.pc_grammar.specs.ReadingFile as rules;
-ghost use Rattle.pc_expr.specs.Gives.{At, Moves, Gives};
+ghost use Rattle.pc_expr.specs.Gives.{StandsAtToken, Moves, GivesReading};
 ghost use Rattle.pc_parse.specs.Parts as parts;
 
 use crate::tokens::after_ampersand;
@@ -18,9 +18,9 @@ fn more_type_names(
     at: usize,
     so_far: List<Name>,
 ) -> Result<(List<Name>, usize), ParseStop>
-    requires { At tokens.now at }
-    ensures gives { Gives (λ m. m) tokens.now result (parts.more_type_names so_far (drop at tokens.now)) }
-    ensures moves { IfOk result (λ r. (at ≤ r.1) × At tokens.now r.1) }
+    requires { StandsAtToken tokens.now at }
+    ensures gives { GivesReading (λ m. m) tokens.now result (parts.more_type_names so_far (drop at tokens.now)) }
+    ensures moves { IfOk result (λ r. (at ≤ r.1) × StandsAtToken tokens.now r.1) }
 {
     let mut names = so_far;
     let mut to = at;
@@ -35,8 +35,8 @@ fn more_type_names(
 /// TypeName {"&" TypeName}
 #[tactic(auto, using(crate::proofs::Parts::type_names_by_parts), unfolding(crate::specs::Parts::some_type_names))]
 fn type_names(alloc: Global, tokens: &[Token], at: usize) -> Result<(List<Name>, usize), ParseStop>
-    requires { At tokens.now at }
-    ensures gives { Gives (λ m. m) tokens.now result (rules.type_names (drop at tokens.now)) }
+    requires { StandsAtToken tokens.now at }
+    ensures gives { GivesReading (λ m. m) tokens.now result (rules.type_names (drop at tokens.now)) }
     ensures moves { IfOk result (λ r. Moves tokens.now at r.1) }
 {
     let (first, to) = type_name(alloc, tokens, at)?;
@@ -52,8 +52,8 @@ fn one_type_name(
     tokens: &[Token],
     at: usize,
 ) -> Result<(List<Name>, usize), ParseStop>
-    requires { At tokens.now at }
-    ensures gives { Gives (λ m. m) tokens.now result (parts.one_type_name (drop at tokens.now)) }
+    requires { StandsAtToken tokens.now at }
+    ensures gives { GivesReading (λ m. m) tokens.now result (parts.one_type_name (drop at tokens.now)) }
     ensures moves { IfOk result (λ r. Moves tokens.now at r.1) }
 {
     let (name, to) = type_name(alloc, tokens, at)?;
@@ -65,8 +65,8 @@ fn one_type_name(
 /// TypeName  |  "(" TypeName {"&" TypeName} ")"
 #[tactic(auto, unfolding(pc_grammar::specs::ReadingFile::provided, crate::specs::Parts::one_type_name, pc_grammar::specs::Reading::peek))]
 fn provided(alloc: Global, tokens: &[Token], at: usize) -> Result<(List<Name>, usize), ParseStop>
-    requires { At tokens.now at }
-    ensures gives { Gives (λ m. m) tokens.now result (rules.provided (drop at tokens.now)) }
+    requires { StandsAtToken tokens.now at }
+    ensures gives { GivesReading (λ m. m) tokens.now result (rules.provided (drop at tokens.now)) }
     ensures moves { IfOk result (λ r. Moves tokens.now at r.1) }
 {
     if !is_sign(look(tokens, at), Sign::OpenParen) {
@@ -85,9 +85,9 @@ pub fn provides(
     tokens: &[Token],
     at: usize,
 ) -> Result<(List<Name>, usize), ParseStop>
-    requires { At tokens.now at }
-    ensures gives { Gives (λ m. m) tokens.now result (rules.provides (drop at tokens.now)) }
-    ensures moves { IfOk result (λ r. (at ≤ r.1) × At tokens.now r.1) }
+    requires { StandsAtToken tokens.now at }
+    ensures gives { GivesReading (λ m. m) tokens.now result (rules.provides (drop at tokens.now)) }
+    ensures moves { IfOk result (λ r. (at ≤ r.1) × StandsAtToken tokens.now r.1) }
 {
     if !is_word(look(tokens, at), Word::IsWord) {
         return Ok((List::new(alloc), at));

@@ -5,7 +5,7 @@ ghost use Rattle.pc_token.specs.Asking as asking;
 ghost use Rattle.pc_grammar.specs.Reading as reading;
 ghost use Rattle.pc_grammar.specs.ReadingFile as rules;
 ghost use Rattle.pc_grammar.specs.SpellsFile as grammar;
-ghost use Rattle.pc_expr.specs.Gives.{At};
+ghost use Rattle.pc_expr.specs.Gives.{StandsAtToken};
 
 use pc_expr::parsers::look;
 use pc_token::{Sign, Token, TokenKind, Word, is_sign, is_word};
@@ -47,9 +47,9 @@ pub fn is_end(token: &Token) -> bool
 /// The place after a doc, if there is one here.
 #[tactic(auto, using(crate::proofs::Ends::is_doc_not_end), unfolding(pc_grammar::specs::ReadingFile::maybe_doc, pc_grammar::specs::Reading::peek, pc_grammar::specs::Reading::take_if))]
 pub fn after_doc(tokens: &[Token], at: usize) -> usize
-    requires { At tokens.now at }
+    requires { StandsAtToken tokens.now at }
     ensures gives { rules.maybe_doc (drop at tokens.now) ≡ Ok (tt, drop result tokens.now) }
-    ensures moves { (at ≤ result) × At tokens.now result }
+    ensures moves { (at ≤ result) × StandsAtToken tokens.now result }
 {
     if is_doc(look(tokens, at)) { at + 1 } else { at }
 }
@@ -57,9 +57,9 @@ pub fn after_doc(tokens: &[Token], at: usize) -> usize
 /// The place after the `&`, if there is one here.
 #[tactic(auto, using(pc_expr::proofs::Ends::is_sign_not_end), unfolding(pc_grammar::specs::Reading::after))]
 pub fn after_ampersand(tokens: &[Token], at: usize) -> Option<usize>
-    requires { At tokens.now at }
+    requires { StandsAtToken tokens.now at }
     ensures value { option_map (λ p. drop p tokens.now) result ≡ reading.after (asking.is_sign Ampersand) (drop at tokens.now) }
-    ensures there { IfSome result (λ p. (at ≤ p) × At tokens.now p) }
+    ensures there { IfSome result (λ p. (at ≤ p) × StandsAtToken tokens.now p) }
 {
     if is_sign(look(tokens, at), Sign::Ampersand) {
         Some(at + 1)
@@ -78,9 +78,9 @@ fn begins_field(token: &Token) -> bool
 /// This place, if a field begins here.
 #[tactic(auto, unfolding(pc_grammar::specs::Reading::at))]
 pub fn at_field(tokens: &[Token], at: usize) -> Option<usize>
-    requires { At tokens.now at }
+    requires { StandsAtToken tokens.now at }
     ensures value { option_map (λ p. drop p tokens.now) result ≡ reading.at rules.begins_field (drop at tokens.now) }
-    ensures there { IfSome result (λ p. (at ≤ p) × At tokens.now p) }
+    ensures there { IfSome result (λ p. (at ≤ p) × StandsAtToken tokens.now p) }
 {
     if begins_field(look(tokens, at)) {
         Some(at)
@@ -119,9 +119,9 @@ fn begins_method(kind: EntityKind, token: &Token) -> bool
 /// This place, if a method begins here that may be in such an entity.
 #[tactic(auto, unfolding(pc_grammar::specs::Reading::at))]
 pub fn at_method(tokens: &[Token], at: usize, kind: EntityKind) -> Option<usize>
-    requires { At tokens.now at }
+    requires { StandsAtToken tokens.now at }
     ensures value { option_map (λ p. drop p tokens.now) result ≡ reading.at (rules.begins_method kind) (drop at tokens.now) }
-    ensures there { IfSome result (λ p. (at ≤ p) × At tokens.now p) }
+    ensures there { IfSome result (λ p. (at ≤ p) × StandsAtToken tokens.now p) }
 {
     if begins_method(kind, look(tokens, at)) {
         Some(at)
@@ -157,9 +157,9 @@ fn begins_entity(token: &Token) -> bool
 /// This place, if an entity begins here.
 #[tactic(auto, unfolding(pc_grammar::specs::Reading::at))]
 pub fn at_entity(tokens: &[Token], at: usize) -> Option<usize>
-    requires { At tokens.now at }
+    requires { StandsAtToken tokens.now at }
     ensures value { option_map (λ p. drop p tokens.now) result ≡ reading.at rules.begins_entity (drop at tokens.now) }
-    ensures there { IfSome result (λ p. (at ≤ p) × At tokens.now p) }
+    ensures there { IfSome result (λ p. (at ≤ p) × StandsAtToken tokens.now p) }
 {
     if begins_entity(look(tokens, at)) {
         Some(at)

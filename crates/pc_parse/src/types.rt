@@ -1,7 +1,7 @@
 //! The types of results.
 ghost use Rattle.std.specs.Prelude.{◌≡◌, ◌≤◌, drop, IfOk, Ok};
 ghost use Rattle.pc_grammar.specs.ReadingFile as rules;
-ghost use Rattle.pc_expr.specs.Gives.{At, Moves, Gives};
+ghost use Rattle.pc_expr.specs.Gives.{StandsAtToken, Moves, GivesReading};
 
 use pc_expr::parsers::{ParseStop, look, maybe_cap, take_sign, type_name};
 use pc_token::{Sign, Token, is_sign};
@@ -11,9 +11,9 @@ use std::alloc::Global;
 /// Whether there is a `^` here, and the place after it.
 #[tactic(auto, using(pc_expr::proofs::Ends::is_sign_not_end), unfolding(pc_grammar::specs::ReadingFile::maybe_hat, pc_grammar::specs::Reading::peek, pc_grammar::specs::Reading::take_if))]
 fn maybe_hat(tokens: &[Token], at: usize) -> (bool, usize)
-    requires { At tokens.now at }
+    requires { StandsAtToken tokens.now at }
     ensures gives { rules.maybe_hat (drop at tokens.now) ≡ Ok (result.0, drop result.1 tokens.now) }
-    ensures moves { (at ≤ result.1) × At tokens.now result.1 }
+    ensures moves { (at ≤ result.1) × StandsAtToken tokens.now result.1 }
 {
     if is_sign(look(tokens, at), Sign::Caret) {
         (true, at + 1)
@@ -25,8 +25,8 @@ fn maybe_hat(tokens: &[Token], at: usize) -> (bool, usize)
 /// TypeName [Cap] ["^"]
 #[tactic(auto, unfolding(pc_grammar::specs::ReadingFile::result_type))]
 fn result_type(alloc: Global, tokens: &[Token], at: usize) -> Result<(TypeRef, usize), ParseStop>
-    requires { At tokens.now at }
-    ensures gives { Gives (λ m. m) tokens.now result (rules.result_type (drop at tokens.now)) }
+    requires { StandsAtToken tokens.now at }
+    ensures gives { GivesReading (λ m. m) tokens.now result (rules.result_type (drop at tokens.now)) }
     ensures moves { IfOk result (λ r. Moves tokens.now at r.1) }
 {
     let (name, to) = type_name(alloc, tokens, at)?;
@@ -42,9 +42,9 @@ fn returns(
     tokens: &[Token],
     at: usize,
 ) -> Result<(Option<TypeRef>, usize), ParseStop>
-    requires { At tokens.now at }
-    ensures gives { Gives (λ m. m) tokens.now result (rules.returns (drop at tokens.now)) }
-    ensures moves { IfOk result (λ r. (at ≤ r.1) × At tokens.now r.1) }
+    requires { StandsAtToken tokens.now at }
+    ensures gives { GivesReading (λ m. m) tokens.now result (rules.returns (drop at tokens.now)) }
+    ensures moves { IfOk result (λ r. (at ≤ r.1) × StandsAtToken tokens.now r.1) }
 {
     if !is_sign(look(tokens, at), Sign::Colon) {
         return Ok((None, at));
@@ -61,9 +61,9 @@ pub fn method_result(
     at: usize,
     word: MethodWord,
 ) -> Result<(Option<TypeRef>, usize), ParseStop>
-    requires { At tokens.now at }
-    ensures gives { Gives (λ m. m) tokens.now result (rules.method_result word (drop at tokens.now)) }
-    ensures moves { IfOk result (λ r. (at ≤ r.1) × At tokens.now r.1) }
+    requires { StandsAtToken tokens.now at }
+    ensures gives { GivesReading (λ m. m) tokens.now result (rules.method_result word (drop at tokens.now)) }
+    ensures moves { IfOk result (λ r. (at ≤ r.1) × StandsAtToken tokens.now r.1) }
 {
     match word {
         MethodWord::Fun => returns(alloc, tokens, at),

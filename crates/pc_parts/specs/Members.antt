@@ -8,24 +8,24 @@ use Rattle.pc_core.specs.declared.nodes.Node.{Node}
 use Rattle.pc_lists.specs.Options.{◌>>=◌}
 use Rattle.pc_rules.specs.Fields.{field_of}
 use Rattle.pc_rules.specs.Parts.{last_child}
-use Rattle.pc_words.specs.Scene.{SceneData, type_of}
+use Rattle.pc_words.specs.Scene.{SceneData, noted_type}
 
 -- The field with this name of the entity of node c.
-unfoldable pub field_at : SceneData → Option ℕ → (name : ℕ) → Option FieldInfo
-field_at s None name = None
-field_at s (Some c) name = do
-  ty ← type_of s c
+unfoldable pub field_of_node : SceneData → Option ℕ → (name : ℕ) → Option FieldInfo
+field_of_node s None name = None
+field_of_node s (Some c) name = do
+  ty ← noted_type s c
   f ← field_of s.core ty.0 name
   Some f.1
 
-abbrev pub place_of : Option FieldInfo → Option (ℕ × Cap)
-place_of None = None
-place_of (Some f) = Some (f.entity, f.cap)
+abbrev pub found_field_place : Option FieldInfo → Option (ℕ × Cap)
+found_field_place None = None
+found_field_place (Some f) = Some (f.entity, f.cap)
 
 -- The method with this name of the entity of a call's receiver.
-unfoldable pub callee : SceneData → Node → (name : ℕ) → Option Method
-callee s x name = do
+unfoldable pub node_callee : SceneData → Node → (name : ℕ) → Option Method
+node_callee s x name = do
   c ← last_child x.children
-  ty ← type_of s c
+  ty ← noted_type s c
   m ← method_named s.core ty.0 name
   slice_get s.core.methods m

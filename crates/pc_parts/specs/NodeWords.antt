@@ -15,8 +15,8 @@ use Rattle.pc_window.specs.Quoting.{piece, quoted}
 use Rattle.pc_words.specs.Caps.{cap_word}
 use Rattle.pc_words.specs.Forms.{name_text, place_words}
 use Rattle.pc_words.specs.Methods as methods
-use Rattle.pc_words.specs.Scene.{SceneData, child, is_param, slot_in, slot_name, slot_type}
-use Rattle.pc_parts.specs.Members.{callee, field_at, place_of}
+use Rattle.pc_words.specs.Scene.{SceneData, child, is_param, slot_in, slot_name, noted_slot_type}
+use Rattle.pc_parts.specs.Members.{node_callee, field_of_node, found_field_place}
 
 abbrev pub op_word : Op → Text
 op_word op.Add = codes "+"
@@ -53,8 +53,8 @@ written_part core None = codes ", whose type follows from its value,"
 written_part core (Some p) = codes ", " ++ (place_words core p ++ codes ",")
 
 -- Words, a name between backquotes, and its type.
-unfoldable pub typed : CoreData → Text → Text → Option (ℕ × Cap) → Text
-typed core words name ty = words ++ (quoted name ++ place_part core ty)
+unfoldable pub typed_words : CoreData → Text → Text → Option (ℕ × Cap) → Text
+typed_words core words name ty = words ++ (quoted name ++ place_part core ty)
 
 -- ---- kinds of nodes
 
@@ -62,10 +62,10 @@ abbrev pub local_head : Bool → Text
 local_head param = if param then codes "the parameter " else codes "the local "
 
 unfoldable pub local_words : SceneData → Node → ℕ → Text
-local_words s x k = typed s.core (local_head (is_param s x.method k)) (slot_name s x.method k) (slot_type s x.method k)
+local_words s x k = typed_words s.core (local_head (is_param s x.method k)) (slot_name s x.method k) (noted_slot_type s x.method k)
 
 unfoldable pub consume_words : SceneData → Node → ℕ → Text
-consume_words s x k = codes "`consume " ++ (piece (slot_name s x.method k) ++ (codes "`" ++ of_part s.core (slot_type s x.method k)))
+consume_words s x k = codes "`consume " ++ (piece (slot_name s x.method k) ++ (codes "`" ++ of_part s.core (noted_slot_type s x.method k)))
 
 abbrev pub ends_at : ℕ → Option Node → Bool
 ends_at end None = false
@@ -84,21 +84,21 @@ abbrev pub write_head : Bool → Text
 write_head initial = if initial then codes "the initial value of the field " else codes "the write of the field "
 
 unfoldable pub write_words : SceneData → Node → ℕ → Text
-write_words s x name = typed s.core (write_head (is_initial s x)) (name_text s.core name) (place_of (field_at s (child x 1) name))
+write_words s x name = typed_words s.core (write_head (is_initial s x)) (name_text s.core name) (found_field_place (field_of_node s (child x 1) name))
 
-abbrev pub written_of : Option Slot → Option (ℕ × Cap)
-written_of None = None
-written_of (Some y) = y.written
+abbrev pub written_type_of : Option Slot → Option (ℕ × Cap)
+written_type_of None = None
+written_type_of (Some y) = y.written
 
 unfoldable pub define_words : SceneData → Node → ℕ → Text
-define_words s x k = codes "the definition of " ++ (quoted (slot_name s x.method k) ++ written_part s.core (written_of (slot_in s x.method k)))
+define_words s x k = codes "the definition of " ++ (quoted (slot_name s x.method k) ++ written_part s.core (written_type_of (slot_in s x.method k)))
 
 unfoldable pub assign_words : SceneData → Node → ℕ → Text
-assign_words s x k = typed s.core (codes "the assignment to ") (slot_name s x.method k) (slot_type s x.method k)
+assign_words s x k = typed_words s.core (codes "the assignment to ") (slot_name s x.method k) (noted_slot_type s x.method k)
 
 abbrev pub callee_words : SceneData → Option Method → Text → Text
 callee_words s None name = quoted name
-callee_words s (Some m) name = methods.method s m
+callee_words s (Some m) name = methods.declared_method s m
 
 -- A call of a method, or just of its name.
 unfoldable pub call_words : SceneData → Option Method → Text → Text
@@ -115,51 +115,51 @@ recover_words (Some k) = codes "the `recover " ++ (cap_word k ++ codes "`")
 unfoldable pub text_words : SceneData → Node → Text
 text_words s x = quoted (piece_of s.bytes x.span)
 
-unfoldable pub words : SceneData → Node → NodeKind → Text
-words s x (node.Local k) = local_words s x k
-words s x (node.Consume k) = consume_words s x k
-words s x (node.Field name) = typed s.core (codes "the read of the field ") (name_text s.core name) None
-words s x (node.SetField name) = write_words s x name
-words s x (node.Define k) = define_words s x k
-words s x (node.Assign k) = assign_words s x k
-words s x (node.New m) = call_words s (slice_get s.core.methods m) []
-words s x (node.Spawn m) = call_words s (slice_get s.core.methods m) []
-words s x (node.Call name) = call_words s (callee s x name) (name_text s.core name)
-words s x (node.Binary o) = quoted (op_word o)
-words s x node.Not = codes "`not`"
-words s x node.And = codes "`and`"
-words s x node.Or = codes "`or`"
-words s x (node.Same same) = same_words same
-words s x node.If = codes "the `if`"
-words s x node.While = codes "the `while`"
-words s x (node.Recover k) = recover_words k
-words s x (node.Number n) = text_words s x
-words s x (node.Truth b) = text_words s x
-words s x (node.Text b) = text_words s x
-words s x (node.Prim e) = text_words s x
-words s x node.This = text_words s x
-words s x node.Seq = text_words s x
-words s x node.Body = text_words s x
+unfoldable pub words_of_kind : SceneData → Node → NodeKind → Text
+words_of_kind s x (node.Local k) = local_words s x k
+words_of_kind s x (node.Consume k) = consume_words s x k
+words_of_kind s x (node.Field name) = typed_words s.core (codes "the read of the field ") (name_text s.core name) None
+words_of_kind s x (node.SetField name) = write_words s x name
+words_of_kind s x (node.Define k) = define_words s x k
+words_of_kind s x (node.Assign k) = assign_words s x k
+words_of_kind s x (node.New m) = call_words s (slice_get s.core.methods m) []
+words_of_kind s x (node.Spawn m) = call_words s (slice_get s.core.methods m) []
+words_of_kind s x (node.Call name) = call_words s (node_callee s x name) (name_text s.core name)
+words_of_kind s x (node.Binary o) = quoted (op_word o)
+words_of_kind s x node.Not = codes "`not`"
+words_of_kind s x node.And = codes "`and`"
+words_of_kind s x node.Or = codes "`or`"
+words_of_kind s x (node.Same same) = same_words same
+words_of_kind s x node.If = codes "the `if`"
+words_of_kind s x node.While = codes "the `while`"
+words_of_kind s x (node.Recover k) = recover_words k
+words_of_kind s x (node.Number n) = text_words s x
+words_of_kind s x (node.Truth b) = text_words s x
+words_of_kind s x (node.Text b) = text_words s x
+words_of_kind s x (node.Prim e) = text_words s x
+words_of_kind s x node.This = text_words s x
+words_of_kind s x node.Seq = text_words s x
+words_of_kind s x node.Body = text_words s x
 
 -- ---- the line
 
 abbrev pub body_words : SceneData → Method → Text
-body_words s m = codes "the body of " ++ (methods.method s m ++ methods.taken s.core m)
+body_words s m = codes "the body of " ++ (methods.declared_method s m ++ methods.taken_over_words s.core m)
 
-abbrev pub is_body : NodeKind → Bool
-is_body node.Body = true
-is_body k = false
+abbrev pub is_body_node : NodeKind → Bool
+is_body_node node.Body = true
+is_body_node k = false
 
 abbrev pub plain_words : SceneData → Node → Text
-plain_words s x = words s x x.kind ++ methods.home s.core x.method
+plain_words s x = words_of_kind s x x.kind ++ methods.home_of_method s.core x.method
 
 abbrev pub body_or : SceneData → Node → Option Method → Text
 body_or s x None = plain_words s x
 body_or s x (Some m) = body_words s m
 
 -- What the node is, and in which method.
-unfoldable pub whole : SceneData → Node → Text
-whole s x = if is_body x.kind then body_or s x (slice_get s.core.methods x.method) else plain_words s x
+unfoldable pub whole_node_words : SceneData → Node → Text
+whole_node_words s x = if is_body_node x.kind then body_or s x (slice_get s.core.methods x.method) else plain_words s x
 
 unfoldable pub node_line : SceneData → Node → Text
-node_line s x = codes "node: " ++ (whole s x ++ line_end)
+node_line s x = codes "node: " ++ (whole_node_words s x ++ line_end)

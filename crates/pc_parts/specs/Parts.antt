@@ -10,7 +10,7 @@ use Rattle.pc_rules.specs.Parts.{last_child}
 use Rattle.pc_window.specs.Places.{piece_of}
 use Rattle.pc_window.specs.Quoting.{quoted}
 use Rattle.pc_words.specs.Forms.{type_words}
-use Rattle.pc_words.specs.Scene.{SceneData, is_unwritten_this, type_of}
+use Rattle.pc_words.specs.Scene.{SceneData, is_unwritten_this, noted_type}
 use Rattle.pc_parts.specs.declared.parts.Role.{Role}
 use Rattle.pc_parts.specs.declared.parts.Role.TheVariants as role
 
@@ -127,12 +127,12 @@ abbrev pub node_text : SceneData → Option Node → Text
 node_text s None = []
 node_text s (Some x) = quoted (piece_of s.bytes x.span)
 
-abbrev pub seen : SceneData → ℕ → Text
-seen s n = if is_unwritten_this s n then codes "`this`, which is not written," else node_text s (slice_get s.core.nodes n)
+abbrev pub seen_text : SceneData → ℕ → Text
+seen_text s n = if is_unwritten_this s n then codes "`this`, which is not written," else node_text s (slice_get s.core.nodes n)
 
 -- `part: ROLE TEXT is TYPE`. The type is that of the part's note.
 unfoldable pub part_line : SceneData → Role → ℕ → Text
-part_line s r c = codes "part: " ++ (role_words r ++ (codes " " ++ (seen s (shown_node s.core r c) ++ (has_type s.core (type_of s c) ++ line_end))))
+part_line s r c = codes "part: " ++ (role_words r ++ (codes " " ++ (seen_text s (shown_node s.core r c) ++ (has_type s.core (noted_type s c) ++ line_end))))
 
 -- ---- all of them
 

@@ -20,9 +20,9 @@ fn field_of(core: &Core, entity: u32, name: u32) -> Option<(u32, FieldInfo)>
 }
 
 // The field with this name of the entity of the node with this number.
-#[tactic(auto, unfolding(crate::specs::Members::field_at))]
+#[tactic(auto, unfolding(crate::specs::Members::field_of_node))]
 fn field_of_node(scene: &Scene, node: u32, name: u32) -> Option<FieldInfo>
-    ensures { result ≡ spec.field_at scene.now (Some node) name }
+    ensures { result ≡ spec.field_of_node scene.now (Some node) name }
 {
     let ty = scene.type_of(node)?;
     let found = field_of(scene.core(), ty.0, name)?;
@@ -30,9 +30,9 @@ fn field_of_node(scene: &Scene, node: u32, name: u32) -> Option<FieldInfo>
 }
 
 /// The field with this name of the entity of a node.
-#[tactic(auto, unfolding(crate::specs::Members::field_at))]
+#[tactic(auto, unfolding(crate::specs::Members::field_of_node))]
 pub fn field_at(scene: &Scene, node: Option<u32>, name: u32) -> Option<FieldInfo>
-    ensures { result ≡ spec.field_at scene.now node name }
+    ensures { result ≡ spec.field_of_node scene.now node name }
 {
     match node {
         Some(number) => field_of_node(scene, number, name),
@@ -42,7 +42,7 @@ pub fn field_at(scene: &Scene, node: Option<u32>, name: u32) -> Option<FieldInfo
 
 /// The type of a field's place.
 pub fn place_of(field: Option<FieldInfo>) -> Option<(u32, Cap)>
-    ensures { result ≡ spec.place_of field }
+    ensures { result ≡ spec.found_field_place field }
 {
     match field {
         Some(found) => Some((found.entity, found.cap)),
@@ -57,9 +57,9 @@ fn last_child(children: &[u32]) -> Option<u32>
 }
 
 /// The method with this name of the entity of a call's receiver.
-#[tactic(auto, unfolding(crate::specs::Members::callee))]
+#[tactic(auto, unfolding(crate::specs::Members::node_callee))]
 pub fn callee<'a>(scene: &Scene<'a>, node: &Node, name: u32) -> Option<&'a Method>
-    ensures { option_copied result ≡ spec.callee scene.now node.now name }
+    ensures { option_copied result ≡ spec.node_callee scene.now node.now name }
 {
     let receiver = last_child(node.children.as_slice())?;
     let ty = scene.type_of(receiver)?;

@@ -102,7 +102,7 @@ fn push_written_part(
 }
 
 // Appends words, a name between backquotes, and its type.
-#[tactic(auto, unfolding(crate::specs::NodeWords::typed))]
+#[tactic(auto, unfolding(crate::specs::NodeWords::typed_words))]
 fn push_typed(
     alloc: Global,
     out: &mut Vec<u8>,
@@ -111,7 +111,7 @@ fn push_typed(
     name: &[u8],
     ty: Option<(u32, Cap)>,
 ) -> Result<(), AllocError>
-    ensures { OnOk result (out.new.items ≡ out.old.items ++ spec.typed core.now words.now name.now ty) }
+    ensures { OnOk result (out.new.items ≡ out.old.items ++ spec.typed_words core.now words.now name.now ty) }
 {
     push_bytes(out, words)?;
     push_quoted(alloc, out, name)?;
@@ -225,7 +225,7 @@ fn push_write(
 
 // The written type of a slot.
 fn written_of(scene: &Scene, method: u32, slot: u32) -> Option<(u32, Cap)>
-    ensures { result ≡ spec.written_of (slot_is scene.now method slot) }
+    ensures { result ≡ spec.written_type_of (slot_is scene.now method slot) }
 {
     match scene.slot_in(method, slot) {
         Some(found) => found.written,
@@ -318,14 +318,14 @@ fn push_text(alloc: Global, out: &mut Vec<u8>, scene: &Scene, node: &Node) -> Re
 }
 
 // Appends what a node is.
-#[tactic(auto, unfolding(crate::specs::NodeWords::words))]
+#[tactic(auto, unfolding(crate::specs::NodeWords::words_of_kind))]
 fn push_words(
     alloc: Global,
     out: &mut Vec<u8>,
     scene: &Scene,
     node: &Node,
 ) -> Result<(), AllocError>
-    ensures { OnOk result (out.new.items ≡ out.old.items ++ spec.words scene.now node.now node.now.kind) }
+    ensures { OnOk result (out.new.items ≡ out.old.items ++ spec.words_of_kind scene.now node.now node.now.kind) }
 {
     let core = scene.core();
     match &node.kind {
@@ -395,20 +395,20 @@ fn push_body(
 }
 
 fn is_body(kind: &NodeKind) -> bool
-    ensures { result ≡ spec.is_body kind.now }
+    ensures { result ≡ spec.is_body_node kind.now }
 {
     matches!(kind, NodeKind::Body)
 }
 
 // Appends what a node is: for a body, its whole method.
-#[tactic(auto, unfolding(crate::specs::NodeWords::whole))]
+#[tactic(auto, unfolding(crate::specs::NodeWords::whole_node_words))]
 fn push_whole(
     alloc: Global,
     out: &mut Vec<u8>,
     scene: &Scene,
     node: &Node,
 ) -> Result<(), AllocError>
-    ensures { OnOk result (out.new.items ≡ out.old.items ++ spec.whole scene.now node.now) }
+    ensures { OnOk result (out.new.items ≡ out.old.items ++ spec.whole_node_words scene.now node.now) }
 {
     if !is_body(&node.kind) {
         return push_plain(alloc, out, scene, node);

@@ -227,7 +227,7 @@ fn push_node_text(
 
 // Appends a part's text.
 fn push_seen(alloc: Global, out: &mut Vec<u8>, scene: &Scene, node: u32) -> Result<(), AllocError>
-    ensures { OnOk result (out.new.items ≡ out.old.items ++ spec.seen scene.now node) }
+    ensures { OnOk result (out.new.items ≡ out.old.items ++ spec.seen_text scene.now node) }
 {
     if scene.is_unwritten_this(node) {
         push_bytes(out, b"`this`, which is not written,")

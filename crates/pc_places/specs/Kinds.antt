@@ -6,9 +6,9 @@ use Rattle.pc_core.specs.declared.nodes.NodeKind.TheVariants as node
 use Rattle.pc_lists.specs.Texts.{Text}
 
 -- A name, or `-` if there is none.
-abbrev pub name_text : Option Text → Text
-name_text None = codes "-"
-name_text (Some name) = name
+abbrev pub name_or_dash : Option Text → Text
+name_or_dash None = codes "-"
+name_or_dash (Some name) = name
 
 abbrev pub kind_text : CoreData → NodeKind → Text
 kind_text core (node.Number v) = codes "number"
@@ -18,13 +18,13 @@ kind_text core (node.Prim e) = codes "prim:" ++ decimal e
 kind_text core node.This = codes "this"
 kind_text core (node.Local s) = codes "local:" ++ decimal s
 kind_text core (node.Consume s) = codes "consume:" ++ decimal s
-kind_text core (node.Field f) = codes "field:" ++ name_text (slice_get core.names f)
-kind_text core (node.SetField f) = codes "setfield:" ++ name_text (slice_get core.names f)
+kind_text core (node.Field f) = codes "field:" ++ name_or_dash (slice_get core.names f)
+kind_text core (node.SetField f) = codes "setfield:" ++ name_or_dash (slice_get core.names f)
 kind_text core (node.Define s) = codes "define:" ++ decimal s
 kind_text core (node.Assign s) = codes "assign:" ++ decimal s
 kind_text core (node.New m) = codes "new:" ++ decimal m
 kind_text core (node.Spawn m) = codes "spawn:" ++ decimal m
-kind_text core (node.Call f) = codes "call:" ++ name_text (slice_get core.names f)
+kind_text core (node.Call f) = codes "call:" ++ name_or_dash (slice_get core.names f)
 kind_text core (node.Binary o) = codes "binary"
 kind_text core node.Not = codes "not"
 kind_text core node.And = codes "and"

@@ -18,13 +18,13 @@ use Rattle.pc_token.specs.declared.kinds.Token.{Token}
 -- ---- the names of slots
 
 -- A node defines the slot with this index in its method.
-abbrev pub defines : ℕ → NodeKind → Bool
-defines s (node.Define i) = nat_eq i s
-defines s k = false
+abbrev pub defines_slot : ℕ → NodeKind → Bool
+defines_slot s (node.Define i) = nat_eq i s
+defines_slot s k = false
 
 -- The node by which a method defines the slot with this index.
 abbrev pub definition_of : CoreData → Method → ℕ → Option Node
-definition_of core x s = find (λ n. defines s n.kind) (own_nodes core x)
+definition_of core x s = find (λ n. defines_slot s n.kind) (own_nodes core x)
 
 -- The first token that starts after this byte.
 abbrev pub token_after : List Token → ℕ → Option Token
@@ -57,8 +57,8 @@ slot_place core tokens k y = do
   name_place core tokens x (k - x.first_slot) y.kind
 
 -- The bytes of the source in a span.
-abbrev pub text_at : Text → Span → Text
-text_at source place = if nat_le place.start place.end && nat_le place.end (length source) then slice_range source place.start place.end else []
+abbrev pub source_text_at : Text → Span → Text
+source_text_at source place = if nat_le place.start place.end && nat_le place.end (length source) then slice_range source place.start place.end else []
 
 -- ---- methods that are taken over
 

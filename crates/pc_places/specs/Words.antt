@@ -8,23 +8,23 @@ use Rattle.pc_lists.specs.Texts.{Text}
 use Rattle.pc_tree.specs.declared.kinds.EntityKind.{EntityKind}
 use Rattle.pc_tree.specs.declared.kinds.EntityKind.TheVariants as kind
 
-abbrev pub entity_word : EntityKind → Text
-entity_word kind.Class = codes "class"
-entity_word kind.Actor = codes "actor"
-entity_word kind.Primitive = codes "primitive"
-entity_word kind.Trait = codes "trait"
-entity_word kind.Interface = codes "interface"
+abbrev pub entity_kind_word : EntityKind → Text
+entity_kind_word kind.Class = codes "class"
+entity_kind_word kind.Actor = codes "actor"
+entity_kind_word kind.Primitive = codes "primitive"
+entity_kind_word kind.Trait = codes "trait"
+entity_kind_word kind.Interface = codes "interface"
 
 -- Of a field, by whether it is assigned once.
 abbrev pub field_word : Bool → Text
 field_word true = codes "let"
 field_word false = codes "var"
 
-abbrev pub method_word : MethodKind → Text
-method_word method.Fun = codes "fun"
-method_word method.Be = codes "be"
-method_word method.New = codes "new"
-method_word method.Spawn = codes "spawn"
+abbrev pub method_kind_word : MethodKind → Text
+method_kind_word method.Fun = codes "fun"
+method_kind_word method.Be = codes "be"
+method_kind_word method.New = codes "new"
+method_kind_word method.Spawn = codes "spawn"
 
 abbrev pub slot_word : SlotKind → Text
 slot_word slot.This = codes "this"

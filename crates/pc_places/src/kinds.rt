@@ -16,7 +16,7 @@ pub fn push_number(text: &mut Vec<u8>, number: u32) -> Result<(), AllocError>
 
 /// Appends the name with this number.
 pub fn push_name(text: &mut Vec<u8>, core: &Core, name: u32) -> Result<(), AllocError>
-    ensures { OnOk result (text.new.items ≡ text.old.items ++ spec.name_text (slice_get core.now.names name)) }
+    ensures { OnOk result (text.new.items ≡ text.old.items ++ spec.name_or_dash (slice_get core.now.names name)) }
 {
     match core.name_at(name) {
         Some(found) => text.extend_from_slice(found.as_slice()),
@@ -34,7 +34,7 @@ fn push_numbered(text: &mut Vec<u8>, word: &[u8], number: u32) -> Result<(), All
 
 // Appends a word and the name to which it refers.
 fn push_named(text: &mut Vec<u8>, word: &[u8], core: &Core, name: u32) -> Result<(), AllocError>
-    ensures { OnOk result (text.new.items ≡ text.old.items ++ (word.now ++ spec.name_text (slice_get core.now.names name))) }
+    ensures { OnOk result (text.new.items ≡ text.old.items ++ (word.now ++ spec.name_or_dash (slice_get core.now.names name))) }
 {
     text.extend_from_slice(word)?;
     push_name(text, core, name)

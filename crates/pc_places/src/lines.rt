@@ -57,7 +57,7 @@ fn push_field_words(
     text: &mut Vec<u8>,
     field: (u32, FieldInfo),
 ) -> Result<(), AllocError>
-    ensures { OnOk result (text.new.items ≡ text.old.items ++ spec.field_words field) }
+    ensures { OnOk result (text.new.items ≡ text.old.items ++ spec.field_line_words field) }
 {
     let (owner, field) = field;
     let word = field_word(field.fixed);
@@ -152,7 +152,7 @@ pub fn push_method(
 
 // The bytes of the source at a place.
 fn text_at(source: &[u8], place: Span) -> &[u8]
-    ensures { result.now ≡ names.text_at source.now place }
+    ensures { result.now ≡ names.source_text_at source.now place }
 {
     let (start, end) = (place.start as usize, place.end as usize);
     if start <= end && end <= source.len() {
@@ -191,7 +191,7 @@ pub fn push_slot(
     slot: Slot,
 ) -> Result<(), AllocError>
     requires { Ascends (starts tokens.now) }
-    ensures { OnOk result (text.new.items ≡ text.old.items ++ spec.slot_line core.now tokens.now source.now number slot) }
+    ensures { OnOk result (text.new.items ≡ text.old.items ++ spec.places_slot_line core.now tokens.now source.now number slot) }
 {
     let depth = slot.depth;
     let kind = slot_word(slot.kind);
@@ -229,7 +229,7 @@ pub fn push_node(
     core: &Core,
     node: &Node,
 ) -> Result<(), AllocError>
-    ensures { OnOk result (text.new.items ≡ text.old.items ++ spec.node_line core.now node.now) }
+    ensures { OnOk result (text.new.items ≡ text.old.items ++ spec.places_node_line core.now node.now) }
 {
     text.extend_from_slice(b"n ")?;
     push_kind(text, core, &node.kind)?;

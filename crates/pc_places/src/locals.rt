@@ -12,7 +12,7 @@ use pc_token::Token;
 
 // Whether a node defines the slot with this index.
 fn defines(kind: &NodeKind, slot: u32) -> bool
-    ensures { result ≡ spec.defines slot kind.now }
+    ensures { result ≡ spec.defines_slot slot kind.now }
 {
     match kind {
         NodeKind::Define(defined) => *defined == slot,
@@ -44,7 +44,7 @@ fn defines(kind: &NodeKind, slot: u32) -> bool
 
 // The first of these nodes that defines the slot with this index.
 fn first_definition(nodes: &[Node], slot: u32) -> Option<&Node>
-    ensures { option_copied result ≡ find (λ n. spec.defines slot n.kind) nodes.now }
+    ensures { option_copied result ≡ find (λ n. spec.defines_slot slot n.kind) nodes.now }
 {
     for node in nodes {
         if defines(&node.kind, slot) {

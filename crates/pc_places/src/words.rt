@@ -23,7 +23,7 @@ pub fn cap_word(cap: Cap) -> &'static str
 
 /// The word of a kind of entity.
 pub fn entity_word(kind: EntityKind) -> &'static str
-    ensures { result.now ≡ spec.entity_word kind }
+    ensures { result.now ≡ spec.entity_kind_word kind }
 {
     match kind {
         EntityKind::Class => "class",
@@ -43,7 +43,7 @@ pub fn field_word(fixed: bool) -> &'static str
 
 /// The word of a kind of method.
 pub fn method_word(kind: MethodKind) -> &'static str
-    ensures { result.now ≡ spec.method_word kind }
+    ensures { result.now ≡ spec.method_kind_word kind }
 {
     match kind {
         MethodKind::Fun => "fun",

@@ -8,8 +8,8 @@ use Rattle.pc_run.specs.Spreading.{spread}
 use Rattle.pc_sched.specs.declared.turns.Turn.{Turn}
 use Rattle.pc_sched.specs.Limits.{schedule_limit, turn_limit}
 use Rattle.pc_sched.specs.Schedules.{total}
-use Rattle.pc_sched_lines.specs.Lines.{IsLine, line_of, word_of, words_behind}
-use Rattle.pc_sched_lines.specs.Rows.{AreRows, Differs}
+use Rattle.pc_sched_lines.specs.Lines.{IsLine, line_of, turn_word, words_behind}
+use Rattle.pc_sched_lines.specs.Rows.{AreRows, HasOtherActor}
 use Rattle.pc_choose.specs.Laws.{InTurns, IsTurn}
 use Rattle.pc_choose.proofs.Cutting.{lists_are_in_turns}
 use Rattle.pc_play.specs.Laws.{LinesFit}
@@ -24,14 +24,14 @@ word_by : (turn : Turn) (d : ℕ) → length (decimal turn.times) ≤ d → (b :
 word_by turn d l true = omega arith
 word_by turn d l false = let e = length-append (decimal turn.actor) (42 ∷ decimal turn.times) in omega (arith, e, l)
 
-word_most : (turn : Turn) (d : ℕ) → length (decimal turn.times) ≤ d → length (word_of turn) ≤ length (decimal turn.actor) + 1 + d
+word_most : (turn : Turn) (d : ℕ) → length (decimal turn.times) ≤ d → length (turn_word turn) ≤ length (decimal turn.actor) + 1 + d
 word_most turn d l = word_by turn d l (nat_eq turn.times 1)
 
 word_has : (turn : Turn) (b : Bool) → length (decimal turn.actor) ≤ length (if b then decimal turn.actor else decimal turn.actor ++ 42 ∷ decimal turn.times)
 word_has turn true = omega arith
 word_has turn false = let e = length-append (decimal turn.actor) (42 ∷ decimal turn.times) in omega (arith, e)
 
-word_least : (turn : Turn) → length (decimal turn.actor) ≤ length (word_of turn)
+word_least : (turn : Turn) → length (decimal turn.actor) ≤ length (turn_word turn)
 word_least turn = word_has turn (nat_eq turn.times 1)
 
 -- ---- lines
@@ -39,19 +39,19 @@ word_least turn = word_has turn (nat_eq turn.times 1)
 -- The bytes of the words of rows, each with what follows it.
 abbrev bytes : List Turn → ℕ
 bytes [] = 0
-bytes (turn ∷ turns) = length (word_of turn) + 1 + bytes turns
+bytes (turn ∷ turns) = length (turn_word turn) + 1 + bytes turns
 
 behind : (turns : List Turn) → length (words_behind turns) ≡ bytes turns + 1
 behind [] = refl
 behind (turn ∷ turns) =
-    let e = length-append (word_of turn) (words_behind turns) in
+    let e = length-append (turn_word turn) (words_behind turns) in
     let r = behind turns in
     omega (arith, e, r)
 
 line_bytes : (turns : List Turn) → length (line_of turns) ≤ bytes turns + 1
 line_bytes [] = omega arith
 line_bytes (turn ∷ turns) =
-    let e = length-append (word_of turn) (words_behind turns) in
+    let e = length-append (turn_word turn) (words_behind turns) in
     let r = behind turns in
     omega (arith, e, r)
 
@@ -98,12 +98,13 @@ split (suc n) (suc k) x xs ys e = elim (split n k x xs ys (ap rest_of e)) [
 
 -- ---- the bytes of rows
 
-differs_less : (turn : Turn) (times : ℕ) (turns : List Turn) → Differs turn turns → Differs (record { actor = turn.actor; times = times }) turns
+differs_less : (turn : Turn) (times : ℕ) (turns : List Turn) → HasOtherActor turn turns
+    → HasOtherActor (record { actor = turn.actor; times = times }) turns
 differs_less turn times [] d = tt
 differs_less turn times (next ∷ turns) d = d
 
 -- no row begins with the actor of the one before it
-not_next : (turn : Turn) (turns : List Turn) (ys : List ℕ) → Differs turn turns → AreRows turns → spread turns ≡ turn.actor ∷ ys → ⊥
+not_next : (turn : Turn) (turns : List Turn) (ys : List ℕ) → HasOtherActor turn turns → AreRows turns → spread turns ≡ turn.actor ∷ ys → ⊥
 not_next turn [] ys d r e = subst Filled (sym e) tt
 not_next turn (next ∷ turns) ys d r e = begins next.times refl
   where

@@ -19,7 +19,7 @@ use Rattle.pc_run.specs.declared.counts.Progress.{Progress}
 use Rattle.pc_run.specs.declared.counts.Progress.TheVariants.{Going}
 use Rattle.pc_run.specs.Counting.{counted}
 use Rattle.pc_run.specs.Ends.{NeverLacks, IsAnswer, WritesText}
-use Rattle.pc_run.specs.Underway.{Underway, Reached}
+use Rattle.pc_run.specs.Underway.{Underway, ReachedSoFar}
 use Rattle.pc_run.proofs.Stepping.{never, stepped as run_stepped}
 use Rattle.pc_choose.specs.declared.point.Point.{Point}
 use Rattle.pc_choose.specs.declared.step.Step.{Step}
@@ -27,7 +27,7 @@ use Rattle.pc_choose.specs.Choice.{turn, stepped, at_first}
 use Rattle.pc_choose.specs.Choosers.{Advances}
 use Rattle.pc_choose.specs.Lists.{most_steps}
 use Rattle.pc_choose.proofs.Listing.{list_of, after_turn, after_step, list_follows, list_short}
-use Rattle.pc_play.specs.Plays.{IsThrough, Played}
+use Rattle.pc_play.specs.Plays.{IsThrough, PlaysAsRun}
 
 abbrev pub seed_list : CoreData → (seed : ℕ) → List ℕ
 seed_list core seed = list_of core seed most_steps at_first (start core)
@@ -59,7 +59,7 @@ begins core seed p c first is =
       count = omega arith;
     }))
 
-pub through : (core : CoreData) (seed : ℕ) (c : Configuration) (progress : Progress) (steps : ℕ) → Reached core (seed_list core seed) c [] progress → steps ≡ length (seed_list core seed) → IsThrough core seed c progress steps
+pub through : (core : CoreData) (seed : ℕ) (c : Configuration) (progress : Progress) (steps : ℕ) → ReachedSoFar core (seed_list core seed) c [] progress → steps ≡ length (seed_list core seed) → IsThrough core seed c progress steps
 through core seed c progress steps r s = record { steps_are = s; list = seed_list core seed; chosen = list_follows core seed most_steps at_first (start core); reached = r }
 
 module _ (core : CoreData) (seed n : ℕ) (p : Point) (c : Configuration) (u : UnderPlay core seed n p c) where
@@ -119,12 +119,12 @@ module _ (core : CoreData) (seed n : ℕ) (p : Point) (c : Configuration) (u : U
           pub never_lacks : (l : Lack) → s.outcome ≡ Lacks l → ⊥
           never_lacks l e = never core (seed_list core seed) c (taken_all n) s.actor (left_behind (s.outcome, d)) under safe d s.outcome (is_step (turn seed p c) a) l e
 
-          reached : Reached core (seed_list core seed) d (left_behind (s.outcome, d)) (counted (taken_all n) s.outcome)
+          reached : ReachedSoFar core (seed_list core seed) d (left_behind (s.outcome, d)) (counted (taken_all n) s.outcome)
           reached = run_stepped core (seed_list core seed) c (taken_all n) s.actor (left_behind (s.outcome, d)) under safe d s.outcome (is_step (turn seed p c) a)
 
           pub goes_on : s.outcome ≡ Moved → UnderPlay core seed (n + 1) q d
           goes_on e = record {
-            run = subst (λ (o : Outcome). Reached core (seed_list core seed) d (left_behind (o, d)) (counted (taken_all n) o)) e reached;
+            run = subst (λ (o : Outcome). ReachedSoFar core (seed_list core seed) d (left_behind (o, d)) (counted (taken_all n) o)) e reached;
             count = subst (λ (o : Outcome). n + 1 + length (left_behind (o, d)) ≡ length (seed_list core seed)) e count_on;
           }
 
@@ -137,8 +137,8 @@ module _ (core : CoreData) (seed n : ℕ) (p : Point) (c : Configuration) (u : U
           pub stops : s.outcome ≢ Moved → (progress : Progress) → progress ≡ counted (taken_all n) s.outcome → IsThrough core seed d progress (n + 1)
           stops m progress is =
               through core seed d progress (n + 1)
-              (subst (Reached core (seed_list core seed) d []) (sym is)
-              (subst (λ (l : List ℕ). Reached core (seed_list core seed) d l (counted (taken_all n) s.outcome)) (nothing_left s.outcome m) reached))
+              (subst (ReachedSoFar core (seed_list core seed) d []) (sym is)
+              (subst (λ (l : List ℕ). ReachedSoFar core (seed_list core seed) d l (counted (taken_all n) s.outcome)) (nothing_left s.outcome m) reached))
               (let e = ap length (nothing_left s.outcome m) in let j = count_on in omega (arith, e, j))
 
 -- ---- a whole play
@@ -149,18 +149,18 @@ nothing_more None = tt
 nothing_more (Some xs) = sym (append-nil xs)
 
 -- Memory ran out before anything was written.
-pub refused : (core : CoreData) (seed : ℕ) (w : Option (List ℕ)) (f : ℕ) (e : RunFault) (r : Result Report RunFault) → IsErrAnd r (λ x. x ≡ e) → e ≡ Memory → Played core seed (change w w f f) r
+pub refused : (core : CoreData) (seed : ℕ) (w : Option (List ℕ)) (f : ℕ) (e : RunFault) (r : Result Report RunFault) → IsErrAnd r (λ x. x ≡ e) → e ≡ Memory → PlaysAsRun core seed (change w w f f) r
 refused core seed w f e (Ok x) by is = absurd by
 refused core seed w f e (Err x) by is =
-    subst (λ (y : RunFault). Played core seed (change w w f f) (Err y)) (sym (by ∙ is))
+    subst (λ (y : RunFault). PlaysAsRun core seed (change w w f f) (Err y)) (sym (by ∙ is))
     (record { list = seed_list core seed; chosen = list_follows core seed most_steps at_first (start core); answers = tt; writes = (0, nothing_more w) })
 
 pub played : (core m : CoreData) (seed : ℕ) (c : Configuration) (progress : Progress) (steps : ℕ) (out : Change) (r : Result Report RunFault) → m ≡ core → IsThrough core seed c progress steps
-    → ((list : List ℕ) → Reached m list c [] progress → IsAnswer m list out.faults_before out.faults_now r)
-    → ((list : List ℕ) → Reached m list c [] progress → WritesText m list out.before out.now r)
-    → Played core seed out r
+    → ((list : List ℕ) → ReachedSoFar m list c [] progress → IsAnswer m list out.faults_before out.faults_now r)
+    → ((list : List ℕ) → ReachedSoFar m list c [] progress → WritesText m list out.before out.now r)
+    → PlaysAsRun core seed out r
 played core m seed c progress steps out r same t a w =
-    let reached : Reached m t.list c [] progress = subst (λ (k : CoreData). Reached k t.list c [] progress) (sym same) t.reached in
+    let reached : ReachedSoFar m t.list c [] progress = subst (λ (k : CoreData). ReachedSoFar k t.list c [] progress) (sym same) t.reached in
     record {
       list = t.list;
       chosen = t.chosen;

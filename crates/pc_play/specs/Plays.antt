@@ -8,18 +8,18 @@ use Rattle.pc_run.specs.declared.counts.Progress.{Progress}
 use Rattle.pc_run.specs.declared.report.Report.{Report}
 use Rattle.pc_run.specs.declared.report.RunFault.{RunFault}
 use Rattle.pc_run.specs.Ends.{IsAnswer, WritesText}
-use Rattle.pc_run.specs.Underway.{Reached}
+use Rattle.pc_run.specs.Underway.{ReachedSoFar}
 
 -- The run of the seed's list came to configuration c with this progress; the list has this number of steps, and none is
 -- left.
 pub record IsThrough (core : CoreData) (seed : ℕ) (c : Configuration) (progress : Progress) (steps : ℕ) : Type 0 where
   pub list : List ℕ
   pub chosen : Chosen core seed list
-  pub reached : Reached core list c [] progress
+  pub reached : ReachedSoFar core list c [] progress
   pub steps_are : steps ≡ length list
 
 -- A play returns and writes what the run of its seed's list does.
-pub record Played (core : CoreData) (seed : ℕ) (out : Change) (result : Result Report RunFault) : Type 0 where
+pub record PlaysAsRun (core : CoreData) (seed : ℕ) (out : Change) (result : Result Report RunFault) : Type 0 where
   pub list : List ℕ
   pub chosen : Chosen core seed list
   pub answers : IsAnswer core list out.faults_before out.faults_now result

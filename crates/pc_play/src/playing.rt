@@ -5,7 +5,7 @@ ghost use Rattle.pc_io.specs.Change.{change};
 ghost use Rattle.pc_choose.specs.Choice.{at_first};
 ghost use Rattle.pc_choose.specs.Choosers.{IsAt};
 ghost use Rattle.pc_run.specs.Ends.{NeverLacks};
-ghost use Rattle.pc_play.specs.Plays.{IsThrough, Played};
+ghost use Rattle.pc_play.specs.Plays.{IsThrough, PlaysAsRun};
 
 use pc_choose::{Chooser, MOST_STEPS};
 use pc_core::Core;
@@ -92,7 +92,7 @@ pub fn play_through<'p>(alloc: Global, core: &'p Core, seed: u64) -> Result<Thro
 /// - `Memory` if memory ran out. A prefix of the text was written.
 pub fn play<O: Sink>(alloc: Global, core: &Core, seed: u64, out: &mut O) -> Result<Report, RunFault>
     requires never_lacks { NeverLacks core.now }
-    ensures played { Played core.now seed (change (O.written out.old) (O.written out.new) (O.faults out.old) (O.faults out.new)) result }
+    ensures played { PlaysAsRun core.now seed (change (O.written out.old) (O.written out.new) (O.faults out.old) (O.faults out.new)) result }
     ensures later { O.faults out.old ≤ O.faults out.new }
 {
     let through = play_through(alloc, core, seed)?;

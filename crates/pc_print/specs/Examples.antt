@@ -1,7 +1,7 @@
 -- One tree and its printed text.
 use Rattle.std.specs.Prelude.{◌≡◌, List, [], ◌∷◌, ◌++◌, Some, None, false, codes}
 use Rattle.pc_tree.specs.Tree as t
-use Rattle.pc_tree.specs.declared.names.Name.{Name}
+use Rattle.pc_tree.specs.declared.written_names.Name.{Name}
 use Rattle.pc_tree.specs.declared.kinds.EntityKind.TheVariants as kind
 use Rattle.pc_tree.specs.declared.kinds.MethodWord.TheVariants as method
 use Rattle.pc_grammar.specs.Spells.{no_span}

@@ -4,8 +4,8 @@ use Rattle.std.specs.Fmt.{decimal}
 use Rattle.pc_caps.specs.declared.capability.Cap.{Cap}
 use Rattle.pc_caps.specs.declared.capability.Cap.TheVariants as c
 use Rattle.pc_tree.specs.Tree as t
-use Rattle.pc_tree.specs.declared.names.Name.{Name}
-use Rattle.pc_tree.specs.declared.names.TypeRef.{TypeRef}
+use Rattle.pc_tree.specs.declared.written_names.Name.{Name}
+use Rattle.pc_tree.specs.declared.written_names.TypeRef.{TypeRef}
 use Rattle.pc_tree.specs.declared.file.ParamDef.{ParamDef}
 use Rattle.pc_tree.specs.declared.kinds.Op.{Op}
 use Rattle.pc_tree.specs.declared.kinds.Op.TheVariants as o
@@ -47,144 +47,145 @@ op_text o.Isnt = codes "isnt"
 -- ---- capabilities and types
 
 -- ` cap`, if one is written
-abbrev pub cap : Option Cap → List ℕ
-cap None = []
-cap (Some c) = codes " " ++ cap_text c
+abbrev pub printed_cap : Option Cap → List ℕ
+printed_cap None = []
+printed_cap (Some c) = codes " " ++ cap_text c
 
 abbrev pub hat : Bool → List ℕ
 hat false = []
 hat true = codes "^"
 
 -- `T cap^`
-abbrev pub type_ref : TypeRef → List ℕ
-type_ref r = r.name.text ++ (cap r.cap ++ hat r.hat)
+abbrev pub printed_type_ref : TypeRef → List ℕ
+printed_type_ref r = r.name.text ++ (printed_cap r.cap ++ hat r.hat)
 
 -- `: T cap`, if a type is written
-abbrev pub typed : Option TypeRef → List ℕ
-typed None = []
-typed (Some r) = codes ": " ++ type_ref r
+abbrev pub printed_type : Option TypeRef → List ℕ
+printed_type None = []
+printed_type (Some r) = codes ": " ++ printed_type_ref r
 
 -- ---- expressions, all on one line
 
 abbrev mutual
-  pub expr : t.Expr → List ℕ
-  expr (t.number n sp) = decimal n
-  expr (t.truth b sp) = word_text (truth_word b)
-  expr (t.text v sp) = 34 ∷ (all_escaped v ++ 34 ∷ [])
-  expr (t.name m) = m.text
-  expr (t.type_name m) = m.text
-  expr (t.this sp) = codes "this"
-  expr (t.consume m sp) = codes "consume " ++ m.text
-  expr (t.not_ e sp) = codes "not " ++ expr e
-  expr (t.infix_ o es sp) = terms es o
-  expr (t.chain e ss sp) = expr e ++ suffixes ss
-  expr (t.group b sp) = codes "(" ++ (seq b ++ codes ")")
-  expr (t.if_ as' o sp) = arms as' ++ (other o ++ codes " end")
-  expr (t.while_ c b sp) = codes "while " ++ (seq c ++ (codes " do " ++ (seq b ++ codes " end")))
-  expr (t.recover c b sp) = codes "recover" ++ (cap c ++ (codes " " ++ (seq b ++ codes " end")))
-  expr (t.assign l r sp) = expr l ++ (codes " = " ++ expr r)
+  pub printed_expr : t.Expr → List ℕ
+  printed_expr (t.number n sp) = decimal n
+  printed_expr (t.truth b sp) = word_text (truth_word b)
+  printed_expr (t.text v sp) = 34 ∷ (all_escaped v ++ 34 ∷ [])
+  printed_expr (t.name m) = m.text
+  printed_expr (t.type_name m) = m.text
+  printed_expr (t.this sp) = codes "this"
+  printed_expr (t.consume m sp) = codes "consume " ++ m.text
+  printed_expr (t.not_ e sp) = codes "not " ++ printed_expr e
+  printed_expr (t.infix_ o es sp) = printed_terms es o
+  printed_expr (t.chain e ss sp) = printed_expr e ++ printed_suffixes ss
+  printed_expr (t.group b sp) = codes "(" ++ (printed_seq b ++ codes ")")
+  printed_expr (t.if_ as' o sp) = printed_arms as' ++ (printed_other o ++ codes " end")
+  printed_expr (t.while_ c b sp) = codes "while " ++ (printed_seq c ++ (codes " do " ++ (printed_seq b ++ codes " end")))
+  printed_expr (t.recover c b sp) = codes "recover" ++ (printed_cap c ++ (codes " " ++ (printed_seq b ++ codes " end")))
+  printed_expr (t.assign l r sp) = printed_expr l ++ (codes " = " ++ printed_expr r)
 
   -- `a + b + c`
-  pub terms : t.Exprs → Op → List ℕ
-  terms t.no_exprs o = []
-  terms (t.expr e es) o = expr e ++ more_terms es o
+  pub printed_terms : t.Exprs → Op → List ℕ
+  printed_terms t.no_exprs o = []
+  printed_terms (t.expr e es) o = printed_expr e ++ more_terms es o
 
   pub more_terms : t.Exprs → Op → List ℕ
   more_terms t.no_exprs o = []
-  more_terms (t.expr e es) o = codes " " ++ (op_text o ++ (codes " " ++ (expr e ++ more_terms es o)))
+  more_terms (t.expr e es) o = codes " " ++ (op_text o ++ (codes " " ++ (printed_expr e ++ more_terms es o)))
 
-  pub one_suffix : t.Suffix → List ℕ
-  one_suffix (t.dot m) = codes "." ++ m.text
-  one_suffix (t.args es sp) = codes "(" ++ (args es ++ codes ")")
+  pub printed_suffix : t.Suffix → List ℕ
+  printed_suffix (t.dot m) = codes "." ++ m.text
+  printed_suffix (t.args es sp) = codes "(" ++ (printed_args es ++ codes ")")
 
-  pub suffixes : t.Suffixes → List ℕ
-  suffixes t.no_suffixes = []
-  suffixes (t.suffix x ss) = one_suffix x ++ suffixes ss
+  pub printed_suffixes : t.Suffixes → List ℕ
+  printed_suffixes t.no_suffixes = []
+  printed_suffixes (t.suffix x ss) = printed_suffix x ++ printed_suffixes ss
 
   -- `a, b`
-  pub args : t.Exprs → List ℕ
-  args t.no_exprs = []
-  args (t.expr e es) = expr e ++ more_args es
+  pub printed_args : t.Exprs → List ℕ
+  printed_args t.no_exprs = []
+  printed_args (t.expr e es) = printed_expr e ++ more_args es
 
   pub more_args : t.Exprs → List ℕ
   more_args t.no_exprs = []
-  more_args (t.expr e es) = codes ", " ++ (expr e ++ more_args es)
+  more_args (t.expr e es) = codes ", " ++ (printed_expr e ++ more_args es)
 
   -- `s then s`
-  pub one_arm : t.Arm → List ℕ
-  one_arm (t.arm_of c b sp) = seq c ++ (codes " then " ++ seq b)
+  pub printed_arm : t.Arm → List ℕ
+  printed_arm (t.arm_of c b sp) = printed_seq c ++ (codes " then " ++ printed_seq b)
 
   -- `if s then s elseif s then s`
-  pub arms : t.Arms → List ℕ
-  arms t.no_arms = []
-  arms (t.arm x xs) = codes "if " ++ (one_arm x ++ more_arms xs)
+  pub printed_arms : t.Arms → List ℕ
+  printed_arms t.no_arms = []
+  printed_arms (t.arm x xs) = codes "if " ++ (printed_arm x ++ more_arms xs)
 
   pub more_arms : t.Arms → List ℕ
   more_arms t.no_arms = []
-  more_arms (t.arm x xs) = codes " elseif " ++ (one_arm x ++ more_arms xs)
+  more_arms (t.arm x xs) = codes " elseif " ++ (printed_arm x ++ more_arms xs)
 
-  pub other : t.Other → List ℕ
-  other t.no_other = []
-  other (t.other b) = codes " else " ++ seq b
+  pub printed_other : t.Other → List ℕ
+  printed_other t.no_other = []
+  printed_other (t.other b) = codes " else " ++ printed_seq b
 
   -- `s; s`
-  pub seq : t.Seq → List ℕ
-  seq (t.seq is sp) = items is
+  pub printed_seq : t.Seq → List ℕ
+  printed_seq (t.seq is sp) = printed_items is
 
-  pub items : t.Items → List ℕ
-  items t.no_items = []
-  items (t.item i is) = one_item i ++ more_items is
+  pub printed_items : t.Items → List ℕ
+  printed_items t.no_items = []
+  printed_items (t.item i is) = printed_item i ++ more_items is
 
   pub more_items : t.Items → List ℕ
   more_items t.no_items = []
-  more_items (t.item i is) = codes "; " ++ (one_item i ++ more_items is)
+  more_items (t.item i is) = codes "; " ++ (printed_item i ++ more_items is)
 
-  pub one_item : t.Item → List ℕ
-  one_item (t.local f m ty e sp) = word_text (local_word f) ++ (codes " " ++ (m.text ++ (typed ty ++ (codes " = " ++ expr e))))
-  one_item (t.plain e) = expr e
+  pub printed_item : t.Item → List ℕ
+  printed_item (t.local f m ty e sp) = word_text (local_word f) ++ (codes " " ++ (m.text ++ (printed_type ty ++ (codes " = " ++ printed_expr e))))
+  printed_item (t.plain e) = printed_expr e
 
 -- ---- members: each begins after the end of a line
 
 -- the items of a body, each on a line of its own
-abbrev pub lines : t.Items → List ℕ
-lines t.no_items = []
-lines (t.item i is) = feed ++ (codes "    " ++ (one_item i ++ lines is))
+abbrev pub printed_lines : t.Items → List ℕ
+printed_lines t.no_items = []
+printed_lines (t.item i is) = feed ++ (codes "    " ++ (printed_item i ++ printed_lines is))
 
 abbrev pub body_lines : t.Seq → List ℕ
-body_lines (t.seq is sp) = lines is
+body_lines (t.seq is sp) = printed_lines is
 
-abbrev pub value : Option t.Expr → List ℕ
-value None = []
-value (Some e) = codes " = " ++ expr e
+abbrev pub printed_value : Option t.Expr → List ℕ
+printed_value None = []
+printed_value (Some e) = codes " = " ++ printed_expr e
 
-abbrev pub field : t.Field → List ℕ
-field f = feed ++ (codes "  " ++ (word_text (local_word f.fixed) ++ (codes " " ++ (f.name.text ++ (codes ": " ++ (type_ref f.ty ++ value f.value))))))
+abbrev pub printed_field : t.Field → List ℕ
+printed_field f = feed
+    ++ (codes "  " ++ (word_text (local_word f.fixed) ++ (codes " " ++ (f.name.text ++ (codes ": " ++ (printed_type_ref f.ty ++ printed_value f.value))))))
 
-abbrev pub fields : List t.Field → List ℕ
-fields [] = []
-fields (f ∷ fs) = field f ++ fields fs
+abbrev pub printed_fields : List t.Field → List ℕ
+printed_fields [] = []
+printed_fields (f ∷ fs) = printed_field f ++ printed_fields fs
 
-abbrev pub param : ParamDef → List ℕ
-param d = d.name.text ++ (codes ": " ++ type_ref d.ty)
+abbrev pub printed_param : ParamDef → List ℕ
+printed_param d = d.name.text ++ (codes ": " ++ printed_type_ref d.ty)
 
 abbrev pub more_params : List ParamDef → List ℕ
 more_params [] = []
-more_params (d ∷ ds) = codes ", " ++ (param d ++ more_params ds)
+more_params (d ∷ ds) = codes ", " ++ (printed_param d ++ more_params ds)
 
-abbrev pub params : List ParamDef → List ℕ
-params [] = []
-params (d ∷ ds) = param d ++ more_params ds
+abbrev pub printed_params : List ParamDef → List ℕ
+printed_params [] = []
+printed_params (d ∷ ds) = printed_param d ++ more_params ds
 
-abbrev pub body : Option t.Seq → List ℕ
-body None = []
-body (Some b) = codes " =>" ++ body_lines b
+abbrev pub printed_body : Option t.Seq → List ℕ
+printed_body None = []
+printed_body (Some b) = codes " =>" ++ body_lines b
 
-abbrev pub method : t.Method → List ℕ
-method m = feed ++ (codes "  " ++ (word_text (method_word m.word) ++ (cap m.cap ++ (codes " " ++ (m.name.text ++ (codes "(" ++ (params m.params ++ (codes ")" ++ (typed m.result ++ body m.body)))))))))
+abbrev pub printed_method : t.Method → List ℕ
+printed_method m = feed ++ (codes "  " ++ (word_text (method_word m.word) ++ (printed_cap m.cap ++ (codes " " ++ (m.name.text ++ (codes "(" ++ (printed_params m.params ++ (codes ")" ++ (printed_type m.result ++ printed_body m.body)))))))))
 
-abbrev pub methods : List t.Method → List ℕ
-methods [] = []
-methods (m ∷ ms) = method m ++ methods ms
+abbrev pub printed_methods : List t.Method → List ℕ
+printed_methods [] = []
+printed_methods (m ∷ ms) = printed_method m ++ printed_methods ms
 
 -- ---- entities and files
 
@@ -193,28 +194,29 @@ abbrev pub more_names : List Name → List ℕ
 more_names [] = []
 more_names (m ∷ ms) = codes " & " ++ (m.text ++ more_names ms)
 
-abbrev pub names : List Name → List ℕ
-names [] = []
-names (m ∷ ms) = m.text ++ more_names ms
+abbrev pub printed_names : List Name → List ℕ
+printed_names [] = []
+printed_names (m ∷ ms) = m.text ++ more_names ms
 
 -- ` is T`, ` is (A & B)`
-abbrev pub provides : List Name → List ℕ
-provides [] = []
-provides (m ∷ []) = codes " is " ++ m.text
-provides (m ∷ n ∷ ms) = codes " is (" ++ (names (m ∷ n ∷ ms) ++ codes ")")
+abbrev pub printed_provides : List Name → List ℕ
+printed_provides [] = []
+printed_provides (m ∷ []) = codes " is " ++ m.text
+printed_provides (m ∷ n ∷ ms) = codes " is (" ++ (printed_names (m ∷ n ∷ ms) ++ codes ")")
 
-abbrev pub entity : t.Entity → List ℕ
-entity e = word_text (entity_word e.kind) ++ (cap e.cap ++ (codes " " ++ (e.name.text ++ (provides e.provides ++ (fields e.fields ++ methods e.methods)))))
+abbrev pub printed_entity : t.Entity → List ℕ
+printed_entity e = word_text (entity_word e.kind)
+    ++ (printed_cap e.cap ++ (codes " " ++ (e.name.text ++ (printed_provides e.provides ++ (printed_fields e.fields ++ printed_methods e.methods)))))
 
 -- each after an empty line
 abbrev pub more_entities : List t.Entity → List ℕ
 more_entities [] = []
-more_entities (e ∷ es) = feed ++ (feed ++ (entity e ++ more_entities es))
+more_entities (e ∷ es) = feed ++ (feed ++ (printed_entity e ++ more_entities es))
 
-abbrev pub entities : List t.Entity → List ℕ
-entities [] = []
-entities (e ∷ es) = entity e ++ more_entities es
+abbrev pub printed_entities : List t.Entity → List ℕ
+printed_entities [] = []
+printed_entities (e ∷ es) = printed_entity e ++ more_entities es
 
 -- the bytes of a printed tree
 unfoldable pub printed : t.File → List ℕ
-printed f = entities f.entities ++ feed
+printed f = printed_entities f.entities ++ feed

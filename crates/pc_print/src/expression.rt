@@ -77,7 +77,7 @@ fn push_head(out: &mut Vec<u8>, first: bool) -> Result<(), AllocError>
 /// An expression.
 #[cycle(print)]
 pub fn push_expr(alloc: Global, out: &mut Vec<u8>, expression: &Expr) -> Result<(), AllocError>
-    ensures { OnOk result (out.new.items ≡ out.old.items ++ text.expr (expr_view expression.now)) }
+    ensures { OnOk result (out.new.items ≡ out.old.items ++ text.printed_expr (expr_view expression.now)) }
 {
     match expression {
         Expr::Number { value, .. } => push_number(alloc, out, *value),
@@ -126,7 +126,7 @@ fn push_enclosed(
     seq: &Seq,
     behind: &[u8],
 ) -> Result<(), AllocError>
-    ensures { OnOk result (out.new.items ≡ out.old.items ++ (before.now ++ (text.seq (seq_view seq.now) ++ behind.now))) }
+    ensures { OnOk result (out.new.items ≡ out.old.items ++ (before.now ++ (text.printed_seq (seq_view seq.now) ++ behind.now))) }
 {
     out.extend_from_slice(before)?;
     push_items(alloc, out, seq.items.as_slice())?;
@@ -135,7 +135,7 @@ fn push_enclosed(
 
 #[cycle(print)]
 fn push_terms(alloc: Global, out: &mut Vec<u8>, op: Op, xs: &[Expr]) -> Result<(), AllocError>
-    ensures { OnOk result (out.new.items ≡ out.old.items ++ text.terms (exprs_view xs.now) op) }
+    ensures { OnOk result (out.new.items ≡ out.old.items ++ text.printed_terms (exprs_view xs.now) op) }
 {
     let mut first = true;
     for x in xs {
@@ -148,7 +148,7 @@ fn push_terms(alloc: Global, out: &mut Vec<u8>, op: Op, xs: &[Expr]) -> Result<(
 
 #[cycle(print)]
 fn push_suffixes(alloc: Global, out: &mut Vec<u8>, xs: &[Suffix]) -> Result<(), AllocError>
-    ensures { OnOk result (out.new.items ≡ out.old.items ++ text.suffixes (suffixes_view xs.now)) }
+    ensures { OnOk result (out.new.items ≡ out.old.items ++ text.printed_suffixes (suffixes_view xs.now)) }
 {
     for x in xs {
         push_suffix(alloc, out, x)?;
@@ -158,7 +158,7 @@ fn push_suffixes(alloc: Global, out: &mut Vec<u8>, xs: &[Suffix]) -> Result<(), 
 
 #[cycle(print)]
 fn push_suffix(alloc: Global, out: &mut Vec<u8>, suffix: &Suffix) -> Result<(), AllocError>
-    ensures { OnOk result (out.new.items ≡ out.old.items ++ text.one_suffix (suffix_view suffix.now)) }
+    ensures { OnOk result (out.new.items ≡ out.old.items ++ text.printed_suffix (suffix_view suffix.now)) }
 {
     match suffix {
         Suffix::Dot(name) => {
@@ -175,7 +175,7 @@ fn push_suffix(alloc: Global, out: &mut Vec<u8>, suffix: &Suffix) -> Result<(), 
 
 #[cycle(print)]
 fn push_args(alloc: Global, out: &mut Vec<u8>, xs: &[Expr]) -> Result<(), AllocError>
-    ensures { OnOk result (out.new.items ≡ out.old.items ++ text.args (exprs_view xs.now)) }
+    ensures { OnOk result (out.new.items ≡ out.old.items ++ text.printed_args (exprs_view xs.now)) }
 {
     let mut first = true;
     for x in xs {
@@ -188,7 +188,7 @@ fn push_args(alloc: Global, out: &mut Vec<u8>, xs: &[Expr]) -> Result<(), AllocE
 
 #[cycle(print)]
 fn push_arms(alloc: Global, out: &mut Vec<u8>, xs: &[Arm]) -> Result<(), AllocError>
-    ensures { OnOk result (out.new.items ≡ out.old.items ++ text.arms (arms_view xs.now)) }
+    ensures { OnOk result (out.new.items ≡ out.old.items ++ text.printed_arms (arms_view xs.now)) }
 {
     let mut first = true;
     for x in xs {
@@ -201,7 +201,7 @@ fn push_arms(alloc: Global, out: &mut Vec<u8>, xs: &[Arm]) -> Result<(), AllocEr
 
 #[cycle(print)]
 fn push_arm(alloc: Global, out: &mut Vec<u8>, arm: &Arm) -> Result<(), AllocError>
-    ensures { OnOk result (out.new.items ≡ out.old.items ++ text.one_arm (arm_view arm.now)) }
+    ensures { OnOk result (out.new.items ≡ out.old.items ++ text.printed_arm (arm_view arm.now)) }
 {
     push_enclosed(alloc, out, b"", &arm.cond, b" then ")?;
     push_enclosed(alloc, out, b"", &arm.body, b"")
@@ -210,7 +210,7 @@ fn push_arm(alloc: Global, out: &mut Vec<u8>, arm: &Arm) -> Result<(), AllocErro
 // The end of an `if`, after its arms.
 #[cycle(print)]
 fn push_other(alloc: Global, out: &mut Vec<u8>, other: &Option<Box<Seq>>) -> Result<(), AllocError>
-    ensures { OnOk result (out.new.items ≡ out.old.items ++ (text.other (other_view other.now) ++ codes " end")) }
+    ensures { OnOk result (out.new.items ≡ out.old.items ++ (text.printed_other (other_view other.now) ++ codes " end")) }
 {
     match other {
         Some(seq) => push_enclosed(alloc, out, b" else ", seq, b" end"),
@@ -220,7 +220,7 @@ fn push_other(alloc: Global, out: &mut Vec<u8>, other: &Option<Box<Seq>>) -> Res
 
 #[cycle(print)]
 fn push_items(alloc: Global, out: &mut Vec<u8>, xs: &[Item]) -> Result<(), AllocError>
-    ensures { OnOk result (out.new.items ≡ out.old.items ++ text.items (items_view xs.now)) }
+    ensures { OnOk result (out.new.items ≡ out.old.items ++ text.printed_items (items_view xs.now)) }
 {
     let mut first = true;
     for x in xs {
@@ -234,7 +234,7 @@ fn push_items(alloc: Global, out: &mut Vec<u8>, xs: &[Item]) -> Result<(), Alloc
 /// An item of a sequence.
 #[cycle(print)]
 pub fn push_item(alloc: Global, out: &mut Vec<u8>, item: &Item) -> Result<(), AllocError>
-    ensures { OnOk result (out.new.items ≡ out.old.items ++ text.one_item (item_view item.now)) }
+    ensures { OnOk result (out.new.items ≡ out.old.items ++ text.printed_item (item_view item.now)) }
 {
     match item {
         Item::Local {

@@ -13,7 +13,7 @@ use std::alloc::{AllocError, Global};
 
 // The names after `is`.
 fn push_names(out: &mut Vec<u8>, names: &[Name]) -> Result<(), AllocError>
-    ensures { OnOk result (out.new.items ≡ out.old.items ++ text.names names.now) }
+    ensures { OnOk result (out.new.items ≡ out.old.items ++ text.printed_names names.now) }
 {
     let mut first = true;
     for name in names {
@@ -26,7 +26,7 @@ fn push_names(out: &mut Vec<u8>, names: &[Name]) -> Result<(), AllocError>
 
 // What follows an entity's name, if it has an `is` list.
 fn push_provides(out: &mut Vec<u8>, names: &[Name]) -> Result<(), AllocError>
-    ensures { OnOk result (out.new.items ≡ out.old.items ++ text.provides names.now) }
+    ensures { OnOk result (out.new.items ≡ out.old.items ++ text.printed_provides names.now) }
 {
     if names.is_empty() {
         Ok(())
@@ -53,7 +53,7 @@ fn entity_text(kind: EntityKind) -> &'static [u8]
 }
 
 fn push_entity(alloc: Global, out: &mut Vec<u8>, entity: &Entity) -> Result<(), AllocError>
-    ensures { OnOk result (out.new.items ≡ out.old.items ++ text.entity (entity_view entity.now)) }
+    ensures { OnOk result (out.new.items ≡ out.old.items ++ text.printed_entity (entity_view entity.now)) }
 {
     out.extend_from_slice(entity_text(entity.kind))?;
     push_cap(out, entity.cap)?;
@@ -65,7 +65,7 @@ fn push_entity(alloc: Global, out: &mut Vec<u8>, entity: &Entity) -> Result<(), 
 }
 
 fn push_entities(alloc: Global, out: &mut Vec<u8>, entities: &[Entity]) -> Result<(), AllocError>
-    ensures { OnOk result (out.new.items ≡ out.old.items ++ text.entities (map entity_view entities.now)) }
+    ensures { OnOk result (out.new.items ≡ out.old.items ++ text.printed_entities (map entity_view entities.now)) }
 {
     let mut first = true;
     for entity in entities {

@@ -61,7 +61,7 @@ pub fn push_number(alloc: Global, out: &mut Vec<u8>, value: u64) -> Result<(), A
 
 /// A capability after a space, if one is written.
 pub fn push_cap(out: &mut Vec<u8>, cap: Option<Cap>) -> Result<(), AllocError>
-    ensures { OnOk result (out.new.items ≡ out.old.items ++ text.cap cap) }
+    ensures { OnOk result (out.new.items ≡ out.old.items ++ text.printed_cap cap) }
 {
     match cap {
         Some(Cap::Iso) => out.extend_from_slice(b" iso"),
@@ -97,7 +97,7 @@ fn push_hat(out: &mut Vec<u8>, hat: bool) -> Result<(), AllocError>
 
 /// A type.
 pub fn push_type(out: &mut Vec<u8>, ty: &TypeRef) -> Result<(), AllocError>
-    ensures { OnOk result (out.new.items ≡ out.old.items ++ text.type_ref ty.now) }
+    ensures { OnOk result (out.new.items ≡ out.old.items ++ text.printed_type_ref ty.now) }
 {
     out.extend_from_slice(ty.name.text.as_slice())?;
     push_cap(out, ty.cap)?;
@@ -106,7 +106,7 @@ pub fn push_type(out: &mut Vec<u8>, ty: &TypeRef) -> Result<(), AllocError>
 
 /// A type with its `:`, if one is written.
 pub fn push_typed(out: &mut Vec<u8>, ty: &Option<TypeRef>) -> Result<(), AllocError>
-    ensures { OnOk result (out.new.items ≡ out.old.items ++ text.typed ty.now) }
+    ensures { OnOk result (out.new.items ≡ out.old.items ++ text.printed_type ty.now) }
 {
     match ty {
         Some(r) => {

@@ -12,7 +12,7 @@ use std::alloc::{AllocError, Global};
 
 // What follows a field's type, if an initial value is written.
 fn push_initial(alloc: Global, out: &mut Vec<u8>, value: &Option<Expr>) -> Result<(), AllocError>
-    ensures { OnOk result (out.new.items ≡ out.old.items ++ text.value (maybe_expr value.now)) }
+    ensures { OnOk result (out.new.items ≡ out.old.items ++ text.printed_value (maybe_expr value.now)) }
 {
     match value {
         Some(e) => {
@@ -24,7 +24,7 @@ fn push_initial(alloc: Global, out: &mut Vec<u8>, value: &Option<Expr>) -> Resul
 }
 
 fn push_field(alloc: Global, out: &mut Vec<u8>, field: &FieldDef) -> Result<(), AllocError>
-    ensures { OnOk result (out.new.items ≡ out.old.items ++ text.field (field_view field.now)) }
+    ensures { OnOk result (out.new.items ≡ out.old.items ++ text.printed_field (field_view field.now)) }
 {
     out.extend_from_slice(b"\n  ")?;
     push_local(out, field.fixed)?;
@@ -36,7 +36,7 @@ fn push_field(alloc: Global, out: &mut Vec<u8>, field: &FieldDef) -> Result<(), 
 
 /// Fields, each on a line of its own.
 pub fn push_fields(alloc: Global, out: &mut Vec<u8>, fields: &[FieldDef]) -> Result<(), AllocError>
-    ensures { OnOk result (out.new.items ≡ out.old.items ++ text.fields (map field_view fields.now)) }
+    ensures { OnOk result (out.new.items ≡ out.old.items ++ text.printed_fields (map field_view fields.now)) }
 {
     for field in fields {
         push_field(alloc, out, field)?;
@@ -45,7 +45,7 @@ pub fn push_fields(alloc: Global, out: &mut Vec<u8>, fields: &[FieldDef]) -> Res
 }
 
 fn push_param(out: &mut Vec<u8>, param: &ParamDef) -> Result<(), AllocError>
-    ensures { OnOk result (out.new.items ≡ out.old.items ++ text.param param.now) }
+    ensures { OnOk result (out.new.items ≡ out.old.items ++ text.printed_param param.now) }
 {
     out.extend_from_slice(param.name.text.as_slice())?;
     out.extend_from_slice(b": ")?;
@@ -53,7 +53,7 @@ fn push_param(out: &mut Vec<u8>, param: &ParamDef) -> Result<(), AllocError>
 }
 
 fn push_params(out: &mut Vec<u8>, params: &[ParamDef]) -> Result<(), AllocError>
-    ensures { OnOk result (out.new.items ≡ out.old.items ++ text.params params.now) }
+    ensures { OnOk result (out.new.items ≡ out.old.items ++ text.printed_params params.now) }
 {
     let mut first = true;
     for param in params {
@@ -66,7 +66,7 @@ fn push_params(out: &mut Vec<u8>, params: &[ParamDef]) -> Result<(), AllocError>
 
 // The items of a body, each on a line of its own.
 fn push_lines(alloc: Global, out: &mut Vec<u8>, items: &[Item]) -> Result<(), AllocError>
-    ensures { OnOk result (out.new.items ≡ out.old.items ++ text.lines (items_view items.now)) }
+    ensures { OnOk result (out.new.items ≡ out.old.items ++ text.printed_lines (items_view items.now)) }
 {
     for item in items {
         out.extend_from_slice(b"\n    ")?;
@@ -82,7 +82,7 @@ fn push_body_lines(alloc: Global, out: &mut Vec<u8>, body: &Seq) -> Result<(), A
 }
 
 fn push_body(alloc: Global, out: &mut Vec<u8>, body: &Option<Seq>) -> Result<(), AllocError>
-    ensures { OnOk result (out.new.items ≡ out.old.items ++ text.body (maybe_seq body.now)) }
+    ensures { OnOk result (out.new.items ≡ out.old.items ++ text.printed_body (maybe_seq body.now)) }
 {
     match body {
         Some(seq) => {
@@ -105,7 +105,7 @@ fn method_text(word: MethodWord) -> &'static [u8]
 
 // The name of a method, its parameters and its result.
 fn push_signature(out: &mut Vec<u8>, method: &MethodDef) -> Result<(), AllocError>
-    ensures { OnOk result (out.new.items ≡ out.old.items ++ (method.now.name.text ++ (40 ∷ (text.params method.now.params ++ (41 ∷ text.typed method.now.result))))) }
+    ensures { OnOk result (out.new.items ≡ out.old.items ++ (method.now.name.text ++ (40 ∷ (text.printed_params method.now.params ++ (41 ∷ text.printed_type method.now.result))))) }
 {
     out.extend_from_slice(method.name.text.as_slice())?;
     out.extend_from_slice(b"(")?;
@@ -115,7 +115,7 @@ fn push_signature(out: &mut Vec<u8>, method: &MethodDef) -> Result<(), AllocErro
 }
 
 fn push_method(alloc: Global, out: &mut Vec<u8>, method: &MethodDef) -> Result<(), AllocError>
-    ensures { OnOk result (out.new.items ≡ out.old.items ++ text.method (method_view method.now)) }
+    ensures { OnOk result (out.new.items ≡ out.old.items ++ text.printed_method (method_view method.now)) }
 {
     out.extend_from_slice(b"\n  ")?;
     out.extend_from_slice(method_text(method.word))?;
@@ -131,7 +131,7 @@ pub fn push_methods(
     out: &mut Vec<u8>,
     methods: &[MethodDef],
 ) -> Result<(), AllocError>
-    ensures { OnOk result (out.new.items ≡ out.old.items ++ text.methods (map method_view methods.now)) }
+    ensures { OnOk result (out.new.items ≡ out.old.items ++ text.printed_methods (map method_view methods.now)) }
 {
     for method in methods {
         push_method(alloc, out, method)?;

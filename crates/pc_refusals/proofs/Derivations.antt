@@ -1,8 +1,8 @@
 -- From the result of reading a derivation to its stages.
 use Rattle.std.proofs.Common.{◌≡◌, ◌≤◌, length, Ok, refl}
 use Rattle.pc_ann.specs.declared.annotation.Ann.{Ann}
-use Rattle.pc_deriv.specs.Faults.{IsText, Refuses}
-use Rattle.pc_deriv.specs.Limits.{slot_limit, node_limit}
+use Rattle.pc_deriv.specs.Faults.{IsText, RefusesDerivation}
+use Rattle.pc_deriv.specs.Limits.{derivation_slot_limit, derivation_node_limit}
 use Rattle.pc_deriv.specs.declared.fault.DerivFault.{DerivFault}
 use Rattle.pc_deriv.specs.declared.fault.DerivFault.TheVariants as deriv
 use Rattle.pc_lists.specs.Texts.{Text}
@@ -17,7 +17,7 @@ use Rattle.pc_refusals.specs.declared.stop.Stop.{Stop}
 use Rattle.pc_refusals.proofs.Stops.{memory_stops, refusal_stops}
 
 -- if the reading of the text stops
-pub text_stops : (name bytes : Text) (f : DerivFault) (s : Stop) → Refuses bytes f → IsTextStop name f s → StageStops (Deriving name bytes) s
+pub text_stops : (name bytes : Text) (f : DerivFault) (s : Stop) → RefusesDerivation bytes f → IsTextStop name f s → StageStops (Deriving name bytes) s
 text_stops name bytes (deriv.BadLine n) s h r = refusal_stops (Deriving name bytes) _ _ s (garbled (deriv.BadLine n) h) r
 text_stops name bytes deriv.TooMany s h r = refusal_stops (Deriving name bytes) _ _ s (garbled deriv.TooMany h) r
 text_stops name bytes deriv.Memory s h r = memory_stops (Deriving name bytes) s r
@@ -26,5 +26,6 @@ text_stops name bytes deriv.Memory s h r = memory_stops (Deriving name bytes) s 
 pub derivation_says : {name : Text} {r : Reading} {ann : Ann} → DerivationStage name r (Ok ann) → (bytes : Text) × (r ≡ whole bytes) × IsText bytes ann
 derivation_says (goes (fits {bytes = b} l) (reads t)) = (b, refl, t)
 
-pub few : {name : Text} {r : Reading} {ann : Ann} → DerivationStage name r (Ok ann) → (length ann.slots ≤ slot_limit) × (length ann.notes ≤ node_limit)
+pub few : {name : Text} {r : Reading} {ann : Ann} → DerivationStage name r (Ok ann)
+    → (length ann.slots ≤ derivation_slot_limit) × (length ann.notes ≤ derivation_node_limit)
 few h = (derivation_says h).2.within

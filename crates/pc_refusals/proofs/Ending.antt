@@ -4,11 +4,11 @@ use Rattle.std.specs.Prelude.{Result}
 use Rattle.std.specs.Io.KnownBytes.{Appends, Keeps}
 use Rattle.pc_lists.specs.Texts.{Text}
 use Rattle.pc_io.specs.Change.{Change}
-use Rattle.pc_refusals.specs.FromFile.{FromFile, Passes}
+use Rattle.pc_refusals.specs.FromFile.{FromFile, FilePasses}
 use Rattle.pc_refusals.specs.FromFile.FromFile.{refuses, goes_on}
-use Rattle.pc_refusals.specs.Inner.Answering.{AnswerStops, AnswersText, CommandStops, Ends, Puts}
+use Rattle.pc_refusals.specs.Inner.Answering.{AnswerStops, AnswersText, CommandStops, EndsCommand, Puts}
 use Rattle.pc_refusals.specs.Inner.Refusals.{IsRefusal}
-use Rattle.pc_refusals.specs.Inner.Stages.{PartStops, PartGives, StageEnds, StageStops, Wrote}
+use Rattle.pc_refusals.specs.Inner.Stages.{PartStops, PartGives, StageEnds, StageStops, StageWrote}
 use Rattle.pc_refusals.specs.Inner.TwoFiles.{BothGive, OneStops}
 use Rattle.pc_refusals.specs.Named.{Reading, Named, FailedAt}
 use Rattle.pc_refusals.specs.Verdict.{EndsAs, EndsWith, Verdict, refused, done}
@@ -35,7 +35,7 @@ kept_by before now e = subst (λ (o : Option Text). Keeps before o) (sym e) (kep
 
 module _ (V : Verdict → Type 0) (Failed : Text → Type 0) (out : Change) where
   -- a command that writes its text last
-  pub text_ends : (text : Text) (result : Result (Unit {0}) Stop) → V (done text) → Wrote text out result → Ends V Failed out result
+  pub text_ends : (text : Text) (result : Result (Unit {0}) Stop) → V (done text) → StageWrote text out result → EndsCommand V Failed out result
   text_ends text (Ok x) v w = (done text, v, refl, refl, w)
   text_ends text (Err (Refused status line)) v w = absurd w
   text_ends text (Err (File name)) v w = absurd w
@@ -50,9 +50,9 @@ module _ (V : Verdict → Type 0) (Failed : Text → Type 0) (out : Change) wher
   stop_ends Memory h e = inl (kept_by out.before out.now e)
 
   -- a command that returns a text, which is then written
-  pub put_ends : (answer : Result Text Stop) (result : Result (Unit {0}) Stop) → AnswersText V Failed answer → Puts answer out result → Ends V Failed out result
+  pub put_ends : (answer : Result Text Stop) (result : Result (Unit {0}) Stop) → AnswersText V Failed answer → Puts answer out result → EndsCommand V Failed out result
   put_ends (Ok text) result v w = text_ends text result v w
-  put_ends (Err s) result h p = subst (λ (r : Result (Unit {0}) Stop). Ends V Failed out r) (sym p.0) (stop_ends s h p.1)
+  put_ends (Err s) result h p = subst (λ (r : Result (Unit {0}) Stop). EndsCommand V Failed out r) (sym p.0) (stop_ends s h p.1)
 
 -- ---- another verdict that the first one gives
 
@@ -65,7 +65,7 @@ module _ (V W : Verdict → Type 0) (Own Failed : Text → Type 0) (by : (v : Ve
   answers_by (Err Memory) h = tt
 
   module _ (out : Change) where
-    pub ends_by : (result : Result (Unit {0}) Stop) → Ends V Own out result → Ends W Failed out result
+    pub ends_by : (result : Result (Unit {0}) Stop) → EndsCommand V Own out result → EndsCommand W Failed out result
     ends_by (Ok x) h = (h.0, by h.0 h.1, h.2, h.3, h.4)
     ends_by (Err (Refused status line)) h = (h.0, by h.0 h.1, h.2, h.3, h.4)
     ends_by (Err (File name)) h = (also name h.0, h.1)
@@ -107,7 +107,7 @@ module _ {T : Type 0} (limit : ℕ) (Stage : Reading → Result T Verdict → Ty
     pub part_answers : (answer : Result Text Stop) → AnswersText (Last x) Own answer → AnswersText (FromFile file limit Stage Last) Failed answer
     part_answers = answers_by (Last x) (FromFile file limit Stage Last) Own Failed (λ v l. goes_on given.0 x given.1 given.2 l) also
 
-    pub part_ends : (out : Change) (result : Result (Unit {0}) Stop) → Ends (Last x) Own out result → Ends (FromFile file limit Stage Last) Failed out result
+    pub part_ends : (out : Change) (result : Result (Unit {0}) Stop) → EndsCommand (Last x) Own out result → EndsCommand (FromFile file limit Stage Last) Failed out result
     part_ends = ends_by (Last x) (FromFile file limit Stage Last) Own Failed (λ v l. goes_on given.0 x given.1 given.2 l) also
 
 -- ---- two files
@@ -116,7 +116,7 @@ module _ {T U : Type 0} (first second : ℕ) (One : Reading → Result T Verdict
   abbrev Both : Verdict → Type 0
   Both = FromFile a first One (λ x. FromFile b second Two (Last x))
 
-  pub both_stop : (s : Stop) → ((n : Text) → FailedAt a n → Failed n) → ((n : Text) → Passes a first One → FailedAt b n → Failed n) → OneStops first second One Two a b s → AnswerStops Both Failed s
+  pub both_stop : (s : Stop) → ((n : Text) → FailedAt a n → Failed n) → ((n : Text) → FilePasses a first One → FailedAt b n → Failed n) → OneStops first second One Two a b s → AnswerStops Both Failed s
   both_stop s also too (inl h) = part_stops first One (λ x. FromFile b second Two (Last x)) Failed a s also h
   both_stop s also too (inr h) =
       part_answers first One (λ x. FromFile b second Two (Last x)) Failed a Failed h.0 (λ n f. f) h.1 (Err s) (part_stops second Two (Last h.0) Failed b s (λ n f. too n (h.1.0, h.0, h.1.1, h.1.2) f) h.2)
@@ -125,5 +125,5 @@ module _ {T U : Type 0} (first second : ℕ) (One : Reading → Result T Verdict
     pub both_answer : (answer : Result Text Stop) → AnswersText (Last x y) (λ n. ⊥) answer → AnswersText Both Failed answer
     both_answer = answers_by (Last x y) Both (λ n. ⊥) Failed (λ v l. goes_on given.0.0 x given.0.1 given.0.2 (goes_on given.1.0 y given.1.1 given.1.2 l)) (λ n f. absurd f)
 
-    pub both_end : (out : Change) (result : Result (Unit {0}) Stop) → Ends (Last x y) (λ n. ⊥) out result → Ends Both Failed out result
+    pub both_end : (out : Change) (result : Result (Unit {0}) Stop) → EndsCommand (Last x y) (λ n. ⊥) out result → EndsCommand Both Failed out result
     both_end = ends_by (Last x y) Both (λ n. ⊥) Failed (λ v l. goes_on given.0.0 x given.0.1 given.0.2 (goes_on given.1.0 y given.1.1 given.1.2 l)) (λ n f. absurd f)

@@ -12,7 +12,7 @@ use Rattle.pc_referee.specs.Asked.{Pairs}
 use Rattle.pc_feed.specs.declared.parts.DerivationFault.{DerivationFault}
 use Rattle.pc_feed.specs.declared.parts.DerivationFault.TheVariants as parts
 use Rattle.pc_feed.specs.Laws.{ValidAsksAll}
-use Rattle.pc_feed.specs.Parts.{Asks, FileJudged, ReadWhole}
+use Rattle.pc_feed.specs.Parts.{AsksNodes, FileJudged, ReadWhole}
 use Rattle.pc_lists.specs.Texts.{Text}
 use Rattle.pc_refusals.specs.After.After.{stops, goes}
 use Rattle.pc_refusals.specs.Derivation.{DerivationStage, derivation_limit, in_parts, text_status}
@@ -65,7 +65,7 @@ module _ (source_name : Text) (source : Source) (file : Named) (before after : O
 
   -- ---- and what the referee was asked
 
-  each : ValidAsksAll → Formed source.core → (bytes : Text) (ann : Ann) (b : Option Pairs) → IsText bytes ann → Valid source.core ann → Asks source.core bytes b after → AsksEach ann b after
+  each : ValidAsksAll → Formed source.core → (bytes : Text) (ann : Ann) (b : Option Pairs) → IsText bytes ann → Valid source.core ann → AsksNodes source.core bytes b after → AsksEach ann b after
   each law formed bytes ann None t v h = h
   each law formed bytes ann (Some p) t v h = h.2 ∙ ap (λ (more : Pairs). Some (p ++ more)) (law source.core bytes ann h.0 formed t v h.1)
 

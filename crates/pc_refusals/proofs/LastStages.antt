@@ -2,7 +2,7 @@
 use Rattle.std.proofs.Common.{◌≡◌, ◌⊎◌, ℕ, Ok, Err, inl, inr, sym, ap, ◌∙◌, subst}
 use Rattle.std.specs.Prelude.{Result}
 use Rattle.pc_lists.specs.Texts.{Text}
-use Rattle.pc_refusals.specs.After.{IsOne}
+use Rattle.pc_refusals.specs.After.{HasOneEnd}
 use Rattle.pc_refusals.specs.FromFile.{FromFile}
 use Rattle.pc_refusals.specs.FromFile.FromFile.{refuses, goes_on}
 use Rattle.pc_refusals.specs.Named.{Named, Reading, IsReadingOf}
@@ -28,7 +28,7 @@ module _ {T : Type 0} (text : T → Text) (Stage : Result T Verdict → Type 0) 
   ends_status P zero refusals v h = by_cases P zero refusals v (ends_cases v h)
 
   -- if the stage has one end, there is one verdict
-  pub ends_one : IsOne Stage → (v w : Verdict) → EndsAs text Stage v → EndsAs text Stage w → v ≡ w
+  pub ends_one : HasOneEnd Stage → (v w : Verdict) → EndsAs text Stage v → EndsAs text Stage w → v ≡ w
   ends_one one v w (end, h, e) (other, k, f) = e ∙ (ap (ended text) (one end other h k) ∙ sym f)
 
 -- ---- a file

@@ -21,7 +21,8 @@ use Rattle.pc_deriv.specs.Faults.{IsText}
 use Rattle.pc_deriv.proofs.Shown.{shown_fits}
 use Rattle.pc_deriv.specs.Names.{version_name, rule_name, cap_name, form_name}
 use Rattle.pc_lists.specs.Texts.{line_end}
-use Rattle.pc_deriv.specs.Text.{head_line, slot_line, type_text, mask_text, masks_text, note_line, shown_after, lines, blank, SlotFits, TypeFits, MaskFits, MasksFit, NoteFits}
+use Rattle.pc_deriv.specs.Text.{head_line, slot_line, type_text, mask_text, masks_text, note_line, shown_after, each_line, blank, SlotFits, TypeFits, MaskFits}
+use Rattle.pc_deriv.specs.Text.{MasksFit, NoteFits}
 use Rattle.pc_deriv.specs.declared.version.Version.{Version}
 use Rattle.pc_deriv.specs.declared.version.Version.TheVariants as version
 use Rattle.pc_refusals.specs.Derivation.{derivation_limit}
@@ -130,12 +131,12 @@ version_size version.One = omega arith
 version_size version.Two = omega arith
 
 -- The whole text.
-lines_size : {A : Type 0} → (line : A → List ℕ) (Fits : A → Type 0) (size : ℕ) → ((x : A) → Fits x → length (line x) ≤ size) → (xs : List A) → AllByRecursion Fits xs → length (lines line xs) ≤ size * length xs
+lines_size : {A : Type 0} → (line : A → List ℕ) (Fits : A → Type 0) (size : ℕ) → ((x : A) → Fits x → length (line x) ≤ size) → (xs : List A) → AllByRecursion Fits xs → length (each_line line xs) ≤ size * length xs
 lines_size line Fits size h [] f = omega arith
 lines_size line Fits size h (x ∷ xs) f =
     let one = h x f.0 in
     let rest = lines_size line Fits size h xs f.1 in
-    let both = length-append (line x) (lines line xs) in
+    let both = length-append (line x) (each_line line xs) in
     let m = mul-suc size (length xs) in
     omega (arith, one, rest, both, m)
 
@@ -151,7 +152,7 @@ text_within bytes ann t =
     let head : length (head_line v (length ann.slots, length ann.notes)) ≤ 40
     = both_sizes (codes "rcap-derivation ") _ 16 24 (omega arith) (both_sizes (version_name v) _ 1 23 (version_size v) (both_sizes blank _ 1 22 (omega arith)
     (both_sizes (decimal (length ann.slots)) _ 10 12 a (both_sizes blank _ 1 11 (omega arith) (both_sizes (decimal (length ann.notes)) line_end 10 1 b (omega arith)))))) in
-    let body = length-append (lines slot_line ann.slots) (lines (note_line v) ann.notes) in
-    let whole = length-append (head_line v (length ann.slots, length ann.notes)) (lines slot_line ann.slots ++ lines (note_line v) ann.notes) in
+    let body = length-append (each_line slot_line ann.slots) (each_line (note_line v) ann.notes) in
+    let whole = length-append (head_line v (length ann.slots, length ann.notes)) (each_line slot_line ann.slots ++ each_line (note_line v) ann.notes) in
     let same = ap (λ (xs : List ℕ). length xs) t.same in
     omega (arith, slots, notes, few, nodes, head, body, whole, same)

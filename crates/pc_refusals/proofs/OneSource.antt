@@ -11,7 +11,7 @@ use Rattle.pc_names.specs.declared.fault.NameFault.{NameFault}
 use Rattle.pc_file_spec.specs.Laws.{OneCore, NotBoth as NotBothMembers, OneFault as OneMemberFault}
 use Rattle.pc_tree.specs.Tree as t
 use Rattle.pc_lists.specs.Texts.{Text}
-use Rattle.pc_refusals.specs.After.{After, IsOne}
+use Rattle.pc_refusals.specs.After.{After, HasOneEnd}
 use Rattle.pc_refusals.specs.After.After.{stops, goes}
 use Rattle.pc_refusals.specs.LexFaults.{fault_status, fault_line}
 use Rattle.pc_refusals.specs.FromFile.{FromFile}
@@ -52,8 +52,8 @@ errs : {T : Type 0} (v w : Verdict) (a b : Result T Verdict) → a ≡ Err v →
 errs v w a b p q e = cc
 
 -- stages of which each has one end have one together
-pub after_is_one : {T U : Type 0} (First : Result T Verdict → Type 0) (Next : T → Result U Verdict → Type 0) → IsOne First
-    → ((x : T) → First (Ok x) → IsOne (Next x)) → IsOne (After First Next)
+pub after_is_one : {T U : Type 0} (First : Result T Verdict → Type 0) (Next : T → Result U Verdict → Type 0) → HasOneEnd First
+    → ((x : T) → First (Ok x) → HasOneEnd (Next x)) → HasOneEnd (After First Next)
 after_is_one First Next f n _ _ (stops {v = v} a) (stops {v = w} b) = err_same v w (Err v) (Err w) (Err v) (Err w) refl refl refl refl (f _ _ a b)
 after_is_one First Next f n _ _ (stops {v = v} a) (goes {x = x} b c) = differ x v (Ok x) (Err v) refl refl (f _ _ b a)
 after_is_one First Next f n _ _ (goes {x = x} a c) (stops {v = v} b) = differ x v (Ok x) (Err v) refl refl (f _ _ a b)
@@ -61,7 +61,7 @@ after_is_one First Next f n p q (goes {x = x} a c) (goes {x = y} b d) =
     let e : y ≡ x = ok_same y x (Ok y) (Ok x) refl refl (f _ _ b a) in
     n x a p q c (subst (λ z. Next z q) e d)
 
-pub one_length : (limit : ℕ) (name : Text) (r : Reading) → IsOne (Length limit name r)
+pub one_length : (limit : ℕ) (name : Text) (r : Reading) → HasOneEnd (Length limit name r)
 one_length limit name r _ _ (fits l) (fits m) = refl
 one_length limit name r _ _ is_longer is_longer = refl
 
@@ -77,7 +77,7 @@ one_reading limit (Some x) before now taken longer longer t n a b = refl
 
 module _ {T : Type 0} (file : Named) (limit : ℕ) (Stages : Reading → Result T Verdict → Type 0) (Last : T → Verdict → Type 0) where
   -- One verdict follows if one does from each reading, and then from each value.
-  pub one_from : IsSome file.told → file.now ≡ file.before → ((r : Reading) → IsOne (Stages r))
+  pub one_from : IsSome file.told → file.now ≡ file.before → ((r : Reading) → HasOneEnd (Stages r))
       → ((r : Reading) (x : T) → Stages r (Ok x) → (v w : Verdict) → Last x v → Last x w → v ≡ w)
       → (v w : Verdict) → FromFile file limit Stages Last v → FromFile file limit Stages Last w → v ≡ w
   one_from t n one last v w (refuses r g h) (refuses q i k) =
@@ -115,14 +115,14 @@ unexpected_deep : (r q : List Token) → unexpected r ≡ too_deep q → ⊥
 unexpected_deep r q e = cc
 
 module _ (laws : SourceLaws) where
-  one_lexing : (name bytes : Text) → IsOne (Lexing name bytes)
+  one_lexing : (name bytes : Text) → HasOneEnd (Lexing name bytes)
   one_lexing name bytes _ _ (lexed {ts = t} a) (lexed {ts = u} b) = ap (λ (x : List Token). Ok x) (laws.list bytes t u a.0 b.0)
   one_lexing name bytes _ _ (lexed {ts = t} a) (faulty f b) = absurd (laws.both bytes t f a b)
   one_lexing name bytes _ _ (faulty f a) (lexed {ts = t} b) = absurd (laws.both bytes t f b a)
   one_lexing name bytes _ _ (faulty f a) (faulty g b) = ap (λ (x : LexFault). Err (refused (fault_status x) (fault_line name bytes x))) (laws.fault bytes f g a b)
 
   -- the file of an answer, and the place of the token that one names
-  one_parsing : (name bytes : Text) (ts : List Token) → IsOne (Parsing name bytes ts)
+  one_parsing : (name bytes : Text) (ts : List Token) → HasOneEnd (Parsing name bytes ts)
   one_parsing name bytes ts _ _ (parsed {file = f} a) (parsed {file = g} b) = ap (λ (x : t.File). Ok x) (file_same f g (laws.tree ts (spelled f) (spelled g) a b))
   one_parsing name bytes ts _ _ (parsed {file = f} a) (astray {x = x} {rest = r} b) = absurd (spelled_unexpected f (x ∷ r) (laws.tree ts (spelled f) (unexpected (x ∷ r)) a b))
   one_parsing name bytes ts _ _ (parsed {file = f} a) (nested {x = x} {rest = r} b) = absurd (spelled_deep f (x ∷ r) (laws.tree ts (spelled f) (too_deep (x ∷ r)) a b))
@@ -135,7 +135,7 @@ module _ (laws : SourceLaws) where
   one_parsing name bytes ts _ _ (nested {x = x} {rest = r} a) (nested {x = y} {rest = q} b) =
       ap (λ (z : Token). Err (refused 8 (offset_line name bytes z.span.start (codes "nested too deep")))) (deep_same x y r q (laws.tree ts (too_deep (x ∷ r)) (too_deep (y ∷ q)) a b))
 
-  one_elaborating : (name bytes : Text) (file : t.File) → IsOne (Elaborating name bytes file)
+  one_elaborating : (name bytes : Text) (file : t.File) → HasOneEnd (Elaborating name bytes file)
   one_elaborating name bytes file _ _ (elaborated {core = c} a) (elaborated {core = d} b) = ap (λ (x : CoreData). Ok x) (laws.core file c d a b)
   one_elaborating name bytes file _ _ (elaborated {core = c} a) (misnamed f o h) = absurd (laws.misnamed file f a.0 o h a.1)
   one_elaborating name bytes file _ _ (elaborated {core = c} a) (misused f o h) = absurd (laws.misused file c f a h)
@@ -146,25 +146,25 @@ module _ (laws : SourceLaws) where
   one_elaborating name bytes file _ _ (misused f o h) (misnamed g p i) = absurd (laws.misnamed file g h.0 p i h.1)
   one_elaborating name bytes file _ _ (misused f o h) (misused g p i) = ap (λ (x : NameFault). Err (refused (name_status x) (name_line name bytes x))) (laws.body_fault file f g h i)
 
-  one_tree : (name bytes : Text) (ts : List Token) → IsOne (TreeStage name bytes ts)
+  one_tree : (name bytes : Text) (ts : List Token) → HasOneEnd (TreeStage name bytes ts)
   one_tree name bytes ts = after_is_one (Parsing name bytes ts) (Elaborating name bytes) (one_parsing name bytes ts) (λ file l. one_elaborating name bytes file)
 
-  one_core : (name bytes : Text) → IsOne (CoreStage name bytes)
+  one_core : (name bytes : Text) → HasOneEnd (CoreStage name bytes)
   one_core name bytes = after_is_one (Lexing name bytes) (TreeStage name bytes) (one_lexing name bytes) (λ ts l. one_tree name bytes ts)
 
-  one_text : (name bytes : Text) → IsOne (TextStage name bytes)
+  one_text : (name bytes : Text) → HasOneEnd (TextStage name bytes)
   one_text name bytes _ _ (has_core {core = c} a) (has_core {core = d} b) =
       ap (λ (x : CoreData). Ok (record { bytes = bytes; core = x })) (ok_same c d (Ok c) (Ok d) refl refl (one_core name bytes _ _ a b))
   one_text name bytes _ _ (has_core {core = c} a) (has_none {v = v} b) = differ c v (Ok c) (Err v) refl refl (one_core name bytes _ _ a b)
   one_text name bytes _ _ (has_none {v = v} a) (has_core {core = c} b) = differ c v (Ok c) (Err v) refl refl (one_core name bytes _ _ b a)
   one_text name bytes _ _ (has_none {v = v} a) (has_none {v = w} b) = err_same v w (Err v) (Err w) (Err v) (Err w) refl refl refl refl (one_core name bytes _ _ a b)
 
-  pub one_source : (name : Text) (r : Reading) → IsOne (SourceStage name r)
+  pub one_source : (name : Text) (r : Reading) → HasOneEnd (SourceStage name r)
   one_source name r = after_is_one (Length source_limit name r) (TextStage name) (one_length source_limit name r) (λ bytes l. one_text name bytes)
 
   -- the source's tree
-  one_syntax : (name bytes : Text) → IsOne (SyntaxStage name bytes)
+  one_syntax : (name bytes : Text) → HasOneEnd (SyntaxStage name bytes)
   one_syntax name bytes = after_is_one (Lexing name bytes) (Parsing name bytes) (one_lexing name bytes) (λ ts l. one_parsing name bytes ts)
 
-  pub one_file : (name : Text) (r : Reading) → IsOne (FileStage name r)
+  pub one_file : (name : Text) (r : Reading) → HasOneEnd (FileStage name r)
   one_file name r = after_is_one (Length source_limit name r) (SyntaxStage name) (one_length source_limit name r) (λ bytes l. one_syntax name bytes)

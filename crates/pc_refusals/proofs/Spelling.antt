@@ -3,13 +3,13 @@ use Rattle.std.proofs.Common.{◌≡◌, ℕ, List, Ok, Err, sym, subst}
 use Rattle.std.specs.Prelude.{Result, codes}
 use Rattle.pc_token.specs.declared.kinds.Token.{Token}
 use Rattle.pc_tree.specs.Tree as t
-use Rattle.pc_lex.specs.Answers.{Refuses}
+use Rattle.pc_lex.specs.Answers.{RefusesTokens}
 use Rattle.pc_lex.specs.declared.fault.LexFault.{LexFault}
 use Rattle.pc_lex.specs.declared.fault.LexFault.TheVariants as fault
 use Rattle.pc_grammar.specs.FileAnswers.{IsFileAnswer, unexpected, too_deep}
 use Rattle.pc_expr.specs.Gives.{EndsWithEnd}
 use Rattle.pc_expr.specs.declared.fault.ParseFault.TheVariants as syntax
-use Rattle.pc_parse.specs.Answers.{Refuses as RefusesTree}
+use Rattle.pc_parse.specs.Answers.{RefusesFile as RefusesTree}
 use Rattle.pc_text_order.specs.Laws.{TokensEnd}
 use Rattle.pc_lists.specs.Texts.{Text}
 use Rattle.pc_refusals.specs.After.After.{stops, goes}
@@ -24,7 +24,7 @@ use Rattle.pc_refusals.specs.declared.stop.Stop.{Stop}
 use Rattle.pc_refusals.proofs.Stops.{memory_stops, refusal_stops, stops_as}
 
 -- a text that has no tokens
-pub lex_stops : (name bytes : Text) (f : LexFault) (s : Stop) → Refuses bytes f → IsLexStop name bytes f s → StageStops (Lexing name bytes) s
+pub lex_stops : (name bytes : Text) (f : LexFault) (s : Stop) → RefusesTokens bytes f → IsLexStop name bytes f s → StageStops (Lexing name bytes) s
 lex_stops name bytes (fault.BadByte p) s r h = refusal_stops (Lexing name bytes) _ _ s (faulty (fault.BadByte p) r) h
 lex_stops name bytes (fault.Unclosed p) s r h = refusal_stops (Lexing name bytes) _ _ s (faulty (fault.Unclosed p) r) h
 lex_stops name bytes (fault.BadNumber p) s r h = refusal_stops (Lexing name bytes) _ _ s (faulty (fault.BadNumber p) r) h

@@ -1,12 +1,12 @@
 -- The ranges of the statuses of refusals.
 use Rattle.std.proofs.Common.{◌≡◌, ◌≤◌, ◌⊎◌, ℕ, Err, inl, inr, refl, arith}
-use Rattle.pc_lex.specs.Pieces.{FirstFault}
+use Rattle.pc_lex.specs.Pieces.{FirstLexFault}
 use Rattle.pc_lex.specs.declared.fault.LexFault.{LexFault}
 use Rattle.pc_lex.specs.declared.fault.LexFault.TheVariants as fault
 use Rattle.pc_deriv.specs.Faults.{IsFault}
 use Rattle.pc_deriv.specs.declared.fault.DerivFault.{DerivFault}
 use Rattle.pc_deriv.specs.declared.fault.DerivFault.TheVariants as deriv
-use Rattle.pc_names.specs.Names.{OfFile}
+use Rattle.pc_names.specs.Names.{IsNotMemory}
 use Rattle.pc_names.specs.declared.fault.NameFault.{NameFault}
 use Rattle.pc_names.specs.declared.fault.NameFault.TheVariants as names
 use Rattle.pc_lists.specs.Texts.{Text}
@@ -33,7 +33,7 @@ use Rattle.pc_refusals.specs.declared.source.Source.{Source}
 abbrev pub IsOther : ℕ → Type 0
 IsOther status = (2 ≤ status) × (status ≤ 8)
 
-fault_other : (bytes : Text) (f : LexFault) → FirstFault bytes f → IsOther (fault_status f)
+fault_other : (bytes : Text) (f : LexFault) → FirstLexFault bytes f → IsOther (fault_status f)
 fault_other bytes (fault.BadByte p) h = (omega arith, omega arith)
 fault_other bytes (fault.Unclosed p) h = (omega arith, omega arith)
 fault_other bytes (fault.BadNumber p) h = (omega arith, omega arith)
@@ -46,7 +46,7 @@ text_other bytes (deriv.BadLine n) h = (omega arith, omega arith)
 text_other bytes deriv.TooMany h = (omega arith, omega arith)
 text_other bytes deriv.Memory h = absurd h
 
-name_other : (f : NameFault) → OfFile f → IsOther (name_status f)
+name_other : (f : NameFault) → IsNotMemory f → IsOther (name_status f)
 name_other (names.Double s) o = (omega arith, omega arith)
 name_other (names.Unknown s) o = (omega arith, omega arith)
 name_other names.NoMain o = (omega arith, omega arith)

@@ -1,7 +1,7 @@
 -- From a refusal to the stage that stops, whatever the stage.
 use Rattle.std.proofs.Common.{◌≡◌, ℕ, Err, sym, subst}
 use Rattle.std.specs.Prelude.{Result}
-use Rattle.pc_names.specs.Names.{OfFile}
+use Rattle.pc_names.specs.Names.{IsNotMemory}
 use Rattle.pc_names.specs.declared.fault.NameFault.{NameFault}
 use Rattle.pc_names.specs.declared.fault.NameFault.TheVariants as names
 use Rattle.pc_lists.specs.Texts.{Text}
@@ -31,7 +31,7 @@ stops_as One Two by Sink h = absurd h
 stops_as One Two by Memory h = tt
 
 -- by a fault of names, if it is the file's
-pub name_stops : {T : Type 0} (Stage : Result T Verdict → Type 0) (name bytes : Text) (f : NameFault) (s : Stop) → (OfFile f → Stage (Err (refused (name_status f) (name_line name bytes f)))) → IsNameStop name bytes f s
+pub name_stops : {T : Type 0} (Stage : Result T Verdict → Type 0) (name bytes : Text) (f : NameFault) (s : Stop) → (IsNotMemory f → Stage (Err (refused (name_status f) (name_line name bytes f)))) → IsNameStop name bytes f s
     → StageStops Stage s
 name_stops Stage name bytes (names.Double x) s make h = refusal_stops Stage _ _ s (make (λ (e : names.Double x ≡ names.Memory). cc)) h
 name_stops Stage name bytes (names.Unknown x) s make h = refusal_stops Stage _ _ s (make (λ (e : names.Unknown x ≡ names.Memory). cc)) h

@@ -1,7 +1,7 @@
 -- From the result of the inference to the stage of a core's annotation.
 use Rattle.std.proofs.Common.{Option, Err, sym, subst}
 use Rattle.std.specs.Prelude.{codes}
-use Rattle.pc_check.specs.Faults.{Refuses}
+use Rattle.pc_check.specs.Faults.{RefusesCore}
 use Rattle.pc_check.specs.declared.fault.CheckFault.{CheckFault}
 use Rattle.pc_check.specs.declared.fault.CheckFault.TheVariants as fault
 use Rattle.pc_core.specs.declared.declarations.Method.{Method}
@@ -19,7 +19,7 @@ use Rattle.pc_refusals.specs.declared.stop.Stop.{Stop}
 use Rattle.pc_refusals.proofs.Stops.{memory_stops, refusal_stops}
 
 -- if the inference stops
-pub core_stops : (name : Text) (source : Source) (f : CheckFault) (s : Stop) → Refuses source.core f → IsCoreStop name source f s → StageStops (Typing name source) s
+pub core_stops : (name : Text) (source : Source) (f : CheckFault) (s : Stop) → RefusesCore source.core f → IsCoreStop name source f s → StageStops (Typing name source) s
 core_stops name source (fault.Decl d) s r h = refusal_stops (Typing name source) 1 _ s (declared d r) h
 core_stops name source (fault.NoRule n l m ann) s r h =
     refusal_stops (Typing name source) 1 _ s

@@ -8,5 +8,5 @@ pub data After {T U : Type 0} (First : Result T Verdict → Type 0) (Next : T �
   goes : {x : T} {y : Result U Verdict} → First (Ok x) → Next x y → After First Next y
 
 -- Any two results of a stage are equal.
-abbrev pub IsOne : {T : Type 0} → (Result T Verdict → Type 0) → Type 0
-IsOne {T} Stage = (x y : Result T Verdict) → Stage x → Stage y → x ≡ y
+abbrev pub HasOneEnd : {T : Type 0} → (Result T Verdict → Type 0) → Type 0
+HasOneEnd {T} Stage = (x y : Result T Verdict) → Stage x → Stage y → x ≡ y

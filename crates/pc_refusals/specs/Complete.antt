@@ -1,7 +1,7 @@
 -- What is answered if nothing failed.
 use Rattle.std.specs.Prelude.{ℕ, ◌≡◌, ◌⊎◌}
 use Rattle.std.specs.Io.KnownBytes.{Appends}
-use Rattle.pc_io.specs.Sink.{Rose}
+use Rattle.pc_io.specs.Sink.{HasRisen}
 use Rattle.pc_lists.specs.Texts.{Text}
 use Rattle.pc_io.specs.Change.{Change}
 use Rattle.pc_refusals.specs.Verdict.{Verdict}
@@ -10,5 +10,5 @@ use Rattle.pc_refusals.specs.Verdict.{Verdict}
 -- out and its line on err; or memory ran out.
 abbrev pub Completes : (Verdict → Type 0) → (Text → Type 0) → Change → Change → ℕ → Type 0
 Completes V Failed out err status =
-    ((name : Text) → Failed name → ⊥) → (Rose out.faults_before out.faults_now → ⊥) → (Rose err.faults_before err.faults_now → ⊥)
+    ((name : Text) → Failed name → ⊥) → (HasRisen out.faults_before out.faults_now → ⊥) → (HasRisen err.faults_before err.faults_now → ⊥)
     → (status ≡ 11) ⊎ ((v : Verdict) × V v × (status ≡ v.status) × Appends out.before out.now v.out × Appends err.before err.now v.err)

@@ -5,13 +5,13 @@ use Rattle.pc_valid.specs.Valid.{Valid}
 use Rattle.pc_deriv.specs.Faults.{IsText, IsFault}
 use Rattle.pc_deriv.specs.declared.fault.DerivFault.{DerivFault}
 use Rattle.pc_deriv.specs.declared.fault.DerivFault.TheVariants as deriv
-use Rattle.pc_judge.specs.Faults.{FirstFault}
+use Rattle.pc_judge.specs.Faults.{FirstAnnotationFault}
 use Rattle.pc_judge.specs.declared.faults.JudgeFault.{JudgeFault}
 use Rattle.pc_judge.specs.declared.faults.JudgeFault.TheVariants as fault
 use Rattle.pc_lists.specs.Texts.{Text}
 use Rattle.pc_refusals.specs.After.{After}
 use Rattle.pc_refusals.specs.CoreFaults.{decl_offset, decl_text}
-use Rattle.pc_refusals.specs.Lines.{bad_line, many_line, shape_line, slot_line, node_line, unset_line}
+use Rattle.pc_refusals.specs.Lines.{bad_line, many_line, shape_line, slot_refusal_line, node_refusal_line, unset_line}
 use Rattle.pc_refusals.specs.Named.{Named, Reading}
 use Rattle.pc_refusals.specs.Refusal.{offset_line}
 use Rattle.pc_refusals.specs.Source.{Length}
@@ -51,10 +51,11 @@ DerivationStage name reading = After (Length derivation_limit name reading) (Der
 abbrev pub judge_line : Text → Text → Source → JudgeFault → Text
 judge_line source_name name source (fault.Decl f) = offset_line source_name source.bytes (decl_offset source.core f) (decl_text f)
 judge_line source_name name source fault.Shape = shape_line name
-judge_line source_name name source (fault.Slot n) = slot_line name n
-judge_line source_name name source (fault.Node n) = node_line name n
+judge_line source_name name source (fault.Slot n) = slot_refusal_line name n
+judge_line source_name name source (fault.Node n) = node_refusal_line name n
 judge_line source_name name source (fault.Unset m) = unset_line name m
 
 pub data Judging (source_name name : Text) (source : Source) (ann : Ann) : Result (Unit {0}) Verdict → Type 0 where
   holds : Valid source.core ann → Judging source_name name source ann (Ok tt)
-  fails : (f : JudgeFault) → FirstFault source.core ann f → Judging source_name name source ann (Err (refused 6 (judge_line source_name name source f)))
+  fails : (f : JudgeFault) → FirstAnnotationFault source.core ann f
+      → Judging source_name name source ann (Err (refused 6 (judge_line source_name name source f)))

@@ -1,9 +1,6 @@
 -- The lines on err, and the first line of `make`.
 use Rattle.std.specs.Prelude.{ℕ, [], ◌∷◌, ◌++◌, codes, decimal}
-use Rattle.pc_lists.specs.Texts.{Text}
-
-abbrev pub line_end : Text
-line_end = 10 ∷ []
+use Rattle.pc_lists.specs.Texts.{Text, line_end}
 
 abbrev pub usage_line : Text
 usage_line = codes "usage: rcap COMMAND ARGUMENT ..." ++ line_end
@@ -48,11 +45,11 @@ many_line name = name ++ (codes ": too many lines" ++ line_end)
 abbrev pub shape_line : Text → Text
 shape_line name = name ++ (codes ": shape" ++ line_end)
 
-abbrev pub slot_line : Text → ℕ → Text
-slot_line name n = name ++ (codes ": slot " ++ (decimal n ++ line_end))
+abbrev pub slot_refusal_line : Text → ℕ → Text
+slot_refusal_line name n = name ++ (codes ": slot " ++ (decimal n ++ line_end))
 
-abbrev pub node_line : Text → ℕ → Text
-node_line name n = name ++ (codes ": node " ++ (decimal n ++ line_end))
+abbrev pub node_refusal_line : Text → ℕ → Text
+node_refusal_line name n = name ++ (codes ": node " ++ (decimal n ++ line_end))
 
 abbrev pub unset_line : Text → ℕ → Text
 unset_line name n = name ++ (codes ": unset in method " ++ (decimal n ++ line_end))

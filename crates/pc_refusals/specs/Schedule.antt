@@ -1,7 +1,7 @@
 -- The stages of a schedule.
 use Rattle.std.specs.Prelude.{ℕ, List, Result, Ok, Err, codes}
 use Rattle.pc_sched.specs.Limits.{schedule_limit}
-use Rattle.pc_sched.specs.Schedules.{TurnList, FirstFault}
+use Rattle.pc_sched.specs.Schedules.{TurnList, FirstScheduleFault}
 use Rattle.pc_sched.specs.declared.fault.SchedFault.TheVariants.{BadWord, TooMany}
 use Rattle.pc_sched.specs.declared.turns.Turn.{Turn}
 use Rattle.pc_lists.specs.Texts.{Text}
@@ -14,8 +14,9 @@ use Rattle.pc_refusals.specs.Verdict.{Verdict, refused}
 -- Its turns: 7 at the first word that is not a turn, and 8 at the first turn too many.
 pub data Scheduling (name bytes : Text) : Result (List Turn) Verdict → Type 0 where
   scheduled : {turns : List Turn} → TurnList bytes turns → Scheduling name bytes (Ok turns)
-  bad_word : (at : ℕ) → FirstFault bytes (BadWord at) → Scheduling name bytes (Err (refused 7 (offset_line name bytes at (codes "bad word"))))
-  too_many : (at : ℕ) → FirstFault bytes (TooMany at) → Scheduling name bytes (Err (refused 8 (offset_line name bytes at (codes "too many steps"))))
+  bad_word : (at : ℕ) → FirstScheduleFault bytes (BadWord at) → Scheduling name bytes (Err (refused 7 (offset_line name bytes at (codes "bad word"))))
+  too_many : (at : ℕ) → FirstScheduleFault bytes (TooMany at)
+      → Scheduling name bytes (Err (refused 8 (offset_line name bytes at (codes "too many steps"))))
 
 -- Its length, and then its turns.
 abbrev pub ScheduleStage : Text → Reading → Result (List Turn) Verdict → Type 0

@@ -4,10 +4,10 @@ use Rattle.pc_tree.specs.Tree as t
 use Rattle.pc_token.specs.declared.kinds.Token.{Token}
 use Rattle.pc_grammar.specs.FileAnswers.{IsFileAnswer, spelled, unexpected, too_deep}
 use Rattle.pc_lex.specs.Answers.{TokenList}
-use Rattle.pc_lex.specs.Pieces.{FirstFault}
+use Rattle.pc_lex.specs.Pieces.{FirstLexFault}
 use Rattle.pc_lex.specs.declared.fault.LexFault.{LexFault}
 use Rattle.pc_core.specs.CoreData.{CoreData}
-use Rattle.pc_names.specs.Names.{OfFile, IsNameFault}
+use Rattle.pc_names.specs.Names.{IsNotMemory, IsNameFault}
 use Rattle.pc_names.specs.declared.fault.NameFault.{NameFault}
 use Rattle.pc_file_spec.specs.Cores.{Stands, IsElabFault}
 use Rattle.pc_refusals.specs.After.{After}
@@ -32,7 +32,7 @@ pub data Length (limit : ℕ) (name : Text) : Reading → Result Text Verdict �
 -- Its tokens: 3 at the first fault, or 8 if there are too many.
 pub data Lexing (name : Text) (bytes : Text) : Result (List Token) Verdict → Type 0 where
   lexed : {ts : List Token} → TokenList bytes ts → Lexing name bytes (Ok ts)
-  faulty : (f : LexFault) → FirstFault bytes f → Lexing name bytes (Err (refused (fault_status f) (fault_line name bytes f)))
+  faulty : (f : LexFault) → FirstLexFault bytes f → Lexing name bytes (Err (refused (fault_status f) (fault_line name bytes f)))
 
 -- Its tree: 3 at the first token that cannot continue a file, and 8 at the first that opens a level too many.
 pub data Parsing (name bytes : Text) (ts : List Token) : Result t.File Verdict → Type 0 where
@@ -45,8 +45,8 @@ pub data Parsing (name bytes : Text) (ts : List Token) : Result t.File Verdict �
 -- Its core: 4, or 8 if a limit is passed, at the first fault of its names, or else at the first fault of its methods.
 pub data Elaborating (name bytes : Text) (file : t.File) : Result CoreData Verdict → Type 0 where
   elaborated : {core : CoreData} → Stands file core → Elaborating name bytes file (Ok core)
-  misnamed : (f : NameFault) → OfFile f → IsNameFault file f → Elaborating name bytes file (Err (refused (name_status f) (name_line name bytes f)))
-  misused : (f : NameFault) → OfFile f → IsElabFault file f → Elaborating name bytes file (Err (refused (name_status f) (name_line name bytes f)))
+  misnamed : (f : NameFault) → IsNotMemory f → IsNameFault file f → Elaborating name bytes file (Err (refused (name_status f) (name_line name bytes f)))
+  misused : (f : NameFault) → IsNotMemory f → IsElabFault file f → Elaborating name bytes file (Err (refused (name_status f) (name_line name bytes f)))
 
 -- From its tokens to its core.
 abbrev pub TreeStage : Text → Text → List Token → Result CoreData Verdict → Type 0

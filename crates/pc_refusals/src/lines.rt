@@ -115,7 +115,7 @@ pub fn make_shape_line(alloc: Global, name: &str) -> Result<Bytes, AllocError>
 
 /// `NAME: slot N`, with a line end.
 pub fn make_slot_line(alloc: Global, name: &str, number: u32) -> Result<Bytes, AllocError>
-    ensures { IfOk result (λ line. line ≡ spec.slot_line name.now number) }
+    ensures { IfOk result (λ line. line ≡ spec.slot_refusal_line name.now number) }
 {
     let text = format!(in alloc; "{name}: slot {number}\n")?;
     Bytes::copy_of(alloc, text.as_bytes())
@@ -123,7 +123,7 @@ pub fn make_slot_line(alloc: Global, name: &str, number: u32) -> Result<Bytes, A
 
 /// `NAME: node N`, with a line end.
 pub fn make_node_line(alloc: Global, name: &str, number: u32) -> Result<Bytes, AllocError>
-    ensures { IfOk result (λ line. line ≡ spec.node_line name.now number) }
+    ensures { IfOk result (λ line. line ≡ spec.node_refusal_line name.now number) }
 {
     let text = format!(in alloc; "{name}: node {number}\n")?;
     Bytes::copy_of(alloc, text.as_bytes())

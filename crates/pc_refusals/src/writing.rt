@@ -2,7 +2,7 @@
 ghost use Rattle.std.specs.Prelude.{◌≤◌};
 ghost use Rattle.pc_io.specs.Change.{change};
 ghost use Rattle.pc_refusals.specs.Inner.Answering.{Puts};
-ghost use Rattle.pc_refusals.specs.Inner.Stages.{Wrote};
+ghost use Rattle.pc_refusals.specs.Inner.Stages.{StageWrote};
 
 use crate::stop::Stop;
 use pc_caps::List;
@@ -11,7 +11,7 @@ use pc_io::{Sink, SinkFault};
 /// Writes a text in one call of `put`.
 pub fn put_text<O: Sink>(out: &mut O, text: &[u8]) -> Result<(), Stop>
     ensures later { O.faults out.old ≤ O.faults out.new }
-    ensures wrote { Wrote text.now (change (O.written out.old) (O.written out.new) (O.faults out.old) (O.faults out.new)) result }
+    ensures wrote { StageWrote text.now (change (O.written out.old) (O.written out.new) (O.faults out.old) (O.faults out.new)) result }
 {
     match out.put(text) {
         Ok(()) => Ok(()),

@@ -12,9 +12,9 @@ use Rattle.pc_ann.specs.declared.annotation.Ann.{Ann}
 use Rattle.pc_semantics.specs.declared.frames.Task.{Task}
 use Rattle.pc_semantics.specs.declared.frames.Task.TheVariants as task
 use Rattle.pc_semantics.specs.Children.{evaluations}
-use Rattle.pc_semantics.specs.Evaluation.{items}
+use Rattle.pc_semantics.specs.Evaluation.{item_tasks}
 use Rattle.pc_rules.specs.Parts.{through, type_of, last_child}
-use Rattle.pc_valid.specs.Words.{Ty, Masks, after}
+use Rattle.pc_valid.specs.Words.{Ty, Masks, masks_after}
 use Rattle.pc_types.proofs.Tasks.{Within}
 use Rattle.pc_regions.proofs.StackForms.{Entry, Shallow, Ascent, Climbs, top_of, SlotsShallow, entry_of, piled, uses_top, EvalRises, TasksRise, LiveShallow}
 use Rattle.pc_types.proofs.Basic.{within_same, within_trans}
@@ -29,7 +29,7 @@ abbrev pub at_depth : ℕ → Option Ty → Entry
 at_depth d t = record { ty = t; depth = d }
 
 -- The items of a sequence begin with an evaluation.
-calm_items : (x : ℕ) (cs : List ℕ) (ts : List Task) → uses_top (items (x ∷ cs) ++ ts) ≡ false
+calm_items : (x : ℕ) (cs : List ℕ) (ts : List Task) → uses_top (item_tasks (x ∷ cs) ++ ts) ≡ false
 calm_items x [] ts = refl
 calm_items x (c ∷ cs) ts = refl
 
@@ -77,17 +77,18 @@ module _ (core : CoreData) (ann : Ann) (flat : LiveShallow core ann) (m d : ℕ)
       let f = first_of_them ann c cs n k e in
       inl (whole_rises c f.note l g (λ d2 l2 g2. TasksRise core ann m (evaluations cs ++ ts) d2 l2 g2) (children 0 c refl) f.is_note
       (within_trans f.note.live_before n.0 l (within_is f.note.live_before n.0 (ap (λ (q : Masks). q.0) f.starts)) wl) low
-      (evaluations_rise cs ts (after f.note) k f.note.live_after (at_depth d (type_of ann c) ∷ g) (λ i x h. children (suc i) x h) f.rest (within_same f.note.live_after) (omega arith, low) next))
+      (evaluations_rise cs ts (masks_after f.note) k f.note.live_after (at_depth d (type_of ann c) ∷ g) (λ i x h. children (suc i) x h) f.rest (within_same f.note.live_after) (omega arith, low) next))
 
   -- The items of a sequence: the value of the last one goes this way.
   pub items_rise : (cs : List ℕ) (ts : List Task) (n k : Masks) (l : Mask) (g : List Entry) (last : ℕ) (u : Note) (live : Mask) (way : List Ascent) → Each (λ i c. IsAt core m d c) cs → through ann cs n ≡ Some k
       → last_child cs ≡ Some last → slice_get ann.notes last ≡ Some u → Within n.0 l → Shallow g d → Within live k.0 → Climbs core way (at_depth d u.ty) → Shallow g (top_of way (at_depth d u.ty)).depth → SlotsShallow core m live (top_of way (at_depth d u.ty)).depth
-      → TasksRise core ann m ts (top_of way (at_depth d u.ty)).depth live (top_of way (at_depth d u.ty) ∷ g) → TasksRise core ann m (items cs ++ ts) d l g
+      → TasksRise core ann m ts (top_of way (at_depth d u.ty)).depth live (top_of way (at_depth d u.ty) ∷ g)
+          → TasksRise core ann m (item_tasks cs ++ ts) d l g
   items_rise [] ts n k l g last u live way children e il at wl low ll climbs deep slots next = absurd (none-some last il)
   items_rise (c ∷ []) ts n k l g last u live way children e il at wl low ll climbs deep slots next =
       let f = first_of_them ann c [] n k e in
       let is : u ≡ f.note = same_Some u f.note (sym at ∙ ap (slice_get ann.notes) (sym (same_Some c last il)) ∙ f.is_note) in
-      let end : k ≡ after f.note = same_Some k (after f.note) (sym f.rest) in
+      let end : k ≡ masks_after f.note = same_Some k (masks_after f.note) (sym f.rest) in
       inl (child_rises c f.note l g (λ d2 l2 g2. TasksRise core ann m ts d2 l2 g2) (children 0 c refl) f.is_note
       (within_trans f.note.live_before n.0 l (within_is f.note.live_before n.0 (ap (λ (q : Masks). q.0) f.starts)) wl)
       live way (within_trans live k.0 f.note.live_after ll (within_is k.0 f.note.live_after (ap (λ (q : Masks). q.0) end)))
@@ -97,12 +98,12 @@ module _ (core : CoreData) (ann : Ann) (flat : LiveShallow core ann) (m d : ℕ)
   items_rise (c ∷ x ∷ cs) ts n k l g last u live way children e il at wl low ll climbs deep slots next =
       let f = first_of_them ann c (x ∷ cs) n k e in
       let more : last_child (x ∷ cs) ≡ Some last = sym (last_next c x cs) ∙ il in
-      inl (whole_rises c f.note l g (λ d2 l2 g2. TasksRise core ann m (task.Discard ∷ items (x ∷ cs) ++ ts) d2 l2 g2) (children 0 c refl) f.is_note
+      inl (whole_rises c f.note l g (λ d2 l2 g2. TasksRise core ann m (task.Discard ∷ item_tasks (x ∷ cs) ++ ts) d2 l2 g2) (children 0 c refl) f.is_note
       (within_trans f.note.live_before n.0 l (within_is f.note.live_before n.0 (ap (λ (q : Masks). q.0) f.starts)) wl) low
       (record {
         calm = calm_items x cs ts;
         top = at_depth d (type_of ann c);
         below = g;
         stack = refl;
-        next = items_rise (x ∷ cs) ts (after f.note) k f.note.live_after g last u live way (λ i y h. children (suc i) y h) f.rest more at (within_same f.note.live_after) low ll climbs deep slots next;
+        next = items_rise (x ∷ cs) ts (masks_after f.note) k f.note.live_after g last u live way (λ i y h. children (suc i) y h) f.rest more at (within_same f.note.live_after) low ll climbs deep slots next;
       }))

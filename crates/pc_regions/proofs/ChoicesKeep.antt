@@ -16,7 +16,7 @@ use Rattle.pc_semantics.specs.declared.frames.Task.{Task}
 use Rattle.pc_semantics.specs.declared.frames.Task.TheVariants as task
 use Rattle.pc_semantics.specs.Around.{Around, Move, Goes, with_stack, pushed, with_top, none}
 use Rattle.pc_semantics.specs.Tasks.{at_node}
-use Rattle.pc_semantics.specs.Choices.{truth, right_side, test_and, test_or, test_task, branch, branch_task, turn, loop_task}
+use Rattle.pc_semantics.specs.Choices.{truth, right_side, test_and, test_or, test_task, branch, branch_task, loop_turn, loop_task}
 use Rattle.pc_valid.specs.Words.{Ty}
 use Rattle.pc_lists.proofs.Bools.{false_true}
 use Rattle.pc_types.proofs.Types.{OfType, Want, StackOk}
@@ -123,14 +123,15 @@ module _ (core : CoreData) (ann : Ann) (needs : Needs core ann) (climb : ClimbLa
         (by_value b rest (branch e.node.children) at (subst (λ (cs : List ℕ). RegionMoveOk core ann w around fs (branch cs b (with_stack f rest))) (sym e.children) (branch_by b at)))
 
   module _ (n : ℕ) (e : LoopRises core ann f.method d live g n (λ d l g. TasksRise core ann f.method f.tasks d l g)) (rest : List Value) where
-    turn_by : (b : Bool) → f.stack ≡ Truth b ∷ rest → RegionMoveOk core ann w around fs (turn n (e.condition ∷ e.body ∷ []) b (with_stack f rest))
+    turn_by : (b : Bool) → f.stack ≡ Truth b ∷ rest
+        → RegionMoveOk core ann w around fs (loop_turn n (e.condition ∷ e.body ∷ []) b (with_stack f rest))
     turn_by true at = over_rest e.top e.below e.stack (Truth true) rest at (task.Eval e.body ∷ task.Discard ∷ task.Eval n ∷ f.tasks) (inl e.turn) refl
     turn_by false at = pushed_over e.top e.below e.stack (Truth false) rest at e.node e.note (0, form.Val) none e.depth e.ty e.live (record { entity = 0; is_entity = refl; below = inl refl; kind = inl refl; finished = λ h. tt }) tt tt e.ended
 
     pub loop_goes : (b : Bool) → f.stack ≡ Truth b ∷ rest → RegionMoveOk core ann w around fs (at_node (slice_get core.nodes n) (λ x. loop_task f n x.children))
     loop_goes b at =
         subst (λ (o : Option Node). RegionMoveOk core ann w around fs (at_node o (λ x. loop_task f n x.children))) (sym e.is_node)
-        (by_value b rest (turn n e.node.children) at (subst (λ (cs : List ℕ). RegionMoveOk core ann w around fs (turn n cs b (with_stack f rest))) (sym e.children) (turn_by b at)))
+        (by_value b rest (loop_turn n e.node.children) at (subst (λ (cs : List ℕ). RegionMoveOk core ann w around fs (loop_turn n cs b (with_stack f rest))) (sym e.children) (turn_by b at)))
 
   pub discard_goes : DiscardRises g (uses_top f.tasks) (λ g. TasksRise core ann f.method f.tasks d live g) → (v : Value) (rest : List Value) → f.stack ≡ v ∷ rest → RegionMoveOk core ann w around fs (with_top f f.stack (λ v g. Goes g))
   discard_goes e v rest at =

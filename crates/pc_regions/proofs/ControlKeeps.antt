@@ -27,10 +27,10 @@ use Rattle.pc_semantics.specs.declared.frames.Task.{Task}
 use Rattle.pc_semantics.specs.declared.frames.Task.TheVariants as task
 use Rattle.pc_semantics.specs.Around.{Around, Goes, doing}
 use Rattle.pc_semantics.specs.Children.{evaluations}
-use Rattle.pc_semantics.specs.Evaluation.{children_first, first_then, items}
+use Rattle.pc_semantics.specs.Evaluation.{children_first, first_then, item_tasks}
 use Rattle.pc_rules.specs.Parts.{lower, through, type_of, last_child}
-use Rattle.pc_valid.specs.Words.{Ty, Masks, before, after}
-use Rattle.pc_rules.specs.Control.{joined, gives, result_ok}
+use Rattle.pc_valid.specs.Words.{Ty, Masks, before, masks_after}
+use Rattle.pc_rules.specs.Control.{joined, gives_result, result_ok}
 use Rattle.pc_core.proofs.Homes.{home, home_method}
 use Rattle.pc_rules.proofs.Homes.{home_body, children_before}
 use Rattle.pc_lists.proofs.Bools.{false_true}
@@ -90,7 +90,7 @@ module _ (core : CoreData) (ann : Ann) (needs : Needs core ann) where
   other_joins d (Some a) None = tt
 
   -- What a function's body gives is below its result.
-  gives_below : (t : Ty) (o : Option Ty) → gives core t o ≡ true → (v : Ty) × (o ≡ Some v) × Below core v t
+  gives_below : (t : Ty) (o : Option Ty) → gives_result core t o ≡ true → (v : Ty) × (o ≡ Some v) × Below core v t
   gives_below t None e = absurd (false_true e)
   gives_below t (Some v) e = (v, refl, below_is v t e)
 
@@ -177,7 +177,7 @@ module _ (core : CoreData) (ann : Ann) (needs : Needs core ann) (flat : LiveShal
     -- A first child from the masks of the note.
     head_rises : (c : ℕ) (behind : Masks) (ts : List Task) → IsAt core f.method d c → (u : First ann c [] (before e.note) behind) → TasksRise core ann f.method ts d behind.0 (at_depth d (type_of ann c) ∷ g) → EvalRises core ann f.method d s.active.holds.live g c (λ d l g. TasksRise core ann f.method ts d l g)
     head_rises c behind ts child u next =
-        let end : behind ≡ after u.note = sym (same_Some (after u.note) behind u.rest) in
+        let end : behind ≡ masks_after u.note = sym (same_Some (masks_after u.note) behind u.rest) in
         whole_rises core ann flat f.method d c u.note s.active.holds.live g (λ d l g. TasksRise core ann f.method ts d l g) child u.is_note
         (within_trans u.note.live_before e.note.live_before s.active.holds.live (within_is u.note.live_before e.note.live_before (ap (λ (m : Masks). m.0) u.starts)) e.live) s.active.shallow
         (subst (λ (m : Masks). TasksRise core ann f.method ts d m.0 (at_depth d (type_of ann c) ∷ g)) end next)
@@ -187,7 +187,7 @@ module _ (core : CoreData) (ann : Ann) (needs : Needs core ann) (flat : LiveShal
         → EvalRises core ann f.method j l g c (λ d l g. TasksRise core ann f.method f.tasks d l g)
     tail_rises c from behind l j a child u wl left may is =
         let o = e.follows in
-        let end : behind ≡ after u.note = sym (same_Some (after u.note) behind u.rest) in
+        let end : behind ≡ masks_after u.note = sym (same_Some (masks_after u.note) behind u.rest) in
         child_rises core ann flat f.method j c u.note l g (λ d l g. TasksRise core ann f.method f.tasks d l g) child u.is_note
         (within_trans u.note.live_before from.0 l (within_is u.note.live_before from.0 (ap (λ (m : Masks). m.0) u.starts)) wl)
         o.live (a ∷ o.way) (within_trans o.live behind.0 u.note.live_after left (within_is behind.0 u.note.live_after (ap (λ (m : Masks). m.0) end)))
@@ -265,7 +265,7 @@ module _ (core : CoreData) (ann : Ann) (needs : Needs core ann) (flat : LiveShal
     while_goes is q =
         let u = first_of_them ann q.condition [] (before e.note) q.behind q.is_behind in
         let b = first_of_them ann q.body [] q.behind q.behind_body q.is_body in
-        let end : q.behind_body ≡ after b.note = sym (same_Some (after b.note) q.behind_body b.rest) in
+        let end : q.behind_body ≡ masks_after b.note = sym (same_Some (masks_after b.note) q.behind_body b.rest) in
         let live : Within e.note.live_before b.note.live_after = within_trans e.note.live_before q.behind_body.0 b.note.live_after ((within_bits e.note.live_before q.behind_body.0).0 q.keeps_live) (within_is q.behind_body.0 b.note.live_after (ap (λ (m : Masks). m.0) end)) in
         let again : EvalRises core ann f.method d b.note.live_after g n (λ d l g. TasksRise core ann f.method f.tasks d l g) = record {
           node = e.node;
@@ -302,7 +302,8 @@ module _ (core : CoreData) (ann : Ann) (needs : Needs core ann) (flat : LiveShal
 
     -- ---- sequences
 
-    pub seq_goes : e.node.kind ≡ nodes.Seq → SeqRule core ann e.node e.note → RegionMoveOk core ann w around fs (Goes (doing f (items e.node.children)))
+    pub seq_goes : e.node.kind ≡ nodes.Seq → SeqRule core ann e.node e.note
+        → RegionMoveOk core ann w around fs (Goes (doing f (item_tasks e.node.children)))
     seq_goes is q =
         let o = e.follows in
         let at : at_depth d q.note.ty ≡ entry_of e.node e.note = entry_at q.note.ty q.says.ty in
@@ -312,9 +313,10 @@ module _ (core : CoreData) (ann : Ann) (needs : Needs core ann) (flat : LiveShal
         (subst (λ (x : Entry). SlotsShallow core f.method o.live (top_of o.way x).depth) (sym at) o.slots)
         (subst (λ (x : Entry). TasksRise core ann f.method f.tasks (top_of o.way x).depth o.live (top_of o.way x ∷ g)) (sym at) o.next)
         in
-        evaluates core ann around f (task.Eval n ∷ f.tasks) fs w s (items e.node.children ++ f.tasks) all (calm_sequence e.node.children q.last q.is_last)
+        evaluates core ann around f (task.Eval n ∷ f.tasks) fs w s (item_tasks e.node.children ++ f.tasks) all
+            (calm_sequence e.node.children q.last q.is_last)
       where
-        calm_sequence : (cs : List ℕ) (last : ℕ) → last_child cs ≡ Some last → uses_top (items cs ++ f.tasks) ≡ false
+        calm_sequence : (cs : List ℕ) (last : ℕ) → last_child cs ≡ Some last → uses_top (item_tasks cs ++ f.tasks) ≡ false
         calm_sequence [] last il = absurd (none-some last il)
         calm_sequence (c ∷ []) last il = refl
         calm_sequence (c ∷ x ∷ cs) last il = refl

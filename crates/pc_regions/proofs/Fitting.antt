@@ -18,7 +18,7 @@ use Rattle.pc_core.specs.declared.nodes.Slot.{Slot}
 use Rattle.pc_core.specs.CoreData.{CoreData}
 use Rattle.pc_masks.specs.declared.mask.Mask.{Mask}
 use Rattle.pc_ann.specs.declared.annotation.Ann.{Ann}
-use Rattle.pc_masks.specs.Masks.{IsIn}
+use Rattle.pc_masks.specs.Masks.{IsInMask}
 use Rattle.pc_semantics.specs.declared.actors.Actor.{Actor}
 use Rattle.pc_semantics.specs.declared.frames.Frame.{Frame}
 use Rattle.pc_semantics.specs.declared.mailbox.Message.{Message}
@@ -39,7 +39,7 @@ ThisFits core w i h m base slots =
 -- Each other live slot holds what fits the slot's capability, at the level of the slot's depth.
 abbrev pub SlotsFit : CoreData → Ann → World → ℕ → ℕ → ℕ → ℕ → Mask → List (Option Value) → Type 0
 SlotsFit core ann w i h m base live slots =
-    (s : ℕ) → 0 < s → IsIn live s → (v : Value) → slice_get slots s ≡ Some (Some v) → (y : Slot × (ℕ × Cap)) → slot_of core ann m s ≡ Some y
+    (s : ℕ) → 0 < s → IsInMask live s → (v : Value) → slice_get slots s ≡ Some (Some v) → (y : Slot × (ℕ × Cap)) → slot_of core ann m s ≡ Some y
     → Fits w (InSlot i h s (base + y.0.depth)) (unalias y.1.1) v
 
 abbrev pub StackFits : World → ℕ → ℕ → ℕ → List Entry → List Value → Type 0

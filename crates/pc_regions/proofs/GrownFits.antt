@@ -14,7 +14,7 @@ use Rattle.pc_core.specs.CoreData.{CoreData}
 use Rattle.pc_masks.specs.declared.mask.Mask.{Mask}
 use Rattle.pc_ann.specs.declared.annotation.Ann.{Ann}
 use Rattle.pc_semantics.specs.declared.frames.Frame.{Frame}
-use Rattle.pc_semantics.specs.Configurations.{blank_object, fields_in}
+use Rattle.pc_semantics.specs.Configurations.{blank_object, number_of_fields}
 use Rattle.pc_lists.proofs.Bools.{false_true}
 use Rattle.pc_regions.proofs.World.{Place, InSlot, OnStack, InField, InMail, Opened, World, Over, Fits}
 use Rattle.pc_regions.proofs.StackForms.{Entry}
@@ -55,7 +55,7 @@ module _ (w w' : World) (objects : ObjectMap) (count : ℕ) (x : Grows w w' obje
   pub fields_grown : (core : CoreData) (a : Address) (d : ℕ) → FieldsFit core w objects → FieldsFit core w' (insert objects a (blank_object core d))
   fields_grown core a d fit b o e k f v at is g h =
       elim (put_or_before objects a (blank_object core d) b o at) [
-        | inl p ↦ absurd (no_value core (fields_in (slice_get core.entities d)) k v (ap (λ (y : Object). slice_get y.fields k) (sym p.1) ∙ h))
+        | inl p ↦ absurd (no_value core (number_of_fields (slice_get core.entities d)) k v (ap (λ (y : Object). slice_get y.fields k) (sym p.1) ∙ h))
         | inr p ↦ x.fits (InField b k) (unalias f.cap) v (o, p) (fit b o e k f v p is g h)
       ]
 

@@ -19,7 +19,7 @@ use Rattle.pc_masks.specs.declared.mask.Mask.{Mask}
 use Rattle.pc_ann.specs.declared.annotation.Ann.{Ann}
 use Rattle.pc_semantics.specs.declared.frames.Frame.{Frame}
 use Rattle.pc_semantics.specs.declared.frames.Task.TheVariants as task
-use Rattle.pc_semantics.specs.Around.{Around, none, entity_of}
+use Rattle.pc_semantics.specs.Around.{Around, none, value_entity}
 use Rattle.pc_semantics.specs.Calls.{invoke_task, truth_text}
 use Rattle.pc_sub.specs.Declarations.{takes_sendable}
 use Rattle.pc_rules.specs.Parts.{through, type_of}
@@ -85,7 +85,7 @@ module _ (settle : SettleLaw) (core : CoreData) (climb : ClimbLaw core) (ann : A
       let actor = actor_of_be own.kind owner.owner.kind be owner.placed (own_no_trait core ann needs h own.entity owner.owner c.this kind is_entity owner.is_owner) in
       let at = is_address core ann needs h own.entity owner.owner c.this kind is_entity owner.is_owner (ap may_have_fields actor) in
       let a : Address = at.0 in
-      let class : class_at h a ≡ Some own.entity = subst (λ (v : Value). entity_of h v ≡ Some own.entity) at.1 is_entity in
+      let class : class_at h a ≡ Some own.entity = subst (λ (v : Value). value_entity h v ≡ Some own.entity) at.1 is_entity in
       let place = actor_place core h around.actors a own.entity owner.owner r.objects class owner.is_owner actor in
       let there : a.maker < around.actors = place.0 in
       let serial : a.serial ≡ 0 = place.1 in

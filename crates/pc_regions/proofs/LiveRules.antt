@@ -18,11 +18,11 @@ use Rattle.pc_ann.specs.declared.annotation.Note.{Note}
 use Rattle.pc_ann.specs.declared.annotation.Ann.{Ann}
 use Rattle.pc_ann.specs.declared.annotation.Rule.{Rule}
 use Rattle.pc_ann.specs.declared.annotation.Rule.TheVariants as rule
-use Rattle.pc_masks.specs.Masks.{IsIn, with_number, without_number, meet}
+use Rattle.pc_masks.specs.Masks.{IsInMask, with_number, without_number, meet}
 use Rattle.pc_masks.specs.MaskLaws.{meet_bits, with_number_bits, without_number_bits}
 use Rattle.pc_rules.specs.declared.said.Said.{Said}
 use Rattle.pc_rules.specs.Parts.{says_of, through, type_of, one_child}
-use Rattle.pc_valid.specs.Words.{Ty, Masks, before, after, Defines}
+use Rattle.pc_valid.specs.Words.{Ty, Masks, before, masks_after, Defines}
 use Rattle.pc_rules.specs.Values.{defines, old_value, assigns}
 use Rattle.pc_rules.specs.Fields.{own_field, field_type, old_type}
 use Rattle.pc_rules.specs.Control.{without_definition, without_item, without_items, recovered}
@@ -40,32 +40,32 @@ pub record BehindChild (ann : Ann) (cs : List ℕ) (j s : ℕ) : Type 0 where
   pub is_child : slice_get cs j ≡ Some child
   pub note : Note
   pub is_note : slice_get ann.notes child ≡ Some note
-  pub live : IsIn note.live_after s
+  pub live : IsInMask note.live_after s
 
 -- It is live before them, or after one of them.
 abbrev pub Remains : Ann → List ℕ → Mask → ℕ → Type 0
-Remains ann cs l s = IsIn l s ⊎ ((j : ℕ) × BehindChild ann cs j s)
+Remains ann cs l s = IsInMask l s ⊎ ((j : ℕ) × BehindChild ann cs j s)
 
 -- What is live after children that are evaluated one after another.
-pub through_remains : (ann : Ann) (cs : List ℕ) (m n : Masks) (s : ℕ) → through ann cs m ≡ Some n → IsIn n.0 s → Remains ann cs m.0 s
-through_remains ann [] m n s e h = inl (subst (λ (k : Masks). IsIn k.0 s) (sym (same_Some m n e)) h)
+pub through_remains : (ann : Ann) (cs : List ℕ) (m n : Masks) (s : ℕ) → through ann cs m ≡ Some n → IsInMask n.0 s → Remains ann cs m.0 s
+through_remains ann [] m n s e h = inl (subst (λ (k : Masks). IsInMask k.0 s) (sym (same_Some m n e)) h)
 through_remains ann (c ∷ cs) m n s e h =
     let f = first_of_them ann c cs m n e in
-    elim (through_remains ann cs (after f.note) n s f.rest h) [
+    elim (through_remains ann cs (masks_after f.note) n s f.rest h) [
       | inl l ↦ inr (0, record { child = c; is_child = refl; note = f.note; is_note = f.is_note; live = l })
       | inr q ↦ inr (suc q.0, record { child = q.1.child; is_child = q.1.is_child; note = q.1.note; is_note = q.1.is_note; live = q.1.live })
     ]
 
 -- What is live after one child.
-one_behind : (ann : Ann) (c : ℕ) (m n : Masks) (s : ℕ) → through ann (c ∷ []) m ≡ Some n → IsIn n.0 s → (u : Note) × (slice_get ann.notes c ≡ Some u) × IsIn u.live_after s
+one_behind : (ann : Ann) (c : ℕ) (m n : Masks) (s : ℕ) → through ann (c ∷ []) m ≡ Some n → IsInMask n.0 s → (u : Note) × (slice_get ann.notes c ≡ Some u) × IsInMask u.live_after s
 one_behind ann c m n s e h =
     let f = first_of_them ann c [] m n e in
-    (f.note, f.is_note, subst (λ (k : Masks). IsIn k.0 s) (sym (same_Some (after f.note) n f.rest)) h)
+    (f.note, f.is_note, subst (λ (k : Masks). IsInMask k.0 s) (sym (same_Some (masks_after f.note) n f.rest)) h)
 
 -- ---- what a rule states
 
 by_said : (ty : Option Ty) (n : Masks) (q : Said) → Some (says_of ty n) ≡ Some q → Within q.live n.0
-by_said ty n q e s h = subst (λ (p : Said). IsIn p.live s) (sym (same_Some (says_of ty n) q e)) h
+by_said ty n q e s h = subst (λ (p : Said). IsInMask p.live s) (sym (same_Some (says_of ty n) q e)) h
 
 -- Under a condition.
 if_said : (b : Bool) (ty : Option Ty) (n : Masks) (q : Said) → cond b (Some (says_of ty n)) None ≡ Some q → Within q.live n.0
@@ -75,7 +75,7 @@ if_said b ty n q e = by_said ty n q (kept b (Some (says_of ty n)) q e).1
 abbrev pub Sets : NodeKind → ℕ → Type 0
 Sets k s = (k ≡ node.Define s) ⊎ (k ≡ node.Assign s)
 
-module _ (core : CoreData) (ann : Ann) (x : Node) (m : Masks) (q : Said) (s : ℕ) (live : IsIn q.live s) where
+module _ (core : CoreData) (ann : Ann) (x : Node) (m : Masks) (q : Said) (s : ℕ) (live : IsInMask q.live s) where
   -- The last step of a rule looks at the masks after the children.
   ends : (f : Masks → Option Said) → (through ann x.children m >>= f) ≡ Some q → ((n : Masks) → f n ≡ Some q → Within q.live n.0) → Remains ann x.children m.0 s
   ends f e within =
@@ -198,30 +198,30 @@ module _ (core : CoreData) (ann : Ann) (x : Node) (m : Masks) (q : Said) (s : �
 
 -- ---- control
 
-module _ (core : CoreData) (ann : Ann) (x : Node) (t : Note) (s : ℕ) (live : IsIn t.live_after s) where
+module _ (core : CoreData) (ann : Ann) (x : Node) (t : Note) (s : ℕ) (live : IsInMask t.live_after s) where
   -- A child with this index, after which the masks have the slot.
-  behind_one : (j c : ℕ) (cs : List ℕ) (m n : Masks) → x.children ≡ cs → slice_get cs j ≡ Some c → through ann (c ∷ []) m ≡ Some n → IsIn n.0 s → Remains ann x.children t.live_before s
+  behind_one : (j c : ℕ) (cs : List ℕ) (m n : Masks) → x.children ≡ cs → slice_get cs j ≡ Some c → through ann (c ∷ []) m ≡ Some n → IsInMask n.0 s → Remains ann x.children t.live_before s
   behind_one j c cs m n are at e h =
       let u = one_behind ann c m n s e h in
       inr (j, record { child = c; is_child = ap (λ (ds : List ℕ). slice_get ds j) are ∙ at; note = u.0; is_note = u.1; live = u.2 })
 
   lazy_remains : LazyRule core ann x t → Remains ann x.children t.live_before s
   lazy_remains r =
-      let both : IsIn (meet r.behind_left.0 r.behind.0) s = subst (λ (l : Mask). IsIn l s) r.says.live live in
+      let both : IsInMask (meet r.behind_left.0 r.behind.0) s = subst (λ (l : Mask). IsInMask l s) r.says.live live in
       behind_one 1 r.right (r.left ∷ r.right ∷ []) r.behind_left r.behind r.children refl r.is_behind ((meet_bits r.behind_left.0 r.behind.0 s).0 both).1
 
   if_remains : IfRule core ann x t → Remains ann x.children t.live_before s
   if_remains r =
-      let both : IsIn (meet r.behind_then.0 r.behind_else.0) s = subst (λ (l : Mask). IsIn l s) r.says.live live in
+      let both : IsInMask (meet r.behind_then.0 r.behind_else.0) s = subst (λ (l : Mask). IsInMask l s) r.says.live live in
       behind_one 2 r.else_branch (r.condition ∷ r.then_branch ∷ r.else_branch ∷ []) r.behind r.behind_else r.children refl r.is_else ((meet_bits r.behind_then.0 r.behind_else.0 s).0 both).1
 
   while_remains : WhileRule core ann x t → Remains ann x.children t.live_before s
-  while_remains r = behind_one 0 r.condition (r.condition ∷ r.body ∷ []) (before t) r.behind r.children refl r.is_behind (subst (λ (l : Mask). IsIn l s) r.says.live live)
+  while_remains r = behind_one 0 r.condition (r.condition ∷ r.body ∷ []) (before t) r.behind r.children refl r.is_behind (subst (λ (l : Mask). IsInMask l s) r.says.live live)
 
   seq_remains : SeqRule core ann x t → Remains ann x.children t.live_before s
   seq_remains r =
       through_remains ann x.children (before t) r.behind s r.is_behind
-      (items_less core x.children r.behind.0 s (subst (λ (l : Mask). IsIn l s) r.says.live live))
+      (items_less core x.children r.behind.0 s (subst (λ (l : Mask). IsInMask l s) r.says.live live))
 
   -- ---- each rule
 
@@ -269,20 +269,20 @@ module _ (core : CoreData) (ann : Ann) (x : Node) (t : Note) (s : ℕ) (live : I
 
 -- ---- sequences
 
-definition_out : (i : ℕ) (k : NodeKind) (l : Mask) → k ≡ node.Define i → IsIn (without_definition k l) i → ⊥
-definition_out i k l e h = ((without_number_bits l i i).0 (subst (λ (j : NodeKind). IsIn (without_definition j l) i) e h)).0 refl
+definition_out : (i : ℕ) (k : NodeKind) (l : Mask) → k ≡ node.Define i → IsInMask (without_definition k l) i → ⊥
+definition_out i k l e h = ((without_number_bits l i i).0 (subst (λ (j : NodeKind). IsInMask (without_definition j l) i) e h)).0 refl
 
 -- What an item defines is taken out.
-items_out : (core : CoreData) (cs : List ℕ) (l : Mask) (i c j : ℕ) (y : Node) → slice_get cs j ≡ Some c → slice_get core.nodes c ≡ Some y → y.kind ≡ node.Define i → IsIn (without_items core cs l) i → ⊥
+items_out : (core : CoreData) (cs : List ℕ) (l : Mask) (i c j : ℕ) (y : Node) → slice_get cs j ≡ Some c → slice_get core.nodes c ≡ Some y → y.kind ≡ node.Define i → IsInMask (without_items core cs l) i → ⊥
 items_out core [] l i c j y at is k h = none-some c at
 items_out core (d ∷ cs) l i c zero y at is k h =
     let here : slice_get core.nodes d ≡ Some y = ap (slice_get core.nodes) (same_Some d c at) ∙ is in
     let first = items_less core cs (without_item (slice_get core.nodes d) l) i h in
-    definition_out i y.kind l k (subst (λ (o : Option Node). IsIn (without_item o l) i) here first)
+    definition_out i y.kind l k (subst (λ (o : Option Node). IsInMask (without_item o l) i) here first)
 items_out core (d ∷ cs) l i c (suc j) y at is k h = items_out core cs (without_item (slice_get core.nodes d) l) i c j y at is k h
 
 -- After a sequence, what its items define is not live.
-pub defined_out : (core : CoreData) (ann : Ann) (x : Node) (t : Note) (s : ℕ) → IsIn t.live_after s → IsSaid core ann x t → x.kind ≡ node.Seq → Defines core x.children s → ⊥
+pub defined_out : (core : CoreData) (ann : Ann) (x : Node) (t : Note) (s : ℕ) → IsInMask t.live_after s → IsSaid core ann x t → x.kind ≡ node.Seq → Defines core x.children s → ⊥
 defined_out core ann x t s live e is d =
     let r = seq_rule core ann x t t.rule (subst (λ (k : NodeKind). says core ann x (before t) t.rule k ≡ Some (said_by t)) is e) in
-    items_out core x.children r.behind.0 s d.0 d.2.0 d.1 d.2.1 d.3 d.4 (subst (λ (l : Mask). IsIn l s) r.says.live live)
+    items_out core x.children r.behind.0 s d.0 d.2.0 d.1 d.2.1 d.3 d.4 (subst (λ (l : Mask). IsInMask l s) r.says.live live)

@@ -14,13 +14,13 @@ use Rattle.pc_core.specs.declared.nodes.NodeKind.TheVariants as node
 use Rattle.pc_core.specs.CoreData.{CoreData}
 use Rattle.pc_lists.specs.Places.{Each}
 use Rattle.pc_core.specs.Lookup.{own_slots}
-use Rattle.pc_core.specs.Methods.{LocalFits, SlotsFit, Uses}
+use Rattle.pc_core.specs.Methods.{LocalFits, SlotsFit, UsesSlot}
 use Rattle.pc_core.specs.MethodKinds.{this_slot, param_slot}
 use Rattle.pc_core.specs.Nodes.{NamesFit, NamesLocal, NamesSlot, inner_depth}
 use Rattle.pc_masks.specs.declared.mask.Mask.{Mask}
 use Rattle.pc_ann.specs.declared.annotation.Note.{Note}
 use Rattle.pc_ann.specs.declared.annotation.Ann.{Ann}
-use Rattle.pc_masks.specs.Masks.{IsIn, first, same}
+use Rattle.pc_masks.specs.Masks.{IsInMask, first, same}
 use Rattle.pc_masks.specs.MaskLaws.{first_bits}
 use Rattle.pc_valid.specs.Words.{before, Defines}
 use Rattle.pc_rules.specs.Control.{start_set}
@@ -140,7 +140,7 @@ module _ (core : CoreData) (ann : Ann) (needs : Needs core ann) (m : ℕ) (f : M
       elim (slot_scope s y (subst (λ (g : Method). s < g.slots) same named.1.2) e) [
         | inl d ↦ inl d
         | inr k ↦ let l = k.0 in
-            let place = l.later n x at own (subst (Uses s) (sym is) refl) in
+            let place = l.later n x at own (subst (UsesSlot s) (sym is) refl) in
             let after = place.0 in
             let before = place.1 in
             inr (l, omega (arith, after), omega (arith, before))
@@ -171,13 +171,13 @@ module _ (core : CoreData) (ann : Ann) (needs : Needs core ann) (m : ℕ) (f : M
   abbrev ShallowAt : ℕ → Type 0
   ShallowAt k = (x : Node) (t : Note) → slice_get core.nodes k ≡ Some x → slice_get ann.notes k ≡ Some t → SlotsShallow core x.method t.live_before x.depth × SlotsShallow core x.method t.live_after x.depth
 
-  shallow : (n : ℕ) (x : Node) (l : Mask) → slice_get core.nodes n ≡ Some x → x.method ≡ m → ((s : ℕ) → IsIn l s → InScope core m f (n + 1) s) → SlotsShallow core x.method l x.depth
+  shallow : (n : ℕ) (x : Node) (l : Mask) → slice_get core.nodes n ≡ Some x → x.method ≡ m → ((s : ℕ) → IsInMask l s → InScope core m f (n + 1) s) → SlotsShallow core x.method l x.depth
   shallow n x l at own scope s g y h is e =
       let same : g ≡ f = same_Some g f (sym is ∙ ap (slice_get core.methods) own ∙ is_method) in
       scope_depth n s x y at (subst (λ (k : Method). slice_get core.slots (k.first_slot + s) ≡ Some y) same e) (scope s h)
 
   shallow_at : (n : ℕ) (x : Node) (t : Note) → slice_get core.nodes n ≡ Some x → slice_get ann.notes n ≡ Some t → x.method ≡ m
-      → ((s : ℕ) → IsIn t.live_before s → InScope core m f (n + 1) s) → ((s : ℕ) → IsIn t.live_after s → InScope core m f (n + 1) s) → ShallowAt n
+      → ((s : ℕ) → IsInMask t.live_before s → InScope core m f (n + 1) s) → ((s : ℕ) → IsInMask t.live_after s → InScope core m f (n + 1) s) → ShallowAt n
   shallow_at n x t at is own before after y u there note =
       let node_is : x ≡ y = same_Some x y (sym at ∙ there) in
       let note_is : t ≡ u = same_Some t u (sym is ∙ note) in
@@ -186,7 +186,7 @@ module _ (core : CoreData) (ann : Ann) (needs : Needs core ann) (m : ℕ) (f : M
       (shallow n x t.live_before at own before, shallow n x t.live_after at own after))
 
   -- The root of a tree, if what comes after its children is in scope.
-  root_scope : (n : ℕ) (x : Node) (t : Note) → slice_get core.nodes n ≡ Some x → x.method ≡ m → IsSaid core ann x t → ((s : ℕ) → Remains ann x.children t.live_before s → InScope core m f n s) → (s : ℕ) → IsIn t.live_after s → InScope core m f (n + 1) s
+  root_scope : (n : ℕ) (x : Node) (t : Note) → slice_get core.nodes n ≡ Some x → x.method ≡ m → IsSaid core ann x t → ((s : ℕ) → Remains ann x.children t.live_before s → InScope core m f n s) → (s : ℕ) → IsInMask t.live_after s → InScope core m f (n + 1) s
   root_scope n x t at own meets behind s h =
       elim (live_behind core ann x t s h meets) [
         | inl r ↦ node_past n s x at (defined_out core ann x t s h meets) (behind s r)
@@ -195,14 +195,14 @@ module _ (core : CoreData) (ann : Ann) (needs : Needs core ann) (m : ℕ) (f : M
 
   -- Live before a row of trees, in this mask or after one of the trees that come before them in the same node.
   abbrev LiveIn : Mask → List Mask → ℕ → Type 0
-  LiveIn l [] s = IsIn l s
-  LiveIn l (k ∷ ks) s = LiveIn l ks s ⊎ IsIn k s
+  LiveIn l [] s = IsInMask l s
+  LiveIn l (k ∷ ks) s = LiveIn l ks s ⊎ IsInMask k s
 
   -- If what is live before a tree is in scope, all its nodes are right, and what is live after it is in scope. The same
   -- holds for a row of trees.
   mutual
-    tree_scope : (low n : ℕ) → Tree core low n → IsChild core m n → (t : Note) → slice_get ann.notes n ≡ Some t → ((s : ℕ) → IsIn t.live_before s → InScope core m f low s)
-        → ((k : ℕ) → low ≤ k → k ≤ n → ShallowAt k) × ((s : ℕ) → IsIn t.live_after s → InScope core m f (n + 1) s)
+    tree_scope : (low n : ℕ) → Tree core low n → IsChild core m n → (t : Note) → slice_get ann.notes n ≡ Some t → ((s : ℕ) → IsInMask t.live_before s → InScope core m f low s)
+        → ((k : ℕ) → low ≤ k → k ≤ n → ShallowAt k) × ((s : ℕ) → IsInMask t.live_after s → InScope core m f (n + 1) s)
     tree_scope low n (tree x g row) child t is before =
         let same : child.0 ≡ x = same_Some child.0 x (sym child.1 ∙ g) in
         let own : x.method ≡ m = ap (λ (z : Node). z.method) (sym same) ∙ child.2 in
@@ -227,7 +227,7 @@ module _ (core : CoreData) (ann : Ann) (needs : Needs core ann) (m : ℕ) (f : M
         let child = each 0 c refl in
         let u = note_at core ann needs c child.0 child.1 in
         let one = tree_scope low c t child u.0 u.1 (λ s live. elim (starts 0 c u.0 s refl u.1 live) [ inl k ↦ known s k | inr b ↦ absurd (none_before b.0 b.1) ]) in
-        let now : (s : ℕ) → LiveIn l ls s ⊎ IsIn u.0.live_after s → InScope core m f (c + 1) s = λ s h. elim h [ inl k ↦ tree_past low c s t (known s k) | inr live ↦ one.1 s live ] in
+        let now : (s : ℕ) → LiveIn l ls s ⊎ IsInMask u.0.live_after s → InScope core m f (c + 1) s = λ s h. elim h [ inl k ↦ tree_past low c s t (known s k) | inr live ↦ one.1 s live ] in
         let rest = forest_scope (c + 1) high cs row (λ i d e. each (suc i) d e) l (u.0.live_after ∷ ls) now (next_starts_known ann (LiveIn l ls) c cs u.0 u.1 starts) in (
           λ k from to. elim (cases_lt k (c + 1)) [ inl inside ↦ one.0 k from (omega (arith, inside)) | inr behind ↦ rest.0 k behind to ],
           λ s h. rest.1 s (known_behind ann (LiveIn l ls) c cs u.0 s u.1 h),
@@ -236,7 +236,7 @@ module _ (core : CoreData) (ann : Ann) (needs : Needs core ann) (m : ℕ) (f : M
 -- ---- every node
 
 -- What is live before a body is in scope.
-begins : (core : CoreData) (ann : Ann) (x : Node) (t : Note) → says core ann x (before t) t.rule node.Body ≡ Some (said_by t) → (f : Method) → slice_get core.methods x.method ≡ Some f → (s : ℕ) → IsIn t.live_before s → s < suc (length f.params)
+begins : (core : CoreData) (ann : Ann) (x : Node) (t : Note) → says core ann x (before t) t.rule node.Body ≡ Some (said_by t) → (f : Method) → slice_get core.methods x.method ≡ Some f → (s : ℕ) → IsInMask t.live_before s → s < suc (length f.params)
 begins core ann x t e f is s h =
     let r = body_inverse core ann x t (body_rule core ann x (before t) t.rule (said_by t) e) in
     let own : r.own ≡ f = same_Some r.own f (sym r.is_own ∙ is) in

@@ -18,7 +18,7 @@ use Rattle.pc_masks.specs.declared.mask.Mask.{Mask}
 use Rattle.pc_ann.specs.declared.annotation.Ann.{Ann}
 use Rattle.pc_semantics.specs.declared.frames.Frame.{Frame}
 use Rattle.pc_semantics.specs.declared.frames.Task.TheVariants as task
-use Rattle.pc_semantics.specs.Around.{Around, Writes, with_stack, pushed, or_none}
+use Rattle.pc_semantics.specs.Around.{Around, Writes, with_stack, pushed, value_or_none}
 use Rattle.pc_semantics.specs.Fields.{put_task}
 use Rattle.pc_sub.specs.Sub.{is_sub}
 use Rattle.pc_rules.specs.Parts.{goes_to, type_of}
@@ -176,7 +176,8 @@ module _ (settle : SettleLaw) (take : TakeLaw) (core : CoreData) (climb : ClimbL
       put_ends q.origin_ty.0 name q.index q.field v o y rest stack.1.1 q.says.live u (place_shift around.objects around.actors i base d h m o.address q.index w u (suc m) (omega arith) last got.1) (Some (q.field.entity, q.old)) z done q.says.ty typed
 
   own_put : (name : ℕ) (q : OwnPutRule core ann g.node g.note e.behind name) (v y : Value) (old : Option Value) (rest : List Value) (o : Origin core around.objects r.held.own.entity name q.index q.field v) → v ≡ r.held.this → f.stack ≡ v ∷ y ∷ rest → slice_get o.object.fields q.index ≡ Some old
-      → HasFields around.objects r.held.set v → RegionMoveOk core ann w around fs (Writes o.address q.index y (pushed (with_stack f rest) (or_none old)))
+      → HasFields around.objects r.held.set v
+          → RegionMoveOk core ann w around fs (Writes o.address q.index y (pushed (with_stack f rest) (value_or_none old)))
   own_put name q v y old rest o this at is has_them =
       let m : ℕ = length rest in
       let own : slice_get core.methods f.method ≡ Some q.own = ap (slice_get core.methods) (sym me.own) ∙ q.is_own in
@@ -191,15 +192,16 @@ module _ (settle : SettleLaw) (take : TakeLaw) (core : CoreData) (climb : ClimbL
       let may : may_write form.Ref q.value_ty.1 q.field.cap ≡ true = ap (λ (b : Bool). b && true) less in
       let through : Through around.objects around.actors i base d s.here h (suc m) o.address q.index w form.Ref = record { world = s.world; top = last; opened = s.active.opened; writes = inr (inr refl); fits = fit ∙ ap (w.context i) same; alias = tt } in
       let calm : Shifts w w around.objects around.actors i base (put_gone i h m o.address q.index) = shifts_none w around.objects around.actors i base (put_gone i h m o.address q.index) s.world in
-      let typed : OfSome core around.objects q.old (or_none old) = own_old_ok core ann needs around f fs r n me r.held.own.entity name q.index q.field v old q.old o is has_them q.is_old in
+      let typed : OfSome core around.objects q.old (value_or_none old) = own_old_ok core ann needs around f fs r n me r.held.own.entity name q.index q.field v old q.old o is has_them q.is_old in
       elim q.is_old [
-        | inl none ↦ put_ends r.held.own.entity name q.index q.field v o y rest stack.1.1 q.says.live w calm None (or_none old)
-            (put_new settle take core ann around.objects around.actors i base d s.here h m o.address o.object o.stands q.index q.field.cap w form.Ref through q.value_ty.1 y less may value (or_none old)) (q.says.ty ∙ none) tt
+        | inl none ↦ put_ends r.held.own.entity name q.index q.field v o y rest stack.1.1 q.says.live w calm None (value_or_none old)
+            (put_new settle take core ann around.objects around.actors i base d s.here h m o.address o.object o.stands q.index q.field.cap w form.Ref through q.value_ty.1 y less may value (value_or_none old)) (q.says.ty ∙ none) tt
         | inr set ↦ let was = own_old_there core around.objects r.held.own.entity name q.index q.field v r.held.set old o is has_them (e.set q.index set.0) in
             let fits_field : Fits w (InField o.address q.index) (unalias q.field.cap) was.0 = s.fields o.address o.object o.fits.entity q.index q.field was.0 o.stands o.fits.is_entity o.is_field was.2 in
             let ty : Ty = (q.field.entity, set.1) in
-            let at_it : OfSome core around.objects (Some ty) was.0 = subst (λ (t : Option Ty). OfSome core around.objects t was.0) set.3 (subst (λ (z : Option Value). OfSome core around.objects q.old (or_none z)) was.1 typed) in
-            subst (λ (z : Option Value). RegionMoveOk core ann w around fs (Writes o.address q.index y (pushed (with_stack f rest) (or_none z)))) (sym was.1)
+            let at_it : OfSome core around.objects (Some ty) was.0 = subst (λ (t : Option Ty). OfSome core around.objects t was.0) set.3 (subst (λ (z : Option Value). OfSome core around.objects q.old (value_or_none z)) was.1 typed) in
+            subst (λ (z : Option Value). RegionMoveOk core ann w around fs (Writes o.address q.index y (pushed (with_stack f rest) (value_or_none z))))
+                (sym was.1)
             (put_ends r.held.own.entity name q.index q.field v o y rest stack.1.1 q.says.live w calm (Some ty) was.0
             (put_old settle take core ann around.objects around.actors i base d s.here h m o.address o.object o.stands q.index q.field.cap w form.Ref through q.value_ty.1 y less may value q.field.entity set.1 was.0 set.2 fits_field) (q.says.ty ∙ set.3) at_it)
       ]

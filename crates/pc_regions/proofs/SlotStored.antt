@@ -12,11 +12,11 @@ use Rattle.pc_core.specs.declared.nodes.Slot.{Slot}
 use Rattle.pc_core.specs.CoreData.{CoreData}
 use Rattle.pc_masks.specs.declared.mask.Mask.{Mask}
 use Rattle.pc_ann.specs.declared.annotation.Ann.{Ann}
-use Rattle.pc_masks.specs.Masks.{IsIn, with_number}
+use Rattle.pc_masks.specs.Masks.{IsInMask, with_number}
 use Rattle.pc_masks.specs.MaskLaws.{with_number_bits}
 use Rattle.pc_semantics.specs.declared.frames.Frame.{Frame}
 use Rattle.pc_semantics.specs.declared.frames.Task.TheVariants as task
-use Rattle.pc_semantics.specs.Around.{Around, or_none, with_stack}
+use Rattle.pc_semantics.specs.Around.{Around, value_or_none, with_stack}
 use Rattle.pc_semantics.specs.Fields.{held, store}
 use Rattle.pc_valid.specs.Words.{Ty}
 use Rattle.pc_rules.proofs.ByNumber.{slot_of}
@@ -73,7 +73,7 @@ module _ (core : CoreData) (climb : ClimbLaw core) (ann : Ann) (needs : Needs co
           subst (λ (t : ℕ). Fits u (InSlot around.actor (length fs) t (s.active.holds.base + j.0.depth)) (unalias j.1.1) c) (sym p.1)
           (subst (λ (t : Slot × (ℕ × Cap)). Fits u (InSlot around.actor (length fs) z (s.active.holds.base + t.0.depth)) (unalias t.1.1) c) same
           (subst (λ (t : Value). Fits u (InSlot around.actor (length fs) z (s.active.holds.base + y.0.depth)) (unalias y.1.1) t) value in_slot))
-      | inr p ↦ let was : IsIn g.behind.0 k = elim ((with_number_bits g.behind.0 z k).0 (subst (λ (m : Mask). IsIn m k) left is)) [ inl new ↦ absurd (p.1 new.0) | inr old ↦ old ] in
+      | inr p ↦ let was : IsInMask g.behind.0 k = elim ((with_number_bits g.behind.0 z k).0 (subst (λ (m : Mask). IsInMask m k) left is)) [ inl new ↦ absurd (p.1 new.0) | inr old ↦ old ] in
           x.fits (InSlot around.actor (length fs) k (s.active.holds.base + j.0.depth)) (unalias j.1.1) c (slot_stays around.actor (length fs) z (length rest) k (s.active.holds.base + j.0.depth) (λ e. p.1 (sym e)))
           (s.active.holds.slots_fit k up (g.live k was) c (sym (get_set_other f.slots z (Some v) k p.1) ∙ at) j slot)
     ]
@@ -103,10 +103,10 @@ module _ (core : CoreData) (climb : ClimbLaw core) (ann : Ann) (needs : Needs co
     }
 
     -- The old value is pushed.
-    pub stored_goes : OfSome core around.objects g.note.ty (or_none (held (slice_get f.slots z))) → FitsSome u (OnStack around.actor (length fs) (length rest) (s.active.holds.base + s.active.depth)) g.note.ty (or_none (held (slice_get f.slots z)))
-        → AliasSome u around.actor s.active.holds.base (s.active.holds.base + s.active.depth) g.note.ty (or_none (held (slice_get f.slots z))) → RegionMoveOk core ann w around fs (store z v (with_stack f rest))
+    pub stored_goes : OfSome core around.objects g.note.ty (value_or_none (held (slice_get f.slots z))) → FitsSome u (OnStack around.actor (length fs) (length rest) (s.active.holds.base + s.active.depth)) g.note.ty (value_or_none (held (slice_get f.slots z)))
+        → AliasSome u around.actor s.active.holds.base (s.active.holds.base + s.active.depth) g.note.ty (value_or_none (held (slice_get f.slots z))) → RegionMoveOk core ann w around fs (store z v (with_stack f rest))
     stored_goes typed fits alias =
-        let up = rise core ann climb around.objects around.actors around.actor f.method s.active.holds.base s.active.depth g.note.live_after g.below (slice_set f.slots z (Some v)) rest fs u pushes_stored g.note.live_after g.note.ty (or_none (held (slice_get f.slots z))) f.tasks
+        let up = rise core ann climb around.objects around.actors around.actor f.method s.active.holds.base s.active.depth g.note.live_after g.below (slice_set f.slots z (Some v)) rest fs u pushes_stored g.note.live_after g.note.ty (value_or_none (held (slice_get f.slots z))) f.tasks
         (λ k b. b) typed fits alias (follows_at core ann around f fs (task.Store n ∷ f.tasks) w s stores n (λ d l st. TasksRise core ann f.method f.tasks d l st) g)
         in (
           up.0,

@@ -16,7 +16,7 @@ use Rattle.pc_lists.specs.Options.{◌>>=◌}
 use Rattle.pc_masks.specs.declared.mask.Mask.{Mask}
 use Rattle.pc_ann.specs.declared.annotation.Note.{Note}
 use Rattle.pc_ann.specs.declared.annotation.Ann.{Ann}
-use Rattle.pc_masks.specs.Masks.{IsIn}
+use Rattle.pc_masks.specs.Masks.{IsInMask}
 use Rattle.pc_semantics.specs.declared.frames.Task.{Task}
 use Rattle.pc_semantics.specs.declared.frames.Task.TheVariants as task
 use Rattle.pc_rules.specs.Parts.{through, type_of}
@@ -81,7 +81,7 @@ Climbs core (a ∷ way) e = MayAscend core a e × Climbs core way (ascend a e)
 
 -- The live slots of the method are no deeper than this.
 abbrev pub SlotsShallow : CoreData → ℕ → Mask → ℕ → Type 0
-SlotsShallow core m live d = (s : ℕ) (x : Method) (y : Slot) → IsIn live s → slice_get core.methods m ≡ Some x → slice_get core.slots (x.first_slot + s) ≡ Some y → y.depth ≤ d
+SlotsShallow core m live d = (s : ℕ) (x : Method) (y : Slot) → IsInMask live s → slice_get core.methods m ≡ Some x → slice_get core.slots (x.first_slot + s) ≡ Some y → y.depth ≤ d
 
 -- The live slots before and after a node are no deeper than the node.
 abbrev pub LiveShallow : CoreData → Ann → Type 0

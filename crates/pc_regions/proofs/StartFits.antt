@@ -22,7 +22,7 @@ use Rattle.pc_core.specs.Entities.{out_field}
 use Rattle.pc_core.specs.Formed.{Formed}
 use Rattle.pc_ann.specs.declared.annotation.Ann.{Ann}
 use Rattle.pc_semantics.specs.declared.actors.Actor.{Actor}
-use Rattle.pc_semantics.specs.Configurations.{own_address, fields_in, blank_object, environment, environment_address, start_of, start}
+use Rattle.pc_semantics.specs.Configurations.{own_address, number_of_fields, blank_object, environment, environment_address, start_of, start}
 use Rattle.pc_regions.proofs.World.{Place, InField, InMail, Standing, Unused, Froze, Opened, Held, Child, World, ice, Fits, WorldOk}
 use Rattle.pc_regions.proofs.Fitting.{FieldsFit, MessageFits, ActorFits, HasRegions}
 use Rattle.pc_types.proofs.Heaps.{get_here, put_or_before, put_stays}
@@ -183,7 +183,8 @@ module _ (core : CoreData) (ann : Ann) (formed : Formed core) where
   out_tag (suc k) f e = absurd (none-some f e)
 
   blank_field : (a : Address) (d k : ℕ) (f : FieldInfo) (v : Value) (o : Object) → o ≡ blank_object core d → slice_get o.fields k ≡ Some (Some v) → Fits first_world (InField a k) (unalias f.cap) v
-  blank_field a d k f v o is e = absurd (no_value core (fields_in (slice_get core.entities d)) k v (ap (λ (p : Object). slice_get p.fields k) (sym is) ∙ e))
+  blank_field a d k f v o is e =
+      absurd (no_value core (number_of_fields (slice_get core.entities d)) k v (ap (λ (p : Object). slice_get p.fields k) (sym is) ∙ e))
 
   env_fits : (a : Address) (e : EntityDef) (k : ℕ) (f : FieldInfo) (v : Value) (o : Object) → o ≡ environment core → slice_get core.entities o.entity ≡ Some e → slice_get e.fields k ≡ Some f → Fits first_world (InField a k) (unalias f.cap) v
   env_fits a e k f v o is at g =

@@ -13,11 +13,11 @@ use Rattle.pc_core.specs.CoreData.{CoreData}
 use Rattle.pc_core.specs.Nodes.{NamesSlot}
 use Rattle.pc_masks.specs.declared.mask.Mask.{Mask}
 use Rattle.pc_ann.specs.declared.annotation.Ann.{Ann}
-use Rattle.pc_masks.specs.Masks.{IsIn, with_number}
+use Rattle.pc_masks.specs.Masks.{IsInMask, with_number}
 use Rattle.pc_masks.specs.MaskLaws.{with_number_bits}
 use Rattle.pc_semantics.specs.declared.frames.Frame.{Frame}
 use Rattle.pc_semantics.specs.declared.frames.Task.TheVariants as task
-use Rattle.pc_semantics.specs.Around.{Around, or_none, with_stack, with_top}
+use Rattle.pc_semantics.specs.Around.{Around, value_or_none, with_stack, with_top}
 use Rattle.pc_semantics.specs.Fields.{held, store, store_task}
 use Rattle.pc_sub.specs.Sub.{is_sub}
 use Rattle.pc_rules.specs.Parts.{type_of}
@@ -111,7 +111,7 @@ module _ (settle : SettleLaw) (take : TakeLaw) (core : CoreData) (climb : ClimbL
   without_old none =
       let i : ℕ = around.actor in
       let one = in_slot w s.world is_top fit in
-      let old : Value = or_none (held (slice_get f.slots z)) in
+      let old : Value = value_or_none (held (slice_get f.slots z)) in
       let x : Shifts w one.world around.objects around.actors i s.active.holds.base (stored_gone i (length fs) z (length rest)) =
       wider w one.world around.objects around.actors i s.active.holds.base (the_place i (length fs) (length rest)) (stored_gone i (length fs) z (length rest)) (λ p e. place_among i (length fs) z (length rest) (length rest) (omega arith) p e)
       (lower_shift w one.world around.objects around.actors i (w.top i) s.active.holds.base (the_place i (length fs) (length rest)) (base_level (w.top i) is_top) one.calm.shifts)
@@ -124,7 +124,7 @@ module _ (settle : SettleLaw) (take : TakeLaw) (core : CoreData) (climb : ClimbL
       (subst (λ (o : Option Ty). AliasSome one.world i s.active.holds.base (s.active.holds.base + s.active.depth) o old) (sym none) tt)
 
   -- The old value comes to the stack, above the new one, which settles; then it takes its place.
-  pub with_old : (old : Value) → or_none (held (slice_get f.slots z)) ≡ old → (e : ℕ) → g.note.ty ≡ Some (e, unalias y.1.1) → OfSome core around.objects g.note.ty old
+  pub with_old : (old : Value) → value_or_none (held (slice_get f.slots z)) ≡ old → (e : ℕ) → g.note.ty ≡ Some (e, unalias y.1.1) → OfSome core around.objects g.note.ty old
       → Fits w (InSlot around.actor (length fs) z (s.active.holds.base + y.0.depth)) (unalias y.1.1) old → RegionMoveOk core ann w around fs (store z v (with_stack f rest))
   with_old old is e ty typed was =
       let i : ℕ = around.actor in
@@ -188,20 +188,20 @@ module _ (settle : SettleLaw) (take : TakeLaw) (core : CoreData) (climb : ClimbL
       let same : e.behind ≡ g.behind = same_Some e.behind g.behind (sym me.is_behind ∙ g.is_behind) in
       let left : g.note.live_after ≡ with_number g.behind.0 z = q.says.live ∙ ap (λ (m : Masks). with_number m.0 z) same in
       let is_slot : slot_of core ann f.method z ≡ Some q.slot = subst (λ (m : ℕ). slot_of core ann m z ≡ Some q.slot) g.own q.is_slot in
-      let bit : IsIn g.note.live_after z = subst (λ (m : Mask). IsIn m z) (sym left) ((with_number_bits g.behind.0 z z).1 (inl (refl, few z names.1.0.slots names.1.2 (needs.formed.methods g.node.method names.1.0 names.1.1).few_slots))) in
+      let bit : IsInMask g.note.live_after z = subst (λ (m : Mask). IsInMask m z) (sym left) ((with_number_bits g.behind.0 z z).1 (inl (refl, few z names.1.0.slots names.1.2 (needs.formed.methods g.node.method names.1.0 names.1.1).few_slots))) in
       let outer : q.slot.0.depth ≤ s.active.depth = subst (λ (d : ℕ). q.slot.0.depth ≤ d) g.depth (slot_depth core ann g.node.method z g.node.depth g.note.live_after q.slot (flat n g.node g.note g.is_node g.is_note).1 bit q.is_slot) in
       let close : (q.slot.0.depth ≡ s.active.depth) ⊎ (sendable q.slot.1.1 ≡ true) = elim near [ inl k ↦ inl (k ∙ g.depth) | inr k ↦ inr k ] in
       let less = (and_parts (is_sub core q.value.0 q.slot.1.0) (fits q.value.1 q.slot.1.1) q.goes).1 in
-      let typed : OfSome core around.objects g.note.ty (or_none (held (slice_get f.slots z))) = subst (λ (o : Option Ty). OfSome core around.objects o (or_none (held (slice_get f.slots z)))) (sym q.says.ty) (old_ok core ann needs around f fs r n me z names q) in
+      let typed : OfSome core around.objects g.note.ty (value_or_none (held (slice_get f.slots z))) = subst (λ (o : Option Ty). OfSome core around.objects o (value_or_none (held (slice_get f.slots z)))) (sym q.says.ty) (old_ok core ann needs around f fs r n me z names q) in
       let value = subst (λ (o : Option Ty). FitsSome w (OnStack around.actor (length fs) (length t.below) (s.active.holds.base + s.active.depth)) o t.top) q.is_value fit.0 in
       subst (λ (vs : List Value). RegionMoveOk core ann w around fs (with_top f vs (store z))) (sym t.is)
       (elim q.is_old [
         | inl none ↦ without_old settle take core climb ann needs around f fs r n w s g z names.0 (room core ann needs around f fs r n me z names q) q.slot is_slot left t.top t.below fit.1 close outer q.value.1 less value (q.says.ty ∙ none)
         | inr there ↦ let old = r.held.slots_ok z names.0 (e.live z there.0) in
-            let is : or_none (held (slice_get f.slots z)) ≡ old.0 = ap (λ (o : Option (Option Value)). or_none (held o)) old.2 in
+            let is : value_or_none (held (slice_get f.slots z)) ≡ old.0 = ap (λ (o : Option (Option Value)). value_or_none (held o)) old.2 in
             with_old settle take core climb ann needs around f fs r n w s g z names.0 (room core ann needs around f fs r n me z names q) q.slot is_slot left t.top t.below fit.1 close outer q.value.1 less value
             old.0 is q.slot.1.0 (q.says.ty ∙ there.1) (subst (λ (v : Value). OfSome core around.objects g.note.ty v) is typed)
-            (s.active.holds.slots_fit z names.0 (g.live z (subst (λ (m : Masks). IsIn m.0 z) same there.0)) old.0 old.2 q.slot is_slot)
+            (s.active.holds.slots_fit z names.0 (g.live z (subst (λ (m : Masks). IsInMask m.0 z) same there.0)) old.0 old.2 q.slot is_slot)
       ])
 
   rule_of : (z : ℕ) (k : Rule) → says core ann g.node (before g.note) k (nodes.Assign z) ≡ Some (said_by g.note) → (q : StoreRule core ann g.node g.note e.behind z) × ((q.slot.0.depth ≡ g.node.depth) ⊎ (sendable q.slot.1.1 ≡ true))

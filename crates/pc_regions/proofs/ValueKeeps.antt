@@ -21,7 +21,7 @@ use Rattle.pc_core.specs.MethodKinds.{this_slot}
 use Rattle.pc_masks.specs.declared.mask.Mask.{Mask}
 use Rattle.pc_ann.specs.declared.annotation.Note.{Note}
 use Rattle.pc_ann.specs.declared.annotation.Ann.{Ann}
-use Rattle.pc_masks.specs.Masks.{IsIn, without_number}
+use Rattle.pc_masks.specs.Masks.{IsInMask, without_number}
 use Rattle.pc_masks.specs.MaskLaws.{without_number_bits}
 use Rattle.pc_semantics.specs.declared.frames.Frame.{Frame}
 use Rattle.pc_semantics.specs.declared.frames.Task.TheVariants as task
@@ -300,7 +300,7 @@ module _ (core : CoreData) (ann : Ann) (needs : Needs core ann) (climb : ClimbLa
 
         slots_left : SlotsFit core ann v i h f.method base e.note.live_after (slice_set f.slots z None)
         slots_left k up is c at y slot =
-            let apart = (without_number_bits e.note.live_before z k).0 (subst (λ (m : Mask). IsIn m k) q.live is) in
+            let apart = (without_number_bits e.note.live_before z k).0 (subst (λ (m : Mask). IsInMask m k) q.live is) in
             elim (get_set f.slots z None k (Some c) at) [
               | inl g ↦ absurd (none-some c (sym g.1))
               | inr g ↦ x.fits (InSlot i h k (base + y.0.depth)) (unalias y.1.1) c (other_slot i h z k (base + y.0.depth) (λ same. apart.0 (sym same))) (s.active.holds.slots_fit k up (e.live k apart.1) c g y slot)

@@ -13,7 +13,7 @@ use Rattle.pc_core.specs.CoreData.{CoreData}
 use Rattle.pc_lists.proofs.Options.{bind_some}
 use Rattle.pc_masks.specs.declared.mask.Mask.{Mask}
 use Rattle.pc_ann.specs.declared.annotation.Ann.{Ann}
-use Rattle.pc_masks.specs.Masks.{IsIn}
+use Rattle.pc_masks.specs.Masks.{IsInMask}
 use Rattle.pc_semantics.specs.declared.frames.Frame.{Frame}
 use Rattle.pc_valid.specs.Words.{Ty}
 use Rattle.pc_rules.proofs.ByNumber.{slot_of}
@@ -37,7 +37,7 @@ top_down (a ∷ way) e = both_down (top_of way (ascend a e)).depth (ascend a e).
     both_down a b c m n = omega (arith, m, n)
 
 -- The depth of a live slot.
-pub slot_depth : (core : CoreData) (ann : Ann) (m s d : ℕ) (live : Mask) (y : Slot × (ℕ × Cap)) → SlotsShallow core m live d → IsIn live s → slot_of core ann m s ≡ Some y → y.0.depth ≤ d
+pub slot_depth : (core : CoreData) (ann : Ann) (m s d : ℕ) (live : Mask) (y : Slot × (ℕ × Cap)) → SlotsShallow core m live d → IsInMask live s → slot_of core ann m s ≡ Some y → y.0.depth ≤ d
 slot_depth core ann m s d live y flat is e =
     let a = bind_some (slice_get core.methods m) _ y e in
     let b = bind_some (slice_get core.slots (a.0.first_slot + s)) _ y a.2 in

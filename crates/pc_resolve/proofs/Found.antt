@@ -10,12 +10,13 @@ use Rattle.std.proofs.lemmas.List.Folds.{list_any-append}
 use Rattle.std.proofs.lemmas.Slice.Eq.{bytes_eq-Decides}
 use Rattle.pc_lists.proofs.Gets.{get_behind}
 use Rattle.pc_caps.specs.declared.capability.Cap.{Cap}
-use Rattle.pc_tree.specs.declared.names.TypeRef.{TypeRef}
+use Rattle.pc_tree.specs.declared.written_names.TypeRef.{TypeRef}
 use Rattle.pc_members.specs.Words as words
 use Rattle.pc_members.specs.Tables.{with_name, with_names}
-use Rattle.pc_body_spec.specs.Scopes.{Constructor, Known, Placed, Visible, TypeMeaning, no_value, is_among, slot_of, slot_at, constructor_named, type_from, by_kind, is_own}
+use Rattle.pc_body_spec.specs.Scopes.{Constructor, KnownEntity, PlacedLocal, Visible, TypeMeaning, no_value, is_among_names, slot_named, slot_at}
+use Rattle.pc_body_spec.specs.Scopes.{constructor_named, type_from, by_kind, is_own}
 use Rattle.pc_body_spec.specs.Faults.{is_entity}
-use Rattle.pc_body_spec.specs.Slots.{type_of, cap_or}
+use Rattle.pc_body_spec.specs.Slots.{type_of_name, cap_or}
 use Rattle.pc_resolve.specs.Indexes.{firsts}
 use Rattle.pc_resolve.specs.Pairs.{constructor_pair, visible_pair, placed_pair, known_pairs, known_at, picked}
 use Rattle.pc_resolve.proofs.Indexes.{lookup_firsts}
@@ -35,16 +36,16 @@ constructor_found cs name = constructor_first cs name ∙ sym (lookup_firsts byt
 
 -- ---- names in a scope
 
-visible_first : (vs : List Visible) (name : List ℕ) → slot_of vs name ≡ lookup (bytes_eq name) (map visible_pair vs)
+visible_first : (vs : List Visible) (name : List ℕ) → slot_named vs name ≡ lookup (bytes_eq name) (map visible_pair vs)
 visible_first [] name = refl
 visible_first (v ∷ vs) name = rw (bytes_eq_sym v.name name, visible_first vs name) refl
 
-pub visible_found : (vs : List Visible) (name : List ℕ) → slot_of vs name ≡ lookup (bytes_eq name) (firsts bytes_eq (map visible_pair vs))
+pub visible_found : (vs : List Visible) (name : List ℕ) → slot_named vs name ≡ lookup (bytes_eq name) (firsts bytes_eq (map visible_pair vs))
 visible_found vs name = visible_first vs name ∙ sym (lookup_firsts bytes_eq same_bytes (map visible_pair vs) name)
 
 -- ---- the slots of locals
 
-slot_first : (ps : List Placed) (start : ℕ) → slot_at ps start ≡ unwrap_or (lookup (nat_eq start) (map placed_pair ps)) 0
+slot_first : (ps : List PlacedLocal) (start : ℕ) → slot_at ps start ≡ unwrap_or (lookup (nat_eq start) (map placed_pair ps)) 0
 slot_first [] start = refl
 slot_first (p ∷ ps) start = rw (nat_eq_sym p.start start, slot_first ps start) (by (nat_eq start p.start))
   where
@@ -52,7 +53,7 @@ slot_first (p ∷ ps) start = rw (nat_eq_sym p.start start, slot_first ps start)
     by true = refl
     by false = refl
 
-pub slot_found : (ps : List Placed) (start : ℕ) → slot_at ps start ≡ unwrap_or (lookup (nat_eq start) (firsts nat_eq (map placed_pair ps))) 0
+pub slot_found : (ps : List PlacedLocal) (start : ℕ) → slot_at ps start ≡ unwrap_or (lookup (nat_eq start) (firsts nat_eq (map placed_pair ps))) 0
 slot_found ps start = slot_first ps start ∙ ap (λ o. unwrap_or o 0) (sym (lookup_firsts nat_eq eqb-true (map placed_pair ps) start))
 
 -- ---- names in a table
@@ -72,25 +73,26 @@ among_with names x name = by (words.is_among x names) refl
     by true h = there (bytes_eq name x) refl h
     by false h = list_any-append (bytes_eq name) names (x ∷ []) ∙ ap (λ b. words.is_among name names || b) (or_false (bytes_eq name x))
 
-or_among : (names xs : List (List ℕ)) (name : List ℕ) → words.is_among name (with_names names xs) ≡ (words.is_among name names || is_among xs name)
+or_among : (names xs : List (List ℕ)) (name : List ℕ)
+    → words.is_among name (with_names names xs) ≡ (words.is_among name names || is_among_names xs name)
 or_among names [] name = by (words.is_among name names)
   where
     by : (b : Bool) → b ≡ (b || false)
     by true = refl
     by false = refl
-or_among names (x ∷ xs) name = or_among (with_name names x) xs name ∙ rw (among_with names x name, bytes_eq_sym x name) (by (words.is_among name names) (bytes_eq name x) (is_among xs name))
+or_among names (x ∷ xs) name = or_among (with_name names x) xs name ∙ rw (among_with names x name, bytes_eq_sym x name) (by (words.is_among name names) (bytes_eq name x) (is_among_names xs name))
   where
     by : (a b c : Bool) → ((a || b) || c) ≡ (a || (if b then true else c))
     by true b c = refl
     by false true c = refl
     by false false c = refl
 
-pub is_among_table : (names : List (List ℕ)) (name : List ℕ) → is_among names name ≡ words.is_among name (with_names [] names)
+pub is_among_table : (names : List (List ℕ)) (name : List ℕ) → is_among_names names name ≡ words.is_among name (with_names [] names)
 is_among_table names name = sym (or_among [] names name)
 
 -- ---- entities
 
-numbered : (before ks : List Known) (name : List ℕ) → known_at (length before) ks name ≡ picked (before ++ ks) (lookup (bytes_eq name) (known_pairs (length before) ks))
+numbered : (before ks : List KnownEntity) (name : List ℕ) → known_at (length before) ks name ≡ picked (before ++ ks) (lookup (bytes_eq name) (known_pairs (length before) ks))
 numbered before [] name = refl
 numbered before (k ∷ ks) name = rw (bytes_eq_sym k.name name) (by (bytes_eq name k.name) (numbered (before ++ k ∷ []) ks name))
   where
@@ -102,14 +104,14 @@ numbered before (k ∷ ks) name = rw (bytes_eq_sym k.name name) (by (bytes_eq na
     by true rec = sym (ap (option_map (λ x. (length before, x))) (get_behind before k ks))
     by false rec = ap (λ n. known_at n ks name) (sym one_more) ∙ (rec ∙ (ap (λ w. picked w (lookup (bytes_eq name) (known_pairs (length (before ++ k ∷ [])) ks))) (append_assoc before (k ∷ []) ks) ∙ ap (λ n. picked (before ++ k ∷ ks) (lookup (bytes_eq name) (known_pairs n ks))) one_more))
 
-pub entity_found : (ks : List Known) (name : List ℕ) → known_at 0 ks name ≡ picked ks (lookup (bytes_eq name) (firsts bytes_eq (known_pairs 0 ks)))
+pub entity_found : (ks : List KnownEntity) (name : List ℕ) → known_at 0 ks name ≡ picked ks (lookup (bytes_eq name) (firsts bytes_eq (known_pairs 0 ks)))
 entity_found ks name = numbered [] ks name ∙ ap (picked ks) (sym (lookup_firsts bytes_eq same_bytes (known_pairs 0 ks) name))
 
-abbrev pub meaning_at : Option (ℕ × Known) → TypeMeaning
+abbrev pub meaning_at : Option (ℕ × KnownEntity) → TypeMeaning
 meaning_at None = no_value
 meaning_at (Some p) = if is_own p.0 then by_kind p.1.kind p.0 p.1.constructors else no_value
 
-type_at : (at : ℕ) (ks : List Known) (name : List ℕ) → type_from at ks name ≡ meaning_at (known_at at ks name)
+type_at : (at : ℕ) (ks : List KnownEntity) (name : List ℕ) → type_from at ks name ≡ meaning_at (known_at at ks name)
 type_at at [] name = refl
 type_at at (k ∷ ks) name = by (bytes_eq k.name name) (type_at (suc at) ks name)
   where
@@ -117,10 +119,10 @@ type_at at (k ∷ ks) name = by (bytes_eq k.name name) (type_at (suc at) ks name
     by true rec = refl
     by false rec = rec
 
-pub type_found : (ks : List Known) (name : List ℕ) → type_from 0 ks name ≡ meaning_at (known_at 0 ks name)
+pub type_found : (ks : List KnownEntity) (name : List ℕ) → type_from 0 ks name ≡ meaning_at (known_at 0 ks name)
 type_found ks name = type_at 0 ks name
 
-is_entity_at : (at : ℕ) (ks : List Known) (name : List ℕ) → is_entity ks name ≡ is_some (known_at at ks name)
+is_entity_at : (at : ℕ) (ks : List KnownEntity) (name : List ℕ) → is_entity ks name ≡ is_some (known_at at ks name)
 is_entity_at at [] name = refl
 is_entity_at at (k ∷ ks) name = by (bytes_eq k.name name) (is_entity_at (suc at) ks name)
   where
@@ -128,20 +130,20 @@ is_entity_at at (k ∷ ks) name = by (bytes_eq k.name name) (is_entity_at (suc a
     by true rec = refl
     by false rec = rec
 
-pub is_entity_found : (ks : List Known) (name : List ℕ) → is_entity ks name ≡ is_some (known_at 0 ks name)
+pub is_entity_found : (ks : List KnownEntity) (name : List ℕ) → is_entity ks name ≡ is_some (known_at 0 ks name)
 is_entity_found ks name = is_entity_at 0 ks name
 
-abbrev pub written_at : TypeRef → Option (ℕ × Known) → Option (ℕ × Cap)
+abbrev pub written_at : TypeRef → Option (ℕ × KnownEntity) → Option (ℕ × Cap)
 written_at ty None = None
 written_at ty (Some p) = Some (p.0, cap_or ty.cap p.1.cap)
 
-type_of_at : (at : ℕ) (ks : List Known) (ty : TypeRef) → type_of at ks ty ≡ written_at ty (known_at at ks ty.name.text)
+type_of_at : (at : ℕ) (ks : List KnownEntity) (ty : TypeRef) → type_of_name at ks ty ≡ written_at ty (known_at at ks ty.name.text)
 type_of_at at [] ty = refl
 type_of_at at (k ∷ ks) ty = by (bytes_eq k.name ty.name.text) (type_of_at (suc at) ks ty)
   where
-    by : (b : Bool) → type_of (suc at) ks ty ≡ written_at ty (known_at (suc at) ks ty.name.text) → (if b then Some (at, cap_or ty.cap k.cap) else type_of (suc at) ks ty) ≡ written_at ty (if b then Some (at, k) else known_at (suc at) ks ty.name.text)
+    by : (b : Bool) → type_of_name (suc at) ks ty ≡ written_at ty (known_at (suc at) ks ty.name.text) → (if b then Some (at, cap_or ty.cap k.cap) else type_of_name (suc at) ks ty) ≡ written_at ty (if b then Some (at, k) else known_at (suc at) ks ty.name.text)
     by true rec = refl
     by false rec = rec
 
-pub written_found : (ks : List Known) (ty : TypeRef) → type_of 0 ks ty ≡ written_at ty (known_at 0 ks ty.name.text)
+pub written_found : (ks : List KnownEntity) (ty : TypeRef) → type_of_name 0 ks ty ≡ written_at ty (known_at 0 ks ty.name.text)
 written_found ks ty = type_of_at 0 ks ty

@@ -6,7 +6,7 @@ use Rattle.std.specs.Str.{bytes_eq}
 use Rattle.std.proofs.lemmas.List.{map-append}
 use Rattle.pc_lists.proofs.Gets.{get_map}
 use Rattle.pc_lists.proofs.Options.{none_some}
-use Rattle.pc_body_spec.specs.Scopes.{Visible, slot_of}
+use Rattle.pc_body_spec.specs.Scopes.{Visible, slot_named}
 use Rattle.pc_resolve.specs.Indexes.{firsts, with_first, marks}
 use Rattle.pc_resolve.specs.Pairs.{visible_pair}
 use Rattle.pc_resolve.proofs.Indexes.{firsts_push, marks_push, marks_take, mark_found}
@@ -31,7 +31,7 @@ module _ {E : Type 0} (v : E → Visible) (m : E → ℕ) where
   abbrev pub Kept : List E → List (List ℕ × ℕ) → Type 0
   Kept row slots = (slots ≡ firsts bytes_eq (pairs row)) × (map m row ≡ marks bytes_eq [] (pairs row))
 
-  pub found_in : (row : List E) (slots : List (List ℕ × ℕ)) (name : List ℕ) → Kept row slots → lookup (bytes_eq name) slots ≡ slot_of (map v row) name
+  pub found_in : (row : List E) (slots : List (List ℕ × ℕ)) (name : List ℕ) → Kept row slots → lookup (bytes_eq name) slots ≡ slot_named (map v row) name
   found_in row slots name k = ap (lookup (bytes_eq name)) k.0 ∙ sym (visible_found (map v row) name)
 
   pairs_push : (row : List E) (e : E) → pairs (row ++ e ∷ []) ≡ pairs row ++ visible_pair (v e) ∷ []

@@ -8,7 +8,7 @@ ghost use Rattle.pc_resolve.specs.Meanings.{meaning_view, type_view};
 use crate::entities::{Entities, Known};
 use crate::local_slots::LocalSlots;
 use crate::meaning::{Meaning, TypeMeaning};
-use crate::names::NameRow;
+use crate::name_row::NameRow;
 use crate::scope::{Visible, slot_of};
 use pc_caps::{Cap, List};
 use pc_keyed::KeyedBy;
@@ -120,7 +120,7 @@ impl Context {
 
     /// The meaning of a bare name, given the slot of the visible local or parameter with this name, if there is one.
     pub fn meaning(&self, local: Option<u32>, name: &[u8]) -> Meaning
-        ensures { meaning_view result ≡ spec.unless_local local (spec.member (spec.is_among self.now.fields name.now) (spec.is_among self.now.methods name.now)) }
+        ensures { meaning_view result ≡ spec.unless_local local (spec.member (spec.is_among_names self.now.fields name.now) (spec.is_among_names self.now.methods name.now)) }
     {
         if let Some(slot) = local {
             return Meaning::Local(slot);
@@ -164,7 +164,7 @@ impl Context {
     /// The number of a text, or 0 if it is not one of the program's.
     #[tactic(auto, using(crate::proofs::Texts::text_found))]
     pub fn text_of(&self, name: &[u8]) -> u32
-        ensures { result ≡ spec.text_of self.now name.now }
+        ensures { result ≡ spec.number_of_text self.now name.now }
     {
         match self.texts.find(name) {
             Some(number) => number,
@@ -176,7 +176,7 @@ impl Context {
     /// there is no such entity.
     #[tactic(auto, using(crate::proofs::Found::written_found))]
     pub fn type_of(&self, ty: &TypeRef) -> Option<(u32, Cap)>
-        ensures { result ≡ slots.type_of 0 self.now.entities ty.now }
+        ensures { result ≡ slots.type_of_name 0 self.now.entities ty.now }
     {
         match self.entities.find(ty.name.text.as_slice()) {
             Some((number, known)) => Some((number, cap_or(ty.cap, known.cap))),

@@ -10,7 +10,7 @@ mod entities;
 mod index;
 mod local_slots;
 mod meaning;
-mod names;
+mod name_row;
 mod params;
 mod scope;
 

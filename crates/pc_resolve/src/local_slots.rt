@@ -18,7 +18,7 @@ pub struct Placed {
 }
 
 impl Model for Placed {
-    ghost use Rattle.pc_body_spec.specs.Scopes.{Placed as Seen};
+    ghost use Rattle.pc_body_spec.specs.Scopes.{PlacedLocal as Seen};
 
     ghost Value = { Seen };
 
@@ -43,7 +43,7 @@ pub struct LocalSlots {
 
 impl Model for LocalSlots {
     ghost use Rattle.std.specs.Prelude.{◌≡◌, List as Sequence, map, nat_eq};
-    ghost use Rattle.pc_body_spec.specs.Scopes.{Placed as Seen};
+    ghost use Rattle.pc_body_spec.specs.Scopes.{PlacedLocal as Seen};
     ghost use Rattle.pc_resolve.specs.Indexes.{firsts};
     ghost use Rattle.pc_resolve.specs.Pairs.{placed_pair};
 

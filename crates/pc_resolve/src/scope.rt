@@ -35,7 +35,7 @@ impl Visible {
 /// The slot of the visible local or parameter with this name. `None` iff there is none; the first in the scope counts.
 /// The scope is searched from the start: in a body that gets nodes it has at most 64 slots.
 pub fn slot_of(scope: &[Visible], name: &[u8]) -> Option<u32>
-    ensures { result ≡ spec.slot_of scope.now name.now }
+    ensures { result ≡ spec.slot_named scope.now name.now }
 {
     for visible in scope {
         if visible.name.as_slice() == name {
@@ -102,7 +102,7 @@ impl Scope {
 
     /// The slot of the visible local or parameter with this name. `None` iff there is none; the first counts.
     pub fn find(&self, name: &[u8]) -> Option<u32>
-        ensures { result ≡ spec.slot_of self.now name.now }
+        ensures { result ≡ spec.slot_named self.now name.now }
     {
         self.slots.find(name)
     }

@@ -15,7 +15,7 @@ use Rattle.pc_core.specs.declared.nodes.NodeKind.TheVariants as node
 use Rattle.pc_core.specs.CoreData.{CoreData}
 use Rattle.pc_lists.specs.Places.{Each}
 use Rattle.pc_core.specs.Lookup.{node_end}
-use Rattle.pc_core.specs.Methods.{LocalFits, BodyFits, Uses}
+use Rattle.pc_core.specs.Methods.{LocalFits, BodyFits, UsesSlot}
 use Rattle.pc_core.specs.MethodKinds.{this_slot}
 use Rattle.pc_core.specs.Nodes.{NamesSlot, NamesFit}
 use Rattle.pc_core.specs.Formed.{Formed}
@@ -145,7 +145,7 @@ module _ (core : CoreData) (a b : Ann) (formed : Formed core) (wa : KeepsWritten
         | inr fit ↦ same.slots fit.define fit.definition s f (before_n fit) fit.is_definition fit.defines (ap (slice_get core.methods) fit.own ∙ g)
       ]
 
-  pub used_alike : (n : ℕ) (x : Node) (s : ℕ) → Agree core a b n → slice_get core.nodes n ≡ Some x → NamesSlot core x.method s → Uses s x.kind → (f : Method) → slice_get core.methods x.method ≡ Some f → slice_get a.slots (f.first_slot + s) ≡ slice_get b.slots (f.first_slot + s)
+  pub used_alike : (n : ℕ) (x : Node) (s : ℕ) → Agree core a b n → slice_get core.nodes n ≡ Some x → NamesSlot core x.method s → UsesSlot s x.kind → (f : Method) → slice_get core.methods x.method ≡ Some f → slice_get a.slots (f.first_slot + s) ≡ slice_get b.slots (f.first_slot + s)
   used_alike n x s same g names uses f i =
       let l : s < f.slots = subst (λ (z : Method). s < z.slots) (same_Some names.1.0 f (sym names.1.1 ∙ i)) names.1.2 in
       let room = slots_within x.method f i in
@@ -171,8 +171,8 @@ module _ (core : CoreData) (a b : Ann) (formed : Formed core) (wa : KeepsWritten
   looks_at : (x : Node) (s i : ℕ) → Some s ≡ Some i → ((f : Method) → slice_get core.methods x.method ≡ Some f → slice_get a.slots (f.first_slot + s) ≡ slice_get b.slots (f.first_slot + s)) → slot_of core a x.method i ≡ slot_of core b x.method i
   looks_at x s i l h = subst (λ j. slot_of core a x.method j ≡ slot_of core b x.method j) (same_Some s i l) (slot_same a b core x.method s h)
 
-  pub use_alike : (n : ℕ) (x : Node) (k : NodeKind) (s : ℕ) → Agree core a b n → slice_get core.nodes n ≡ Some x → x.kind ≡ k → Uses s k → NamesSlot core x.method s → (f : Method) → slice_get core.methods x.method ≡ Some f → slice_get a.slots (f.first_slot + s) ≡ slice_get b.slots (f.first_slot + s)
-  use_alike n x k s same g e u names = used_alike n x s same g names (subst (Uses s) (sym e) u)
+  pub use_alike : (n : ℕ) (x : Node) (k : NodeKind) (s : ℕ) → Agree core a b n → slice_get core.nodes n ≡ Some x → x.kind ≡ k → UsesSlot s k → NamesSlot core x.method s → (f : Method) → slice_get core.methods x.method ≡ Some f → slice_get a.slots (f.first_slot + s) ≡ slice_get b.slots (f.first_slot + s)
+  use_alike n x k s same g e u names = used_alike n x s same g names (subst (UsesSlot s) (sym e) u)
 
   -- What node n depends on is the same in both.
   pub looks_alike : (n : ℕ) (x : Node) (k : NodeKind) (m : Masks) (r o : Rule) (p q : Said) → Agree core a b n → slice_get core.nodes n ≡ Some x → Each (λ i c. c < n) x.children → x.kind ≡ k → says core a x m r k ≡ Some p → says core b x m o k ≡ Some q → LooksAlike core a b x.method k

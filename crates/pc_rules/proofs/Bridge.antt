@@ -23,7 +23,7 @@ use Rattle.pc_ann.specs.declared.annotation.Rule.{Rule}
 use Rattle.pc_ann.specs.declared.annotation.Rule.TheVariants as rule
 use Rattle.pc_rules.specs.declared.said.Said.{Said}
 use Rattle.pc_rules.specs.Parts.{says_of, reads_as, constructs, starts, through, through_notes, type_of, types_of, one_child, one_note, one_type, two_notes, three_notes, last_child, last_note, notes_of}
-use Rattle.pc_valid.specs.Words.{Ty, Masks, Slots, before, after}
+use Rattle.pc_valid.specs.Words.{Ty, Masks, Slots, before, masks_after}
 use Rattle.pc_rules.specs.Parts as parts
 use Rattle.pc_rules.specs.Values as values
 use Rattle.pc_rules.specs.Fields as fields
@@ -84,14 +84,14 @@ module _ (ann : Ann) where
   through_by [] (t ∷ ts) m h = absurd h
   through_by (c ∷ cs) [] m h = absurd h
   through_by (c ∷ cs) (t ∷ ts) m h =
-      ap (λ (o : Option Note). o >>= λ t. cond (starts t m) (through ann cs (after t)) None) h.0
-      ∙ ap (λ o. cond (starts t m) o None) (through_by cs ts (after t) h.1)
+      ap (λ (o : Option Note). o >>= λ t. cond (starts t m) (through ann cs (masks_after t)) None) h.0
+      ∙ ap (λ o. cond (starts t m) o None) (through_by cs ts (masks_after t) h.1)
 
   type_by : (c : ℕ) (t : Note) → slice_get ann.notes c ≡ Some t → type_of ann c ≡ t.ty
   type_by c t e = ap (λ (o : Option Note). o >>= λ t. t.ty) e
 
-  only_by : (c : ℕ) (t : Note) (m : Masks) → slice_get ann.notes c ≡ Some t → through ann (c ∷ []) m ≡ cond (starts t m) (Some (after t)) None
-  only_by c t m e = ap (λ (o : Option Note). o >>= λ t. cond (starts t m) (Some (after t)) None) e
+  only_by : (c : ℕ) (t : Note) (m : Masks) → slice_get ann.notes c ≡ Some t → through ann (c ∷ []) m ≡ cond (starts t m) (Some (masks_after t)) None
+  only_by c t m e = ap (λ (o : Option Note). o >>= λ t. cond (starts t m) (Some (masks_after t)) None) e
 
   arguments_by : (core : CoreData) (cs : List ℕ) (ns : List Note) (ps : List ParamInfo) → Noted ann cs ns → numbered.arguments_go core ann cs ps ≡ calls.arguments_go core ns ps
   arguments_by core [] [] [] h = refl
@@ -154,34 +154,35 @@ module _ (ann : Ann) where
   three_by (c ∷ d ∷ e ∷ i ∷ cs) (t ∷ s ∷ u ∷ v ∷ ts) f g h k = refl
 
   lazy_by : (c : ℕ × ℕ) (t : Note × Note) (m : Masks) → slice_get ann.notes c.0 ≡ Some t.0 → slice_get ann.notes c.1 ≡ Some t.1
-      → (through ann (c.0 ∷ []) m >>= λ n. through ann (c.1 ∷ []) n >>= λ k. Some (meet_masks n k)) ≡ cond (starts t.0 m && starts t.1 (after t.0)) (Some (meet_masks (after t.0) (after t.1))) None
+      → (through ann (c.0 ∷ []) m >>= λ n. through ann (c.1 ∷ []) n >>= λ k. Some (meet_masks n k)) ≡ cond (starts t.0 m && starts t.1 (masks_after t.0)) (Some (meet_masks (masks_after t.0) (masks_after t.1))) None
   lazy_by c t m p q =
-      bind_same (through ann (c.0 ∷ []) m) (cond (starts t.0 m) (Some (after t.0)) None) _ _ (only_by c.0 t.0 m p) (λ n e.
-      bind_same (through ann (c.1 ∷ []) n) (cond (starts t.1 n) (Some (after t.1)) None) _ _ (only_by c.1 t.1 n q) (λ k f. refl))
-      ∙ cond_then (starts t.0 m) (after t.0) _
-      ∙ ap (λ o. cond (starts t.0 m) o None) (cond_then (starts t.1 (after t.0)) (after t.1) _)
-      ∙ cond_twice (starts t.0 m) (starts t.1 (after t.0)) _
+      bind_same (through ann (c.0 ∷ []) m) (cond (starts t.0 m) (Some (masks_after t.0)) None) _ _ (only_by c.0 t.0 m p) (λ n e.
+      bind_same (through ann (c.1 ∷ []) n) (cond (starts t.1 n) (Some (masks_after t.1)) None) _ _ (only_by c.1 t.1 n q) (λ k f. refl))
+      ∙ cond_then (starts t.0 m) (masks_after t.0) _
+      ∙ ap (λ o. cond (starts t.0 m) o None) (cond_then (starts t.1 (masks_after t.0)) (masks_after t.1) _)
+      ∙ cond_twice (starts t.0 m) (starts t.1 (masks_after t.0)) _
 
   branch_by : (c : ℕ × ℕ × ℕ) (t : Note × Note × Note) (m : Masks) → slice_get ann.notes c.0 ≡ Some t.0 → slice_get ann.notes c.1 ≡ Some t.1 → slice_get ann.notes c.2 ≡ Some t.2
       → numbered.branch_masks ann c m ≡ control.branch_masks t m
   branch_by c t m p q r =
-      bind_same (through ann (c.0 ∷ []) m) (cond (starts t.0 m) (Some (after t.0)) None) _ _ (only_by c.0 t.0 m p) (λ n e.
-      bind_same (through ann (c.1 ∷ []) n) (cond (starts t.1 n) (Some (after t.1)) None) _ _ (only_by c.1 t.1 n q) (λ a f.
-      bind_same (through ann (c.2 ∷ []) n) (cond (starts t.2 n) (Some (after t.2)) None) _ _ (only_by c.2 t.2 n r) (λ b g. refl)))
-      ∙ cond_then (starts t.0 m) (after t.0) _
+      bind_same (through ann (c.0 ∷ []) m) (cond (starts t.0 m) (Some (masks_after t.0)) None) _ _ (only_by c.0 t.0 m p) (λ n e.
+      bind_same (through ann (c.1 ∷ []) n) (cond (starts t.1 n) (Some (masks_after t.1)) None) _ _ (only_by c.1 t.1 n q) (λ a f.
+      bind_same (through ann (c.2 ∷ []) n) (cond (starts t.2 n) (Some (masks_after t.2)) None) _ _ (only_by c.2 t.2 n r) (λ b g. refl)))
+      ∙ cond_then (starts t.0 m) (masks_after t.0) _
       ∙ ap (λ o. cond (starts t.0 m) o None)
-      (cond_then (starts t.1 (after t.0)) (after t.1) _ ∙ ap (λ o. cond (starts t.1 (after t.0)) o None) (cond_then (starts t.2 (after t.0)) (after t.2) _)
-      ∙ cond_twice (starts t.1 (after t.0)) (starts t.2 (after t.0)) _)
-      ∙ cond_twice (starts t.0 m) (starts t.1 (after t.0) && starts t.2 (after t.0)) _
+      (cond_then (starts t.1 (masks_after t.0)) (masks_after t.1) _
+          ∙ ap (λ o. cond (starts t.1 (masks_after t.0)) o None) (cond_then (starts t.2 (masks_after t.0)) (masks_after t.2) _)
+      ∙ cond_twice (starts t.1 (masks_after t.0)) (starts t.2 (masks_after t.0)) _)
+      ∙ cond_twice (starts t.0 m) (starts t.1 (masks_after t.0) && starts t.2 (masks_after t.0)) _
 
   loop_by : (c : ℕ × ℕ) (t : Note × Note) (m : Masks) → slice_get ann.notes c.0 ≡ Some t.0 → slice_get ann.notes c.1 ≡ Some t.1 → numbered.loop_masks ann c m ≡ control.loop_masks t m
   loop_by c t m p q =
-      bind_same (through ann (c.0 ∷ []) m) (cond (starts t.0 m) (Some (after t.0)) None) _ _ (only_by c.0 t.0 m p) (λ n e.
-      bind_same (through ann (c.1 ∷ []) n) (cond (starts t.1 n) (Some (after t.1)) None) _ _ (only_by c.1 t.1 n q) (λ k f. refl))
-      ∙ cond_then (starts t.0 m) (after t.0) _
-      ∙ ap (λ o. cond (starts t.0 m) o None) (cond_then (starts t.1 (after t.0)) (after t.1) _)
-      ∙ cond_twice (starts t.0 m) (starts t.1 (after t.0)) _
-      ∙ cond_twice (starts t.0 m && starts t.1 (after t.0)) (within m.0 t.1.live_after && same t.1.set_after m.1) _
+      bind_same (through ann (c.0 ∷ []) m) (cond (starts t.0 m) (Some (masks_after t.0)) None) _ _ (only_by c.0 t.0 m p) (λ n e.
+      bind_same (through ann (c.1 ∷ []) n) (cond (starts t.1 n) (Some (masks_after t.1)) None) _ _ (only_by c.1 t.1 n q) (λ k f. refl))
+      ∙ cond_then (starts t.0 m) (masks_after t.0) _
+      ∙ ap (λ o. cond (starts t.0 m) o None) (cond_then (starts t.1 (masks_after t.0)) (masks_after t.1) _)
+      ∙ cond_twice (starts t.0 m) (starts t.1 (masks_after t.0)) _
+      ∙ cond_twice (starts t.0 m && starts t.1 (masks_after t.0)) (within m.0 t.1.live_after && same t.1.set_after m.1) _
 
 -- The notes of the children of node x.
 module _ (core : CoreData) (ann : Ann) (x : Node) (ns : List Note) (h : Noted ann x.children ns) where

@@ -12,7 +12,7 @@ use Rattle.pc_lists.proofs.Gets.{take_get}
 use Rattle.pc_masks.specs.declared.mask.Mask.{Mask}
 use Rattle.pc_ann.specs.declared.annotation.Note.{Note}
 use Rattle.pc_rules.specs.Parts.{starts, through_notes}
-use Rattle.pc_valid.specs.Words.{Masks, after}
+use Rattle.pc_valid.specs.Words.{Masks, masks_after}
 use Rattle.pc_rules.specs.Calls.{argument_goes, argument_sendable, arguments_go, arguments_sendable}
 use Rattle.pc_rules.specs.Children.{is_there, each_has, goes_at, goes_to_param, sendable_at, sendable_to_param}
 use Rattle.pc_rules.specs.Control.{without_item, without_items}
@@ -27,10 +27,10 @@ drop_step : {A : Type 0} → (ts : List A) (i : ℕ) (t : A) → slice_get ts i 
 drop_step ts i t e = let k : suc i ≡ i + 1 = omega arith in drop_suc ts i t e ∙ ap (λ n. t ∷ drop n ts) k
 
 pub through_stops : (ns : List Note) (i : ℕ) (t : Note) (m : Masks) → slice_get ns i ≡ Some t → starts t m ≡ false → through_notes (drop i ns) m ≡ None
-through_stops ns i t m e f = ap (λ ts. through_notes ts m) (drop_step ns i t e) ∙ ap (λ b. cond b (through_notes (drop (i + 1) ns) (after t)) None) f
+through_stops ns i t m e f = ap (λ ts. through_notes ts m) (drop_step ns i t e) ∙ ap (λ b. cond b (through_notes (drop (i + 1) ns) (masks_after t)) None) f
 
-pub through_goes : (ns : List Note) (i : ℕ) (t : Note) (m : Masks) → slice_get ns i ≡ Some t → starts t m ≡ true → through_notes (drop i ns) m ≡ through_notes (drop (i + 1) ns) (after t)
-through_goes ns i t m e f = ap (λ ts. through_notes ts m) (drop_step ns i t e) ∙ ap (λ b. cond b (through_notes (drop (i + 1) ns) (after t)) None) f
+pub through_goes : (ns : List Note) (i : ℕ) (t : Note) (m : Masks) → slice_get ns i ≡ Some t → starts t m ≡ true → through_notes (drop i ns) m ≡ through_notes (drop (i + 1) ns) (masks_after t)
+through_goes ns i t m e f = ap (λ ts. through_notes ts m) (drop_step ns i t e) ∙ ap (λ b. cond b (through_notes (drop (i + 1) ns) (masks_after t)) None) f
 
 pub go_at : (core : CoreData) (ns : List Note) (ps : List ParamInfo) (k i : ℕ) → length ps ≡ k → k ≤ length ns → i < k
     → arguments_go core (drop i (take k ns)) (drop i ps) ≡ (goes_at core ns ps i && arguments_go core (drop (i + 1) (take k ns)) (drop (i + 1) ps))

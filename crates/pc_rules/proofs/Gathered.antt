@@ -15,7 +15,7 @@ use Rattle.pc_rules.specs.Parts.{notes_of}
 use Rattle.pc_valid.specs.Words.{Masks}
 use Rattle.pc_rules.specs.Rules.{rule_says, says}
 use Rattle.pc_lists.proofs.Bools.{false_true}
-use Rattle.pc_rules.specs.Children.{HaveNotes, is_there, each_has, put_before, gather, either, MayGather, picked}
+use Rattle.pc_rules.specs.Children.{HaveNotes, is_there, each_has, put_before, gather, all_or_gathered, MayGather, picked_note}
 
 pub note_within : {A : Type 0} → (notes : List A) (c : ℕ) → c < length notes → (t : A) × (slice_get notes c ≡ Some t)
 note_within [] c l = absurd (omega (arith, l))
@@ -30,7 +30,7 @@ gather_length notes (c ∷ cs) h =
     let at = note_within notes c (h 0 c refl) in
     ap (λ (o : Option Note). length (put_before o (gather notes cs))) at.1 ∙ ap suc (gather_length notes cs (λ i d e. h (suc i) d e))
 
-gather_get : (notes : List Note) (cs : List ℕ) (i : ℕ) → HaveNotes notes cs → slice_get (gather notes cs) i ≡ picked notes cs i
+gather_get : (notes : List Note) (cs : List ℕ) (i : ℕ) → HaveNotes notes cs → slice_get (gather notes cs) i ≡ picked_note notes cs i
 gather_get notes [] i h = refl
 gather_get notes (c ∷ cs) zero h =
     let at = note_within notes c (h 0 c refl) in
@@ -39,11 +39,11 @@ gather_get notes (c ∷ cs) (suc i) h =
     let at = note_within notes c (h 0 c refl) in
     ap (λ (o : Option Note). slice_get (put_before o (gather notes cs)) (suc i)) at.1 ∙ gather_get notes cs i (λ j d e. h (suc j) d e)
 
-pub either_get : (held : Bool) (notes : List Note) (cs : List ℕ) (i : ℕ) → held ≡ false → MayGather held notes cs → slice_get (either held notes cs) i ≡ picked notes cs i
+pub either_get : (held : Bool) (notes : List Note) (cs : List ℕ) (i : ℕ) → held ≡ false → MayGather held notes cs → slice_get (all_or_gathered held notes cs) i ≡ picked_note notes cs i
 either_get true notes cs i e h = absurd (false_true (sym e))
 either_get false notes cs i e h = gather_get notes cs i h
 
-pub either_length : (held : Bool) (notes : List Note) (cs : List ℕ) → held ≡ false → MayGather held notes cs → length (either held notes cs) ≡ length cs
+pub either_length : (held : Bool) (notes : List Note) (cs : List ℕ) → held ≡ false → MayGather held notes cs → length (all_or_gathered held notes cs) ≡ length cs
 either_length true notes cs e h = absurd (false_true (sym e))
 either_length false notes cs e h = gather_length notes cs h
 
@@ -84,7 +84,7 @@ one_lacks notes [] e = absurd (false_true (sym e))
 one_lacks notes (c ∷ cs) e = missing (slice_get notes c) (each_has notes cs) (notes_of notes cs) e (one_lacks notes cs)
 
 -- The conclusion of a rule for a node whose children all have notes, and for one with a child that has none.
-pub says_then : (core : CoreData) (ann : Ann) (x : Node) (m : Masks) (r : Rule) (k : NodeKind) → each_has ann.notes x.children ≡ true → says core ann x m r k ≡ rule_says core ann.slots (either false ann.notes x.children) x m r k
+pub says_then : (core : CoreData) (ann : Ann) (x : Node) (m : Masks) (r : Rule) (k : NodeKind) → each_has ann.notes x.children ≡ true → says core ann x m r k ≡ rule_says core ann.slots (all_or_gathered false ann.notes x.children) x m r k
 says_then core ann x m r k e = ap (λ (o : Option (List Note)). o >>= λ ns. rule_says core ann.slots ns x m r k) (all_there ann.notes x.children e)
 
 pub says_else : (core : CoreData) (ann : Ann) (x : Node) (m : Masks) (r : Rule) (k : NodeKind) → each_has ann.notes x.children ≡ false → says core ann x m r k ≡ None

@@ -9,7 +9,7 @@ use Rattle.pc_core.specs.CoreData.{CoreData}
 use Rattle.pc_lists.proofs.Options.{bind_some}
 use Rattle.pc_masks.specs.declared.mask.Mask.{Mask}
 use Rattle.pc_ann.specs.declared.annotation.Rule.TheVariants as rule
-use Rattle.pc_masks.specs.Masks.{IsIn, with_number}
+use Rattle.pc_masks.specs.Masks.{IsInMask, with_number}
 use Rattle.pc_masks.specs.MaskLaws.{without_number_bits, with_number_bits}
 use Rattle.pc_rules.specs.declared.said.Said.{Said}
 use Rattle.pc_rules.specs.Parts.{through, one_child, type_of, last_child}
@@ -29,7 +29,8 @@ pub consume_takes_out : ConsumeTakesOut
 consume_takes_out core ann x s m r e =
     let a = bind_some (used core ann x s m.0) _ r (by_number core ann x m rule.Consume (node.Consume s) r e) in
     let same = same_Some _ r a.2 in
-    (λ i. subst (λ (q : Said). (IsIn q.live i) ↔ ((i ≢ s) × IsIn m.0 i)) same (without_number_bits m.0 s i), sym (ap (λ (q : Said). q.set) same))
+    (λ i. subst (λ (q : Said). (IsInMask q.live i) ↔ ((i ≢ s) × IsInMask m.0 i)) same (without_number_bits m.0 s i), sym
+        (ap (λ (q : Said). q.set) same))
 
 -- The result under a condition.
 kept : {A : Type 0} → (b : Bool) (o : Option A) (y : A) → cond b o None ≡ Some y → o ≡ Some y
@@ -45,7 +46,7 @@ define_puts_in core ann x s m n r e t =
     let f = bind_some (through ann x.children m) _ r d in
     let same = same_Some _ r f.2 in
     let at = same_Some f.0 n (sym f.1 ∙ t) in (
-      λ i. subst (λ (q : Said). (IsIn q.live i) ↔ (((i ≡ s) × (s < 64)) ⊎ IsIn n.0 i)) same (subst (λ (k : Masks). (IsIn (with_number f.0.0 s) i) ↔ (((i ≡ s) × (s < 64)) ⊎ IsIn k.0 i)) at (with_number_bits f.0.0 s i)),
+      λ i. subst (λ (q : Said). (IsInMask q.live i) ↔ (((i ≡ s) × (s < 64)) ⊎ IsInMask n.0 i)) same (subst (λ (k : Masks). (IsInMask (with_number f.0.0 s) i) ↔ (((i ≡ s) × (s < 64)) ⊎ IsInMask k.0 i)) at (with_number_bits f.0.0 s i)),
       sym (ap (λ (q : Said). q.set) same) ∙ ap (λ (k : Masks). k.1) at,
     )
 
@@ -57,14 +58,14 @@ defined_slot : (s i : ℕ) → node.Define s ≡ node.Define i → s ≡ i
 defined_slot s i e = ap slot_in e
 
 -- An item removes the slot that it defines.
-definition_bits : (k : NodeKind) (l : Mask) (i : ℕ) → (IsIn (without_definition k l) i) ↔ (IsIn l i × (k ≡ node.Define i → ⊥))
+definition_bits : (k : NodeKind) (l : Mask) (i : ℕ) → (IsInMask (without_definition k l) i) ↔ (IsInMask l i × (k ≡ node.Define i → ⊥))
 definition_bits (node.Define s) l i = (
   λ h. let p = (without_number_bits l s i).0 h in (p.1, λ e. p.0 (sym (defined_slot s i e))),
   λ h. (without_number_bits l s i).1 (λ e. h.1 (ap node.Define (sym e)), h.0),
 )
 definition_bits k l i = (λ h. (h, λ e. cc e), λ h. h.0)
 
-item_bits : (o : Option Node) (l : Mask) (i : ℕ) → (IsIn (without_item o l) i) ↔ (IsIn l i × ((y : Node) → o ≡ Some y → y.kind ≡ node.Define i → ⊥))
+item_bits : (o : Option Node) (l : Mask) (i : ℕ) → (IsInMask (without_item o l) i) ↔ (IsInMask l i × ((y : Node) → o ≡ Some y → y.kind ≡ node.Define i → ⊥))
 item_bits None l i = (λ h. (h, λ y e k. none-some y e), λ h. h.0)
 item_bits (Some x) l i = (
   λ h. let p = (definition_bits x.kind l i).0 h in (p.0, λ y e k. p.1 (ap (λ (z : Node). z.kind) (same_Some x y e) ∙ k)),
@@ -78,7 +79,8 @@ split core c cs i d y (suc k) e f g p q = q (d, y, (k, e), f, g)
 either : (core : CoreData) (c : ℕ) (cs : List ℕ) (i : ℕ) → Defines core (c ∷ cs) i → ((y : Node) → slice_get core.nodes c ≡ Some y → y.kind ≡ node.Define i → ⊥) → ((Defines core cs i) → ⊥) → ⊥
 either core c cs i d p q = split core c cs i d.0 d.1 d.2.0 d.2.1 d.3 d.4 p q
 
-pub items_bits : (core : CoreData) (cs : List ℕ) (l : Mask) (i : ℕ) → (IsIn (without_items core cs l) i) ↔ (IsIn l i × ((Defines core cs i) → ⊥))
+pub items_bits : (core : CoreData) (cs : List ℕ) (l : Mask) (i : ℕ)
+    → (IsInMask (without_items core cs l) i) ↔ (IsInMask l i × ((Defines core cs i) → ⊥))
 items_bits core [] l i = (λ h. (h, λ d. none-some d.0 d.2.1), λ h. h.0)
 items_bits core (c ∷ cs) l i =
     let rest = items_bits core cs (without_item (slice_get core.nodes c) l) i in
@@ -94,6 +96,6 @@ seq_takes_out core ann x m n r e t =
     let f = bind_some (through ann x.children m) _ r b.2 in
     let same = same_Some _ r f.2 in
     let at = same_Some f.0 n (sym f.1 ∙ t) in (
-      λ i. subst (λ (q : Said). (IsIn q.live i) ↔ (IsIn n.0 i × ((Defines core x.children i) → ⊥))) same (subst (λ (k : Masks). (IsIn (without_items core x.children f.0.0) i) ↔ (IsIn k.0 i × ((Defines core x.children i) → ⊥))) at (items_bits core x.children f.0.0 i)),
+      λ i. subst (λ (q : Said). (IsInMask q.live i) ↔ (IsInMask n.0 i × ((Defines core x.children i) → ⊥))) same (subst (λ (k : Masks). (IsInMask (without_items core x.children f.0.0) i) ↔ (IsInMask k.0 i × ((Defines core x.children i) → ⊥))) at (items_bits core x.children f.0.0 i)),
       sym (ap (λ (q : Said). q.set) same) ∙ ap (λ (k : Masks). k.1) at,
     )

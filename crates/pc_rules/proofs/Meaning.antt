@@ -22,9 +22,9 @@ use Rattle.pc_core.specs.Lookup.{method_named}
 use Rattle.pc_ann.specs.declared.annotation.Note.{Note}
 use Rattle.pc_ann.specs.declared.annotation.Rule.{Rule}
 use Rattle.pc_ann.specs.declared.annotation.Rule.TheVariants as rule
-use Rattle.pc_masks.specs.Masks.{IsIn, with_number, without_number, within, first}
+use Rattle.pc_masks.specs.Masks.{IsInMask, with_number, without_number, within, first}
 use Rattle.pc_rules.specs.Parts.{slot_of, goes_to, readable, lower, constructs, full}
-use Rattle.pc_valid.specs.Words.{Ty, Masks, Slots, before, after, place}
+use Rattle.pc_valid.specs.Words.{Ty, Masks, Slots, before, masks_after, place}
 use Rattle.pc_rules.specs.Values.{defined_type, old_value}
 use Rattle.pc_rules.specs.Fields.{field_of, own_field, own_old}
 use Rattle.pc_rules.specs.Calls.{recovered_result}
@@ -36,7 +36,7 @@ use Rattle.pc_rules.specs.Control.{without_items, joined, recovered, start_set}
 -- Nodes with these notes are evaluated one after the other: each starts from the masks after the previous one.
 abbrev pub OneAfterOther : List Note → Masks → Masks → Type 0
 OneAfterOther [] from to = from ≡ to
-OneAfterOther (t ∷ ts) from to = (before t ≡ from) × OneAfterOther ts (after t) to
+OneAfterOther (t ∷ ts) from to = (before t ≡ from) × OneAfterOther ts (masks_after t) to
 
 abbrev pub Reachable : Node → Slot × (ℕ × Cap) → Type 0
 Reachable x i = (i.0.depth ≡ x.depth) ⊎ (sendable i.1.1 ≡ true)
@@ -98,7 +98,7 @@ pub record Called (core : CoreData) (ns : List Note) (name : ℕ) : Type 0 where
 -- A literal, or the value of a primitive: of entity e.
 pub record Literal (own : Note) (e : ℕ) : Type 0 where
   pub type : own.ty ≡ Some (e, form.Val)
-  pub masks : after own ≡ before own
+  pub masks : masks_after own ≡ before own
 
 -- `this`.
 pub record This (core : CoreData) (slots : Slots) (own : Note) (x : Node) : Type 0 where
@@ -110,25 +110,25 @@ pub record This (core : CoreData) (slots : Slots) (own : Note) (x : Node) : Type
   pub whole : full core home.entity own.set_before ≡ true → Reachable x slot → seen ≡ plain slot.1.1
   pub else_tag : (full core home.entity own.set_before ≡ true → Reachable x slot → ⊥) → seen ≡ form.Tag
   pub type : own.ty ≡ Some (home.entity, seen)
-  pub masks : after own ≡ before own
+  pub masks : masks_after own ≡ before own
 
 -- A local or parameter s.
 pub record Local (core : CoreData) (slots : Slots) (own : Note) (x : Node) (s : ℕ) : Type 0 where
   pub slot : Slot × (ℕ × Cap)
   pub is_slot : slot_of core slots x.method s ≡ Some slot
-  pub live : IsIn own.live_before s
+  pub live : IsInMask own.live_before s
   pub reachable : Reachable x slot
   pub type : own.ty ≡ Some (slot.1.0, plain slot.1.1)
-  pub masks : after own ≡ before own
+  pub masks : masks_after own ≡ before own
 
 -- `consume` s.
 pub record Consume (core : CoreData) (slots : Slots) (own : Note) (x : Node) (s : ℕ) : Type 0 where
   pub slot : Slot × (ℕ × Cap)
   pub is_slot : slot_of core slots x.method s ≡ Some slot
-  pub live : IsIn own.live_before s
+  pub live : IsInMask own.live_before s
   pub reachable : Reachable x slot
   pub type : own.ty ≡ Some (slot.1.0, unalias slot.1.1)
-  pub masks : after own ≡ (without_number own.live_before s, own.set_before)
+  pub masks : masks_after own ≡ (without_number own.live_before s, own.set_before)
 
 -- The definition of local s.
 pub record Define (core : CoreData) (slots : Slots) (own : Note) (ns : List Note) (x : Node) (s : ℕ) : Type 0 where
@@ -143,7 +143,7 @@ pub record Define (core : CoreData) (slots : Slots) (own : Note) (ns : List Note
   pub type : own.ty ≡ None
   pub after_children : Masks
   pub in_order : OneAfterOther ns (before own) after_children
-  pub masks : after own ≡ (with_number after_children.0 s, after_children.1)
+  pub masks : masks_after own ≡ (with_number after_children.0 s, after_children.1)
 
 -- An assignment to s.
 pub record Assign (core : CoreData) (slots : Slots) (own : Note) (ns : List Note) (x : Node) (s : ℕ) : Type 0 where
@@ -159,7 +159,7 @@ pub record Assign (core : CoreData) (slots : Slots) (own : Note) (ns : List Note
   pub after_children : Masks
   pub in_order : OneAfterOther ns (before own) after_children
   pub type : own.ty ≡ old_value s slot.1 after_children.0
-  pub masks : after own ≡ (with_number after_children.0 s, after_children.1)
+  pub masks : masks_after own ≡ (with_number after_children.0 s, after_children.1)
 
 -- ---- fields
 
@@ -175,7 +175,7 @@ pub record Get (core : CoreData) (own : Note) (ns : List Note) (x : Node) (name 
   pub seen : Form
   pub sees : view origin.1 field.1.cap ≡ Some seen
   pub type : own.ty ≡ Some (field.1.entity, seen)
-  pub masks : OneAfterOther ns (before own) (after own)
+  pub masks : OneAfterOther ns (before own) (masks_after own)
 
 -- Reading a field of `this` before all fields are set.
 pub record GetOwn (core : CoreData) (own : Note) (ns : List Note) (x : Node) (name : ℕ) : Type 0 where
@@ -184,9 +184,9 @@ pub record GetOwn (core : CoreData) (own : Note) (ns : List Note) (x : Node) (na
   pub is_field : own_field core x name ≡ Some field
   pub seen : Form
   pub sees : view form.Ref field.1.cap ≡ Some seen
-  pub set : IsIn own.set_after field.0
+  pub set : IsInMask own.set_after field.0
   pub type : own.ty ≡ Some (field.1.entity, seen)
-  pub masks : OneAfterOther ns (before own) (after own)
+  pub masks : OneAfterOther ns (before own) (masks_after own)
 
 -- Writing a field.
 pub record Put (core : CoreData) (own : Note) (ns : List Note) (x : Node) (name : ℕ) : Type 0 where
@@ -206,7 +206,7 @@ pub record Put (core : CoreData) (own : Note) (ns : List Note) (x : Node) (name 
   pub old : Form
   pub takes : taken origin.1 field.1.cap ≡ Some old
   pub type : own.ty ≡ Some (field.1.entity, old)
-  pub masks : OneAfterOther ns (before own) (after own)
+  pub masks : OneAfterOther ns (before own) (masks_after own)
 
 -- Writing a field of `this` before all fields are set.
 pub record PutOwn (core : CoreData) (own : Note) (ns : List Note) (x : Node) (name : ℕ) : Type 0 where
@@ -220,10 +220,10 @@ pub record PutOwn (core : CoreData) (own : Note) (ns : List Note) (x : Node) (na
   pub is_value : first.ty ≡ Some value
   pub after_children : Masks
   pub in_order : OneAfterOther ns (before own) after_children
-  pub may : (field.1.fixed ≡ false) ⊎ (IsIn after_children.1 field.0 → ⊥)
+  pub may : (field.1.fixed ≡ false) ⊎ (IsInMask after_children.1 field.0 → ⊥)
   pub goes : goes_to core value (place field.1) ≡ true
   pub type : own.ty ≡ own_old field after_children.1
-  pub masks : after own ≡ (after_children.0, with_number after_children.1 field.0)
+  pub masks : masks_after own ≡ (after_children.0, with_number after_children.1 field.0)
 
 -- ---- calls
 
@@ -233,7 +233,7 @@ pub record New (core : CoreData) (own : Note) (ns : List Note) (k : ℕ) : Type 
   pub is_called : slice_get core.methods k ≡ Some called
   pub go : Go core ns called.params
   pub type : own.ty ≡ Some called.result
-  pub masks : OneAfterOther ns (before own) (after own)
+  pub masks : OneAfterOther ns (before own) (masks_after own)
 
 -- Constructing an actor.
 pub record Spawn (core : CoreData) (own : Note) (ns : List Note) (k : ℕ) : Type 0 where
@@ -241,7 +241,7 @@ pub record Spawn (core : CoreData) (own : Note) (ns : List Note) (k : ℕ) : Typ
   pub is_called : slice_get core.methods k ≡ Some called
   pub go : Go core ns called.params
   pub type : own.ty ≡ Some (called.entity, form.Tag)
-  pub masks : OneAfterOther ns (before own) (after own)
+  pub masks : OneAfterOther ns (before own) (masks_after own)
 
 -- A call.
 pub record Call (core : CoreData) (own : Note) (ns : List Note) (name : ℕ) : Type 0 where
@@ -250,7 +250,7 @@ pub record Call (core : CoreData) (own : Note) (ns : List Note) (name : ℕ) : T
   pub go : Go core call.arguments call.called.params
   pub fit : fits call.to.1 call.called.receiver ≡ true
   pub type : own.ty ≡ Some call.called.result
-  pub masks : OneAfterOther ns (before own) (after own)
+  pub masks : OneAfterOther ns (before own) (masks_after own)
 
 -- A call whose receiver is lent to the method.
 pub record CallRecover (core : CoreData) (own : Note) (ns : List Note) (name : ℕ) : Type 0 where
@@ -262,7 +262,7 @@ pub record CallRecover (core : CoreData) (own : Note) (ns : List Note) (name : �
   pub lent : (call.called.receiver ≡ cap.Ref) ⊎ (call.called.receiver ≡ cap.Box)
   pub may_go : Sendable call.arguments call.called.params
   pub type : own.ty ≡ recovered_result call.called.result
-  pub masks : OneAfterOther ns (before own) (after own)
+  pub masks : OneAfterOther ns (before own) (masks_after own)
 
 -- A message.
 pub record Send (core : CoreData) (own : Note) (ns : List Note) (name : ℕ) : Type 0 where
@@ -270,7 +270,7 @@ pub record Send (core : CoreData) (own : Note) (ns : List Note) (name : ℕ) : T
   pub behaviour : call.called.kind ≡ method.Be
   pub go : Go core call.arguments call.called.params
   pub type : own.ty ≡ Some (none_entity, form.Val)
-  pub masks : OneAfterOther ns (before own) (after own)
+  pub masks : OneAfterOther ns (before own) (masks_after own)
 
 -- The text of a number or of a truth value.
 pub record Builtin (core : CoreData) (own : Note) (ns : List Note) (name : ℕ) : Type 0 where
@@ -279,7 +279,7 @@ pub record Builtin (core : CoreData) (own : Note) (ns : List Note) (name : ℕ) 
   pub is_string : slice_get core.names name ≡ Some (codes "string")
   pub reads : Reads u64_entity child.ty ⊎ Reads bool_entity child.ty
   pub type : own.ty ≡ Some (string_entity, form.Val)
-  pub masks : OneAfterOther ns (before own) (after own)
+  pub masks : OneAfterOther ns (before own) (masks_after own)
 
 -- ---- operators
 
@@ -288,35 +288,35 @@ pub record Arith (own : Note) (ns : List Note) (o : Op) : Type 0 where
   pub operator : is_arithmetic o ≡ true
   pub both : BothRead u64_entity ns
   pub type : own.ty ≡ Some (u64_entity, form.Val)
-  pub masks : OneAfterOther ns (before own) (after own)
+  pub masks : OneAfterOther ns (before own) (masks_after own)
 
 -- Less and greater.
 pub record Compare (own : Note) (ns : List Note) (o : Op) : Type 0 where
   pub operator : is_comparison o ≡ true
   pub both : BothRead u64_entity ns
   pub type : own.ty ≡ Some (bool_entity, form.Val)
-  pub masks : OneAfterOther ns (before own) (after own)
+  pub masks : OneAfterOther ns (before own) (masks_after own)
 
 -- Equality.
 pub record Equal (own : Note) (ns : List Note) (o : Op) : Type 0 where
   pub operator : is_equality o ≡ true
   pub both : BothRead u64_entity ns ⊎ (BothRead bool_entity ns ⊎ BothRead string_entity ns)
   pub type : own.ty ≡ Some (bool_entity, form.Val)
-  pub masks : OneAfterOther ns (before own) (after own)
+  pub masks : OneAfterOther ns (before own) (masks_after own)
 
 -- Concatenation of two texts.
 pub record Join (own : Note) (ns : List Note) (o : Op) : Type 0 where
   pub operator : is_add o ≡ true
   pub both : BothRead string_entity ns
   pub type : own.ty ≡ Some (string_entity, form.Val)
-  pub masks : OneAfterOther ns (before own) (after own)
+  pub masks : OneAfterOther ns (before own) (masks_after own)
 
 -- `xor`.
 pub record Xor (own : Note) (ns : List Note) (o : Op) : Type 0 where
   pub operator : is_xor o ≡ true
   pub both : BothRead bool_entity ns
   pub type : own.ty ≡ Some (bool_entity, form.Val)
-  pub masks : OneAfterOther ns (before own) (after own)
+  pub masks : OneAfterOther ns (before own) (masks_after own)
 
 -- `not`.
 pub record Not (own : Note) (ns : List Note) : Type 0 where
@@ -324,7 +324,7 @@ pub record Not (own : Note) (ns : List Note) : Type 0 where
   pub children : ns ≡ child ∷ []
   pub reads : Reads bool_entity child.ty
   pub type : own.ty ≡ Some (bool_entity, form.Val)
-  pub masks : OneAfterOther ns (before own) (after own)
+  pub masks : OneAfterOther ns (before own) (masks_after own)
 
 -- `and` and `or`.
 pub record Lazy (own : Note) (ns : List Note) : Type 0 where
@@ -335,8 +335,8 @@ pub record Lazy (own : Note) (ns : List Note) : Type 0 where
   pub right_reads : Reads bool_entity right.ty
   pub type : own.ty ≡ Some (bool_entity, form.Val)
   pub starts : before left ≡ before own
-  pub goes_on : before right ≡ after left
-  pub masks : after own ≡ meet_masks (after left) (after right)
+  pub goes_on : before right ≡ masks_after left
+  pub masks : masks_after own ≡ meet_masks (masks_after left) (masks_after right)
 
 -- `is` and `isnt`.
 pub record Identity (own : Note) (ns : List Note) : Type 0 where
@@ -348,7 +348,7 @@ pub record Identity (own : Note) (ns : List Note) : Type 0 where
   pub right_type : Ty
   pub is_right : right.ty ≡ Some right_type
   pub type : own.ty ≡ Some (bool_entity, form.Val)
-  pub masks : OneAfterOther ns (before own) (after own)
+  pub masks : OneAfterOther ns (before own) (masks_after own)
 
 -- ---- control
 
@@ -360,7 +360,7 @@ pub record Seq (core : CoreData) (own : Note) (ns : List Note) (x : Node) : Type
   pub type : own.ty ≡ last.ty
   pub after_children : Masks
   pub in_order : OneAfterOther ns (before own) after_children
-  pub masks : after own ≡ (without_items core x.children after_children.0, after_children.1)
+  pub masks : masks_after own ≡ (without_items core x.children after_children.0, after_children.1)
 
 -- `if`.
 pub record If (core : CoreData) (own : Note) (ns : List Note) : Type 0 where
@@ -371,9 +371,9 @@ pub record If (core : CoreData) (own : Note) (ns : List Note) : Type 0 where
   pub reads : Reads bool_entity condition.ty
   pub type : own.ty ≡ joined core yes.ty no.ty
   pub starts : before condition ≡ before own
-  pub yes_starts : before yes ≡ after condition
-  pub no_starts : before no ≡ after condition
-  pub masks : after own ≡ meet_masks (after yes) (after no)
+  pub yes_starts : before yes ≡ masks_after condition
+  pub no_starts : before no ≡ masks_after condition
+  pub masks : masks_after own ≡ meet_masks (masks_after yes) (masks_after no)
 
 -- `while`.
 pub record While (own : Note) (ns : List Note) : Type 0 where
@@ -383,10 +383,10 @@ pub record While (own : Note) (ns : List Note) : Type 0 where
   pub reads : Reads bool_entity condition.ty
   pub type : own.ty ≡ Some (none_entity, form.Val)
   pub starts : before condition ≡ before own
-  pub body_starts : before body ≡ after condition
+  pub body_starts : before body ≡ masks_after condition
   pub keeps : within own.live_before body.live_after ≡ true
   pub same_set : body.set_after ≡ own.set_before
-  pub masks : after own ≡ after condition
+  pub masks : masks_after own ≡ masks_after condition
 
 -- `recover`.
 pub record Recover (own : Note) (ns : List Note) (k : Option Cap) : Type 0 where
@@ -397,7 +397,7 @@ pub record Recover (own : Note) (ns : List Note) (k : Option Cap) : Type 0 where
   pub lifted : Form
   pub is_lifted : recovered k value.1 ≡ Some lifted
   pub type : own.ty ≡ Some (value.0, lifted)
-  pub masks : OneAfterOther ns (before own) (after own)
+  pub masks : OneAfterOther ns (before own) (masks_after own)
 
 -- A method's body.
 pub record Body (core : CoreData) (own : Note) (ns : List Note) (x : Node) : Type 0 where
@@ -409,7 +409,7 @@ pub record Body (core : CoreData) (own : Note) (ns : List Note) (x : Node) : Typ
   pub set : own.set_before ≡ start_set core home
   pub result : home.kind ≡ method.Fun → (v : Ty) × (child.ty ≡ Some v) × (lower core v home.result ≡ true)
   pub type : own.ty ≡ None
-  pub masks : OneAfterOther ns (before own) (after own)
+  pub masks : OneAfterOther ns (before own) (masks_after own)
 
 -- ---- every rule
 

@@ -25,7 +25,7 @@ use Rattle.pc_ann.specs.declared.annotation.Note.{Note}
 use Rattle.pc_masks.specs.Masks.{has, same, with_number, without_number}
 use Rattle.pc_rules.specs.declared.said.Said.{Said}
 use Rattle.pc_rules.specs.Parts.{says_of, starts, constructs, full, reachable, readable, reads_as, goes_to, slot_of, last_child, through_notes, one_note, two_notes, three_notes, last_note, one_type, types_of, two_types}
-use Rattle.pc_valid.specs.Words.{Ty, Masks, Slots, before, after, place}
+use Rattle.pc_valid.specs.Words.{Ty, Masks, Slots, before, masks_after, place}
 use Rattle.pc_rules.specs.Values.{literal_says, this_form, this_says, used, local_says, consume_says, same_cap, same_place, defined_type, defines, defined, define_says, is_var, old_value, assigns, assigned, assign_says}
 use Rattle.pc_rules.specs.Fields.{is_this, lacks_fields, own_set, incomplete_in, incomplete, field_of, own_field, field_type, read_says, get_says, own_read_says, getown_says, writes, written_field, old_type, write_says, put_says, value_type, own_old, own_writes, own_write_says, putown_says}
 use Rattle.pc_rules.specs.Operators.{both_read_as, value_says, not_says, identity_says, lazy_masks, lazy_says, meet_masks}
@@ -37,10 +37,10 @@ use Rattle.pc_rules.proofs.Agreeing.{places_equal}
 
 -- ---- the conclusion of a rule, in parts
 
-pub said_parts : (own : Note) (ty : Option Ty) (m : Masks) → Some (says_of ty m) ≡ Some (said_by own) → (own.ty ≡ ty) × (after own ≡ m)
+pub said_parts : (own : Note) (ty : Option Ty) (m : Masks) → Some (says_of ty m) ≡ Some (said_by own) → (own.ty ≡ ty) × (masks_after own ≡ m)
 said_parts own ty m h = let e = same_Some (says_of ty m) (said_by own) h in (sym (ap (λ (s : Said). s.ty) e), sym (ap (λ (s : Said). (s.live, s.set)) e))
 
-pub parts_said : (own : Note) (ty : Option Ty) (m : Masks) → own.ty ≡ ty → after own ≡ m → Some (says_of ty m) ≡ Some (said_by own)
+pub parts_said : (own : Note) (ty : Option Ty) (m : Masks) → own.ty ≡ ty → masks_after own ≡ m → Some (says_of ty m) ≡ Some (said_by own)
 parts_said own ty m a b = ap (λ v. Some (says_of v m)) (sym a) ∙ ap (λ (k : Masks). Some (says_of own.ty k)) (sym b)
 
 -- ---- tests
@@ -75,11 +75,11 @@ reaches x i = (
 
 pub through_means : (ns : List Note) (m n : Masks) → through_notes ns m ≡ Some n → OneAfterOther ns m n
 through_means [] m n e = same_Some m n e
-through_means (t ∷ ts) m n e = let k = kept (starts t m) (through_notes ts (after t)) n e in (starts_so t m k.0, through_means ts (after t) n k.1)
+through_means (t ∷ ts) m n e = let k = kept (starts t m) (through_notes ts (masks_after t)) n e in (starts_so t m k.0, through_means ts (masks_after t) n k.1)
 
 pub means_through : (ns : List Note) (m n : Masks) → OneAfterOther ns m n → through_notes ns m ≡ Some n
 means_through [] m n e = ap Some e
-means_through (t ∷ ts) m n e = ap (λ b. cond b (through_notes ts (after t)) None) (is_starts t m e.0) ∙ means_through ts (after t) n e.1
+means_through (t ∷ ts) m n e = ap (λ b. cond b (through_notes ts (masks_after t)) None) (is_starts t m e.0) ∙ means_through ts (masks_after t) n e.1
 
 pub one_is : (ns : List Note) (t : Note) → one_note ns ≡ Some t → ns ≡ t ∷ []
 one_is [] t e = absurd (none-some t e)
@@ -134,47 +134,48 @@ so_reads e o r = and_from (nat_eq r.0.0 e) (readable r.0.1) (eq-eqb r.0.0 e r.2)
 
 module _ (own : Note) (ns : List Note) where
   -- The masks after the children, and a type.
-  pub ends : (ty : Option Ty) → (through_notes ns (before own) >>= λ n. Some (says_of ty n)) ≡ Some (said_by own) → (own.ty ≡ ty) × OneAfterOther ns (before own) (after own)
+  pub ends : (ty : Option Ty) → (through_notes ns (before own) >>= λ n. Some (says_of ty n)) ≡ Some (said_by own) → (own.ty ≡ ty) × OneAfterOther ns (before own) (masks_after own)
   ends ty h =
       let n = bind_some (through_notes ns (before own)) _ (said_by own) h in
       let p = said_parts own ty n.0 n.2 in
       (p.0, subst (OneAfterOther ns (before own)) (sym p.1) (through_means ns (before own) n.0 n.1))
 
-  pub ended : (ty : Option Ty) → own.ty ≡ ty → OneAfterOther ns (before own) (after own) → (through_notes ns (before own) >>= λ n. Some (says_of ty n)) ≡ Some (said_by own)
-  ended ty t m = bind_is (through_notes ns (before own)) _ (after own) (means_through ns (before own) (after own) m) ∙ parts_said own ty (after own) t refl
+  pub ended : (ty : Option Ty) → own.ty ≡ ty → OneAfterOther ns (before own) (masks_after own) → (through_notes ns (before own) >>= λ n. Some (says_of ty n)) ≡ Some (said_by own)
+  ended ty t m = bind_is (through_notes ns (before own)) _ (masks_after own) (means_through ns (before own) (masks_after own) m)
+      ∙ parts_said own ty (masks_after own) t refl
 
   -- The same under a condition.
-  pub ends_if : (b : Bool) (ty : Option Ty) → (through_notes ns (before own) >>= λ n. cond b (Some (says_of ty n)) None) ≡ Some (said_by own) → (b ≡ true) × (own.ty ≡ ty) × OneAfterOther ns (before own) (after own)
+  pub ends_if : (b : Bool) (ty : Option Ty) → (through_notes ns (before own) >>= λ n. cond b (Some (says_of ty n)) None) ≡ Some (said_by own) → (b ≡ true) × (own.ty ≡ ty) × OneAfterOther ns (before own) (masks_after own)
   ends_if b ty h =
       let n = bind_some (through_notes ns (before own)) _ (said_by own) h in
       let k = kept b (Some (says_of ty n.0)) (said_by own) n.2 in
       let p = said_parts own ty n.0 k.1 in
       (k.0, p.0, subst (OneAfterOther ns (before own)) (sym p.1) (through_means ns (before own) n.0 n.1))
 
-  pub ended_if : (b : Bool) (ty : Option Ty) → b ≡ true → own.ty ≡ ty → OneAfterOther ns (before own) (after own) → (through_notes ns (before own) >>= λ n. cond b (Some (says_of ty n)) None) ≡ Some (said_by own)
+  pub ended_if : (b : Bool) (ty : Option Ty) → b ≡ true → own.ty ≡ ty → OneAfterOther ns (before own) (masks_after own) → (through_notes ns (before own) >>= λ n. cond b (Some (says_of ty n)) None) ≡ Some (said_by own)
   ended_if b ty e t m =
-      bind_is (through_notes ns (before own)) _ (after own) (means_through ns (before own) (after own) m)
-      ∙ ap (λ c. cond c (Some (says_of ty (after own))) None) e ∙ parts_said own ty (after own) t refl
+      bind_is (through_notes ns (before own)) _ (masks_after own) (means_through ns (before own) (masks_after own) m)
+      ∙ ap (λ c. cond c (Some (says_of ty (masks_after own))) None) e ∙ parts_said own ty (masks_after own) t refl
 
   -- A type and masks that follow from those after the children.
-  pub ends_at : (g : Masks → Option Ty) (u : Masks → Masks) → (through_notes ns (before own) >>= λ n. Some (says_of (g n) (u n))) ≡ Some (said_by own) → (n : Masks) × OneAfterOther ns (before own) n × (own.ty ≡ g n) × (after own ≡ u n)
+  pub ends_at : (g : Masks → Option Ty) (u : Masks → Masks) → (through_notes ns (before own) >>= λ n. Some (says_of (g n) (u n))) ≡ Some (said_by own) → (n : Masks) × OneAfterOther ns (before own) n × (own.ty ≡ g n) × (masks_after own ≡ u n)
   ends_at g u h =
       let n = bind_some (through_notes ns (before own)) _ (said_by own) h in
       let p = said_parts own (g n.0) (u n.0) n.2 in
       (n.0, through_means ns (before own) n.0 n.1, p.0, p.1)
 
-  pub ended_at : (g : Masks → Option Ty) (u : Masks → Masks) (n : Masks) → OneAfterOther ns (before own) n → own.ty ≡ g n → after own ≡ u n → (through_notes ns (before own) >>= λ n. Some (says_of (g n) (u n))) ≡ Some (said_by own)
+  pub ended_at : (g : Masks → Option Ty) (u : Masks → Masks) (n : Masks) → OneAfterOther ns (before own) n → own.ty ≡ g n → masks_after own ≡ u n → (through_notes ns (before own) >>= λ n. Some (says_of (g n) (u n))) ≡ Some (said_by own)
   ended_at g u n m t k = bind_is (through_notes ns (before own)) _ n (means_through ns (before own) n m) ∙ parts_said own (g n) (u n) t k
 
   -- An operator on two values with this property.
-  pub tested_means : (test : Ty × Ty → Bool) (e : ℕ) → (two_types ns >>= λ v. cond (test v) (value_says e ns (before own)) None) ≡ Some (said_by own) → (vs : Ty × Ty) × (two_types ns ≡ Some vs) × (test vs ≡ true) × (own.ty ≡ Some (e, form.Val)) × OneAfterOther ns (before own) (after own)
+  pub tested_means : (test : Ty × Ty → Bool) (e : ℕ) → (two_types ns >>= λ v. cond (test v) (value_says e ns (before own)) None) ≡ Some (said_by own) → (vs : Ty × Ty) × (two_types ns ≡ Some vs) × (test vs ≡ true) × (own.ty ≡ Some (e, form.Val)) × OneAfterOther ns (before own) (masks_after own)
   tested_means test e h =
       let v = bind_some (two_types ns) _ (said_by own) h in
       let k = kept (test v.0) (value_says e ns (before own)) (said_by own) v.2 in
       let p = ends (Some (e, form.Val)) k.1 in
       (v.0, v.1, k.0, p.0, p.1)
 
-  pub means_tested : (test : Ty × Ty → Bool) (e : ℕ) (vs : Ty × Ty) → two_types ns ≡ Some vs → test vs ≡ true → own.ty ≡ Some (e, form.Val) → OneAfterOther ns (before own) (after own) → (two_types ns >>= λ v. cond (test v) (value_says e ns (before own)) None) ≡ Some (said_by own)
+  pub means_tested : (test : Ty × Ty → Bool) (e : ℕ) (vs : Ty × Ty) → two_types ns ≡ Some vs → test vs ≡ true → own.ty ≡ Some (e, form.Val) → OneAfterOther ns (before own) (masks_after own) → (two_types ns >>= λ v. cond (test v) (value_says e ns (before own)) None) ≡ Some (said_by own)
   means_tested test e vs h t ty m =
       bind_is (two_types ns) _ vs h ∙ ap (λ c. cond c (value_says e ns (before own)) None) t ∙ ended (Some (e, form.Val)) ty m
 
@@ -417,9 +418,9 @@ module _ (core : CoreData) (own : Note) (ns : List Note) (x : Node) where
       ap (λ b. cond b (own_read_says core ns x name (before own)) None) (means_incomplete r.incomplete)
       ∙ bind_is (own_field core x name) _ r.field r.is_field
       ∙ bind_is (view form.Ref r.field.1.cap) (λ s. through_notes ns (before own) >>= seen_there r.field s) r.seen r.sees
-      ∙ bind_is (through_notes ns (before own)) (seen_there r.field r.seen) (after own) (means_through ns (before own) (after own) r.masks)
-      ∙ ap (λ b. cond b (Some (says_of (Some (r.field.1.entity, r.seen)) (after own))) None) r.set
-      ∙ parts_said own (Some (r.field.1.entity, r.seen)) (after own) r.type refl
+      ∙ bind_is (through_notes ns (before own)) (seen_there r.field r.seen) (masks_after own) (means_through ns (before own) (masks_after own) r.masks)
+      ∙ ap (λ b. cond b (Some (says_of (Some (r.field.1.entity, r.seen)) (masks_after own))) None) r.set
+      ∙ parts_said own (Some (r.field.1.entity, r.seen)) (masks_after own) r.type refl
 
   pub put_means : (name : ℕ) → put_says core ns x name (before own) ≡ Some (said_by own) → Put core own ns x name
   put_means name h =
@@ -549,9 +550,9 @@ lazy_means own ns h =
     let q = and_parts (reads_as 2 vs.0.0) (reads_as 2 vs.0.1) k.0 in
     let c = bind_some (two_notes ns) _ n.0 n.1 in
     let same : c.0 ≡ a.0 = same_Some c.0 a.0 (sym c.1 ∙ a.1) in
-    let d = subst (λ (t : Note × Note). cond (starts t.0 (before own) && starts t.1 (after t.0)) (Some (meet_masks (after t.0) (after t.1))) None ≡ Some n.0) same c.2 in
-    let s = kept (starts a.0.0 (before own) && starts a.0.1 (after a.0.0)) (Some (meet_masks (after a.0.0) (after a.0.1))) n.0 d in
-    let u = and_parts (starts a.0.0 (before own)) (starts a.0.1 (after a.0.0)) s.0 in
+    let d = subst (λ (t : Note × Note). cond (starts t.0 (before own) && starts t.1 (masks_after t.0)) (Some (meet_masks (masks_after t.0) (masks_after t.1))) None ≡ Some n.0) same c.2 in
+    let s = kept (starts a.0.0 (before own) && starts a.0.1 (masks_after a.0.0)) (Some (meet_masks (masks_after a.0.0) (masks_after a.0.1))) n.0 d in
+    let u = and_parts (starts a.0.0 (before own)) (starts a.0.1 (masks_after a.0.0)) s.0 in
     let p = said_parts own (Some (2, form.Val)) n.0 k.1 in
     record {
       left = a.0.0;
@@ -561,18 +562,18 @@ lazy_means own ns h =
       right_reads = reads_so 2 a.0.1.ty vs.0.1 (w.1 ∙ ap (λ (t : Ty × Ty). Some t.1) is) q.1;
       type = p.0;
       starts = starts_so a.0.0 (before own) u.0;
-      goes_on = starts_so a.0.1 (after a.0.0) u.1;
-      masks = p.1 ∙ sym (same_Some (meet_masks (after a.0.0) (after a.0.1)) n.0 s.1);
+      goes_on = starts_so a.0.1 (masks_after a.0.0) u.1;
+      masks = p.1 ∙ sym (same_Some (meet_masks (masks_after a.0.0) (masks_after a.0.1)) n.0 s.1);
     }
 
 pub means_lazy : (own : Note) (ns : List Note) → Lazy own ns → lazy_says ns (before own) ≡ Some (said_by own)
 means_lazy own ns r =
     let a = r.left_reads in let b = r.right_reads in
     let test = and_from (reads_as 2 a.0) (reads_as 2 b.0) (so_reads 2 r.left.ty a) (so_reads 2 r.right.ty b) in
-    let masks : lazy_masks ns (before own) ≡ Some (meet_masks (after r.left) (after r.right)) =
+    let masks : lazy_masks ns (before own) ≡ Some (meet_masks (masks_after r.left) (masks_after r.right)) =
     bind_is (two_notes ns) _ (r.left, r.right) (ap two_notes r.children)
-    ∙ ap (λ c. cond c (Some (meet_masks (after r.left) (after r.right))) None) (and_from (starts r.left (before own)) (starts r.right (after r.left)) (is_starts r.left (before own) r.starts) (is_starts r.right (after r.left) r.goes_on)) in
+    ∙ ap (λ c. cond c (Some (meet_masks (masks_after r.left) (masks_after r.right))) None) (and_from (starts r.left (before own)) (starts r.right (masks_after r.left)) (is_starts r.left (before own) r.starts) (is_starts r.right (masks_after r.left) r.goes_on)) in
     bind_is (two_types ns) _ (a.0, b.0) (typed_two ns r.left r.right a.0 b.0 r.children a.1 b.1)
-    ∙ bind_is (lazy_masks ns (before own)) _ (meet_masks (after r.left) (after r.right)) masks
-    ∙ ap (λ c. cond c (Some (says_of (Some (2, form.Val)) (meet_masks (after r.left) (after r.right)))) None) test
-    ∙ parts_said own (Some (2, form.Val)) (meet_masks (after r.left) (after r.right)) r.type r.masks
+    ∙ bind_is (lazy_masks ns (before own)) _ (meet_masks (masks_after r.left) (masks_after r.right)) masks
+    ∙ ap (λ c. cond c (Some (says_of (Some (2, form.Val)) (meet_masks (masks_after r.left) (masks_after r.right)))) None) test
+    ∙ parts_said own (Some (2, form.Val)) (meet_masks (masks_after r.left) (masks_after r.right)) r.type r.masks

@@ -25,10 +25,11 @@ use Rattle.pc_ann.specs.declared.annotation.Rule.{Rule}
 use Rattle.pc_ann.specs.declared.annotation.Rule.TheVariants as rule
 use Rattle.pc_masks.specs.Masks.{same, within, first}
 use Rattle.pc_rules.specs.Parts.{says_of, starts, lower, reads_as, goes_to, through_notes, one_note, two_notes, three_notes, last_note, one_type, two_types}
-use Rattle.pc_valid.specs.Words.{Ty, Slots, before, after}
+use Rattle.pc_valid.specs.Words.{Ty, Slots, before, masks_after}
 use Rattle.pc_rules.specs.Calls.{argument_goes, arguments_go, arguments, called, is_function, is_behaviour, calls, call_says, new_says, spawn_says, is_isolated, is_lent, argument_sendable, arguments_sendable, lends, recovers, recovered_result, callrecover_says, sends, send_says, same_text, has_text, has_string, builtin_says}
 use Rattle.pc_rules.specs.Operators.{is_arithmetic, is_comparison, is_equality, is_add, is_xor, both_read_as, comparable, value_says, arith_says, compare_says, equal_says, join_says, xor_says, meet_masks}
-use Rattle.pc_rules.specs.Control.{without_items, seq_says, joined, is_condition, branch_masks, if_says, loop_masks, while_says, recovered, recover_says, start_set, starts_method, gives, result_ok, body_says}
+use Rattle.pc_rules.specs.Control.{without_items, seq_says, joined, is_condition, branch_masks, if_says, loop_masks, while_says, recovered, recover_says}
+use Rattle.pc_rules.specs.Control.{start_set, starts_method, gives_result, result_ok, body_says}
 use Rattle.pc_rules.specs.Rules.{said_by, rule_says}
 use Rattle.pc_rules.proofs.Meaning.{OneAfterOther, Reads, BothRead, Go, Sendable, Called, New, Spawn, Call, CallRecover, Send, Builtin, Arith, Compare, Equal, Join, Xor, Seq, If, While, Recover, Body, Means}
 use Rattle.pc_rules.proofs.Threads.{starts_so}
@@ -327,9 +328,9 @@ module _ (core : CoreData) (own : Note) (ns : List Note) where
       let c = bind_some (three_notes ns) _ (said_by own) h in
       let n = bind_some (branch_masks c.0 (before own)) _ (said_by own) c.2 in
       let k = kept (is_condition c.0.0.ty) (Some (says_of (joined core c.0.1.ty c.0.2.ty) n.0)) (said_by own) n.2 in
-      let b = kept (starts c.0.0 (before own) && (starts c.0.1 (after c.0.0) && starts c.0.2 (after c.0.0))) (Some (meet_masks (after c.0.1) (after c.0.2))) n.0 n.1 in
-      let s = and_parts (starts c.0.0 (before own)) (starts c.0.1 (after c.0.0) && starts c.0.2 (after c.0.0)) b.0 in
-      let t = and_parts (starts c.0.1 (after c.0.0)) (starts c.0.2 (after c.0.0)) s.1 in
+      let b = kept (starts c.0.0 (before own) && (starts c.0.1 (masks_after c.0.0) && starts c.0.2 (masks_after c.0.0))) (Some (meet_masks (masks_after c.0.1) (masks_after c.0.2))) n.0 n.1 in
+      let s = and_parts (starts c.0.0 (before own)) (starts c.0.1 (masks_after c.0.0) && starts c.0.2 (masks_after c.0.0)) b.0 in
+      let t = and_parts (starts c.0.1 (masks_after c.0.0)) (starts c.0.2 (masks_after c.0.0)) s.1 in
       let p = said_parts own (joined core c.0.1.ty c.0.2.ty) n.0 k.1 in
       record {
         condition = c.0.0;
@@ -339,32 +340,32 @@ module _ (core : CoreData) (own : Note) (ns : List Note) where
         reads = condition_is c.0.0.ty k.0;
         type = p.0;
         starts = starts_so c.0.0 (before own) s.0;
-        yes_starts = starts_so c.0.1 (after c.0.0) t.0;
-        no_starts = starts_so c.0.2 (after c.0.0) t.1;
-        masks = p.1 ∙ sym (same_Some (meet_masks (after c.0.1) (after c.0.2)) n.0 b.1);
+        yes_starts = starts_so c.0.1 (masks_after c.0.0) t.0;
+        no_starts = starts_so c.0.2 (masks_after c.0.0) t.1;
+        masks = p.1 ∙ sym (same_Some (meet_masks (masks_after c.0.1) (masks_after c.0.2)) n.0 b.1);
       }
 
   pub means_if : If core own ns → if_says core ns (before own) ≡ Some (said_by own)
   means_if r =
       let c : Note × Note × Note = (r.condition, r.yes, r.no) in
-      let start = and_from (starts r.condition (before own)) (starts r.yes (after r.condition) && starts r.no (after r.condition)) (is_starts r.condition (before own) r.starts)
-      (and_from (starts r.yes (after r.condition)) (starts r.no (after r.condition)) (is_starts r.yes (after r.condition) r.yes_starts) (is_starts r.no (after r.condition) r.no_starts)) in
-      let masks : branch_masks c (before own) ≡ Some (meet_masks (after r.yes) (after r.no)) = ap (λ b. cond b (Some (meet_masks (after r.yes) (after r.no))) None) start in
+      let start = and_from (starts r.condition (before own)) (starts r.yes (masks_after r.condition) && starts r.no (masks_after r.condition)) (is_starts r.condition (before own) r.starts)
+      (and_from (starts r.yes (masks_after r.condition)) (starts r.no (masks_after r.condition)) (is_starts r.yes (masks_after r.condition) r.yes_starts) (is_starts r.no (masks_after r.condition) r.no_starts)) in
+      let masks : branch_masks c (before own) ≡ Some (meet_masks (masks_after r.yes) (masks_after r.no)) = ap (λ b. cond b (Some (meet_masks (masks_after r.yes) (masks_after r.no))) None) start in
       bind_is (three_notes ns) _ c (ap three_notes r.children)
-      ∙ bind_is (branch_masks c (before own)) _ (meet_masks (after r.yes) (after r.no)) masks
-      ∙ ap (λ b. cond b (Some (says_of (joined core r.yes.ty r.no.ty) (meet_masks (after r.yes) (after r.no)))) None) (is_condition_so r.condition.ty r.reads)
-      ∙ parts_said own (joined core r.yes.ty r.no.ty) (meet_masks (after r.yes) (after r.no)) r.type r.masks
+      ∙ bind_is (branch_masks c (before own)) _ (meet_masks (masks_after r.yes) (masks_after r.no)) masks
+      ∙ ap (λ b. cond b (Some (says_of (joined core r.yes.ty r.no.ty) (meet_masks (masks_after r.yes) (masks_after r.no)))) None) (is_condition_so r.condition.ty r.reads)
+      ∙ parts_said own (joined core r.yes.ty r.no.ty) (meet_masks (masks_after r.yes) (masks_after r.no)) r.type r.masks
 
   pub while_means : while_says ns (before own) ≡ Some (said_by own) → While own ns
   while_means h =
       let c = bind_some (two_notes ns) _ (said_by own) h in
       let n = bind_some (loop_masks c.0 (before own)) _ (said_by own) c.2 in
       let k = kept (is_condition c.0.0.ty) (Some (says_of (Some (0, form.Val)) n.0)) (said_by own) n.2 in
-      let first_test = starts c.0.0 (before own) && starts c.0.1 (after c.0.0) in
+      let first_test = starts c.0.0 (before own) && starts c.0.1 (masks_after c.0.0) in
       let second_test = within own.live_before c.0.1.live_after && same c.0.1.set_after own.set_before in
-      let b = kept (first_test && second_test) (Some (after c.0.0)) n.0 n.1 in
+      let b = kept (first_test && second_test) (Some (masks_after c.0.0)) n.0 n.1 in
       let s = and_parts first_test second_test b.0 in
-      let t = and_parts (starts c.0.0 (before own)) (starts c.0.1 (after c.0.0)) s.0 in
+      let t = and_parts (starts c.0.0 (before own)) (starts c.0.1 (masks_after c.0.0)) s.0 in
       let u = and_parts (within own.live_before c.0.1.live_after) (same c.0.1.set_after own.set_before) s.1 in
       let p = said_parts own (Some (0, form.Val)) n.0 k.1 in
       record {
@@ -374,23 +375,23 @@ module _ (core : CoreData) (own : Note) (ns : List Note) where
         reads = condition_is c.0.0.ty k.0;
         type = p.0;
         starts = starts_so c.0.0 (before own) t.0;
-        body_starts = starts_so c.0.1 (after c.0.0) t.1;
+        body_starts = starts_so c.0.1 (masks_after c.0.0) t.1;
         keeps = u.0;
         same_set = same_mask c.0.1.set_after own.set_before u.1;
-        masks = p.1 ∙ sym (same_Some (after c.0.0) n.0 b.1);
+        masks = p.1 ∙ sym (same_Some (masks_after c.0.0) n.0 b.1);
       }
 
   pub means_while : While own ns → while_says ns (before own) ≡ Some (said_by own)
   means_while r =
       let c : Note × Note = (r.condition, r.body) in
-      let first_test = and_from (starts r.condition (before own)) (starts r.body (after r.condition)) (is_starts r.condition (before own) r.starts) (is_starts r.body (after r.condition) r.body_starts) in
+      let first_test = and_from (starts r.condition (before own)) (starts r.body (masks_after r.condition)) (is_starts r.condition (before own) r.starts) (is_starts r.body (masks_after r.condition) r.body_starts) in
       let second_test = and_from (within own.live_before r.body.live_after) (same r.body.set_after own.set_before) r.keeps (mask_same r.body.set_after own.set_before r.same_set) in
-      let test = and_from (starts r.condition (before own) && starts r.body (after r.condition)) (within own.live_before r.body.live_after && same r.body.set_after own.set_before) first_test second_test in
-      let masks : loop_masks c (before own) ≡ Some (after r.condition) = ap (λ b. cond b (Some (after r.condition)) None) test in
+      let test = and_from (starts r.condition (before own) && starts r.body (masks_after r.condition)) (within own.live_before r.body.live_after && same r.body.set_after own.set_before) first_test second_test in
+      let masks : loop_masks c (before own) ≡ Some (masks_after r.condition) = ap (λ b. cond b (Some (masks_after r.condition)) None) test in
       bind_is (two_notes ns) _ c (ap two_notes r.children)
-      ∙ bind_is (loop_masks c (before own)) _ (after r.condition) masks
-      ∙ ap (λ b. cond b (Some (says_of (Some (0, form.Val)) (after r.condition))) None) (is_condition_so r.condition.ty r.reads)
-      ∙ parts_said own (Some (0, form.Val)) (after r.condition) r.type r.masks
+      ∙ bind_is (loop_masks c (before own)) _ (masks_after r.condition) masks
+      ∙ ap (λ b. cond b (Some (says_of (Some (0, form.Val)) (masks_after r.condition))) None) (is_condition_so r.condition.ty r.reads)
+      ∙ parts_said own (Some (0, form.Val)) (masks_after r.condition) r.type r.masks
 
   pub recover_means : (k : Option Cap) → recover_says ns k (before own) ≡ Some (said_by own) → Recover own ns k
   recover_means k h =
@@ -412,7 +413,7 @@ module _ (core : CoreData) (own : Note) (ns : List Note) where
   result_is k r o e h = absurd (cc h)
 
   is_result : (k : MethodKind) (r : Ty) (o : Option Ty) → (k ≡ method.Fun → (v : Ty) × (o ≡ Some v) × (lower core v r ≡ true)) → result_ok core k r o ≡ true
-  is_result method.Fun r o h = let g = h refl in ap (gives core r) g.1 ∙ g.2
+  is_result method.Fun r o h = let g = h refl in ap (gives_result core r) g.1 ∙ g.2
   is_result k r o h = refl
 
   pub body_means : (x : Node) → body_says core ns x (before own) ≡ Some (said_by own) → Body core own ns x
@@ -447,13 +448,13 @@ module _ (core : CoreData) (own : Note) (ns : List Note) where
 
 module _ (own : Note) (ns : List Note) (o : Op) where
   -- The operator's test, and the values' test.
-  asked_means : (a : Bool) (t : Ty × Ty → Bool) (e : ℕ) → (two_types ns >>= λ v. cond (a && t v) (value_says e ns (before own)) None) ≡ Some (said_by own) → (vs : Ty × Ty) × (two_types ns ≡ Some vs) × (a ≡ true) × (t vs ≡ true) × (own.ty ≡ Some (e, form.Val)) × OneAfterOther ns (before own) (after own)
+  asked_means : (a : Bool) (t : Ty × Ty → Bool) (e : ℕ) → (two_types ns >>= λ v. cond (a && t v) (value_says e ns (before own)) None) ≡ Some (said_by own) → (vs : Ty × Ty) × (two_types ns ≡ Some vs) × (a ≡ true) × (t vs ≡ true) × (own.ty ≡ Some (e, form.Val)) × OneAfterOther ns (before own) (masks_after own)
   asked_means a t e h =
       let p = tested_means own ns (λ v. a && t v) e h in
       let q = and_parts a (t p.0) p.2 in
       (p.0, p.1, q.0, q.1, p.3, p.4)
 
-  means_asked : (a : Bool) (t : Ty × Ty → Bool) (e : ℕ) (vs : Ty × Ty) → two_types ns ≡ Some vs → a ≡ true → t vs ≡ true → own.ty ≡ Some (e, form.Val) → OneAfterOther ns (before own) (after own) → (two_types ns >>= λ v. cond (a && t v) (value_says e ns (before own)) None) ≡ Some (said_by own)
+  means_asked : (a : Bool) (t : Ty × Ty → Bool) (e : ℕ) (vs : Ty × Ty) → two_types ns ≡ Some vs → a ≡ true → t vs ≡ true → own.ty ≡ Some (e, form.Val) → OneAfterOther ns (before own) (masks_after own) → (two_types ns >>= λ v. cond (a && t v) (value_says e ns (before own)) None) ≡ Some (said_by own)
   means_asked a t e vs h f g ty m = means_tested own ns (λ v. a && t v) e vs h (and_from a (t vs) f g) ty m
 
   pub arith_means : arith_says ns o (before own) ≡ Some (said_by own) → Arith own ns o

@@ -34,7 +34,7 @@ use Rattle.pc_sub.specs.Sub.{is_sub}
 use Rattle.pc_sub.specs.Agreement.{is_sub_iff}
 use Rattle.pc_masks.specs.declared.mask.Mask.{Mask}
 use Rattle.pc_ann.specs.declared.annotation.Note.{Note}
-use Rattle.pc_masks.specs.Masks.{IsIn, empty, first, within}
+use Rattle.pc_masks.specs.Masks.{IsInMask, empty, first, within}
 use Rattle.pc_masks.specs.MaskLaws.{within_bits, first_bits, without_number_bits}
 use Rattle.pc_rules.specs.Parts.{constructs, fields_in, field_count, all_fields, full, goes_to, lower, slot_of}
 use Rattle.pc_rules.specs.Values.{defined_type}
@@ -45,7 +45,9 @@ use Rattle.pc_rules.specs.Control.{without_definition, without_item, without_ite
 use Rattle.pc_rules.proofs.Lawful.{items_bits}
 use Rattle.pc_rules.proofs.Meaning as mirror
 use Rattle.pc_valid.specs.Rules.{arithmetic, comparisons, equalities, IsOneOf}
-use Rattle.pc_valid.specs.Words.{Masks, after, OneAfterOther, Sendable, Defines, Ty, Place, Fits, IsLower, GoesTo, Reads, Joined, to_second, to_first, to_none, no_first, no_second, Recovers, as_lifted, as_written, IsConstructor, AllSet, StartsSet, Slots, SlotOf, DefinedAs, FieldOf, Called, Go, Incomplete}
+use Rattle.pc_valid.specs.Words.{Masks, masks_after, OneAfterOther, Sendable, Defines, Ty, Place, FormFits, IsLower, GoesTo, ReadsValue, Joined, to_second}
+use Rattle.pc_valid.specs.Words.{to_first, to_none, no_first, no_second, Recovers, as_lifted, as_written, IsConstructor, AllSet, StartsSet, Slots, SlotOf}
+use Rattle.pc_valid.specs.Words.{DefinedAs, FieldOf, Called, Go, Incomplete}
 
 -- ---- types
 
@@ -55,7 +57,7 @@ lower_iff core v w f = (
   λ h. and_from (is_sub core v.0 w.0) (is_below v.1 w.1) ((is_sub_iff core v.0 w.0 f).1 h.0) ((below_iff v.1 w.1).1 h.1),
 )
 
-pub fits_iff : (f : Form) (k : Cap) → (fits f k ≡ true) ↔ Fits f k
+pub fits_iff : (f : Form) (k : Cap) → (fits f k ≡ true) ↔ FormFits f k
 fits_iff f k = below_iff f (unalias k)
 
 pub goes_iff : (core : CoreData) (v : Ty) (p : Place) → Formed core → (goes_to core v p ≡ true) ↔ GoesTo core v p
@@ -64,7 +66,7 @@ goes_iff core v p f = (
   λ h. and_from (is_sub core v.0 p.0) (fits v.1 p.1) ((is_sub_iff core v.0 p.0 f).1 h.0) ((fits_iff v.1 p.1).1 h.1),
 )
 
-pub reads_iff : (e : ℕ) (o : Option Ty) → mirror.Reads e o ↔ Reads e o
+pub reads_iff : (e : ℕ) (o : Option Ty) → mirror.Reads e o ↔ ReadsValue e o
 reads_iff e o = (
   λ r. (r.0.1, r.1 ∙ ap (λ (n : ℕ). Some (n, r.0.1)) r.2, (below_iff r.0.1 form.Box).0 r.3),
   λ r. ((e, r.0), r.1, refl, (below_iff r.0 form.Box).1 r.2),
@@ -130,7 +132,7 @@ constructs_is k e = absurd (false_true e)
 pub constructs_iff : (k : MethodKind) → (constructs k ≡ true) ↔ IsConstructor k
 constructs_iff k = (constructs_is k, λ h. elim h [ inl e ↦ ap constructs e | inr e ↦ ap constructs e ])
 
-field_in : (core : CoreData) (e : ℕ) (s : Mask) (i : ℕ) (o : Option EntityDef) → slice_get core.entities e ≡ o → AllSet core e s → i < fields_in o → IsIn s i
+field_in : (core : CoreData) (e : ℕ) (s : Mask) (i : ℕ) (o : Option EntityDef) → slice_get core.entities e ≡ o → AllSet core e s → i < fields_in o → IsInMask s i
 field_in core e s i None g h l = absurd (omega (arith, l))
 field_in core e s i (Some x) g h l = h x g i l
 
@@ -332,7 +334,7 @@ module _ (core : CoreData) (f : Formed core) where
 
 pub order_iff : (ns : List Note) (from to : Masks) → mirror.OneAfterOther ns from to ↔ OneAfterOther ns from to
 order_iff [] from to = (λ e. e, λ e. e)
-order_iff (t ∷ ts) from to = (λ e. (e.0, (order_iff ts (after t) to).0 e.1), λ e. (e.0, (order_iff ts (after t) to).1 e.1))
+order_iff (t ∷ ts) from to = (λ e. (e.0, (order_iff ts (masks_after t) to).0 e.1), λ e. (e.0, (order_iff ts (masks_after t) to).1 e.1))
 
 pub sendable_iff : (ts : List Note) (ps : List ParamInfo) → mirror.Sendable ts ps ↔ Sendable ts ps
 sendable_iff [] [] = (λ h. tt, λ h. tt)
@@ -399,8 +401,8 @@ xor_iff o = (xor_is o, λ e. ap is_xor e)
 
 -- ---- the definitions in a sequence
 
-pub ends_to : (core : CoreData) (cs : List ℕ) (l m : Mask) → m ≡ without_items core cs l → (s : ℕ) → IsIn m s ↔ (IsIn l s × (Defines core cs s → ⊥))
-ends_to core cs l m e s = subst (λ (k : Mask). IsIn k s ↔ (IsIn l s × (Defines core cs s → ⊥))) (sym e) (items_bits core cs l s)
+pub ends_to : (core : CoreData) (cs : List ℕ) (l m : Mask) → m ≡ without_items core cs l → (s : ℕ) → IsInMask m s ↔ (IsInMask l s × (Defines core cs s → ⊥))
+ends_to core cs l m e s = subst (λ (k : Mask). IsInMask k s ↔ (IsInMask l s × (Defines core cs s → ⊥))) (sym e) (items_bits core cs l s)
 
 min_other : (x y : ℕ) → min x y ≡ min y x
 min_other x y = omega arith
@@ -415,7 +417,7 @@ within_both a b e g =
     let q : bit_and b.0 a.0 ≡ b.0 = eqb-true (bit_and b.0 a.0) b.0 g in
     ap (λ (n : ℕ). record { 0 = n }) (sym p ∙ and_other a.0 b.0 ∙ q)
 
-pub to_ends : (core : CoreData) (cs : List ℕ) (l m : Mask) → ((s : ℕ) → IsIn m s ↔ (IsIn l s × (Defines core cs s → ⊥))) → m ≡ without_items core cs l
+pub to_ends : (core : CoreData) (cs : List ℕ) (l m : Mask) → ((s : ℕ) → IsInMask m s ↔ (IsInMask l s × (Defines core cs s → ⊥))) → m ≡ without_items core cs l
 to_ends core cs l m h =
     within_both m (without_items core cs l)
     ((within_bits m (without_items core cs l)).1 (λ i p. (items_bits core cs l i).1 ((h i).0 p)))

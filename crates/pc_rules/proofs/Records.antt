@@ -26,12 +26,12 @@ use Rattle.pc_rules.specs.Operators.{is_equality}
 use Rattle.pc_rules.specs.Control.{without_items}
 use Rattle.pc_rules.proofs.Meaning as mirror
 use Rattle.pc_rules.proofs.MeantCalls.{rules_are_records}
-use Rattle.pc_valid.specs.Words.{Masks, after, Ty, Reads, Slots, before, AllSet}
+use Rattle.pc_valid.specs.Words.{Masks, masks_after, Ty, ReadsValue, Slots, before, AllSet}
 use Rattle.pc_valid.specs.Rules as new
 use Rattle.pc_rules.specs.Statements.{SaysWhatIsMeant}
 use Rattle.pc_rules.proofs.RecordWords.{order_iff, sendable_iff, arithmetic_iff, comparison_iff, equality_iff, add_iff, xor_iff, ends_to, to_ends, lower_iff, fits_iff, goes_iff, reads_iff, choice, chosen, joined_to, to_joined, recovers_to, to_recovers, all_set_iff, starts_to, to_starts, slot_to, to_slot, defined_to, to_defined, field_to, to_field, own_at, at_own, gives_up, go_to, to_go, called_to, to_called, incomplete_to, to_incomplete}
 
-either_reads : (d e : ℕ) (o : Option Ty) → (mirror.Reads d o ⊎ mirror.Reads e o) ↔ (Reads d o ⊎ Reads e o)
+either_reads : (d e : ℕ) (o : Option Ty) → (mirror.Reads d o ⊎ mirror.Reads e o) ↔ (ReadsValue d o ⊎ ReadsValue e o)
 either_reads d e o = (
   λ h. elim h [ inl r ↦ inl ((reads_iff d o).0 r) | inr r ↦ inr ((reads_iff e o).0 r) ],
   λ h. elim h [ inl r ↦ inl ((reads_iff d o).1 r) | inr r ↦ inr ((reads_iff e o).1 r) ],
@@ -89,7 +89,7 @@ module _ (core : CoreData) (formed : Formed core) (slots : Slots) (own : Note) (
         masks = r.masks;
       }
 
-  local_to : (s : ℕ) → mirror.Local core slots own x s → new.Local core slots own x s
+  local_to : (s : ℕ) → mirror.Local core slots own x s → new.LocalRule core slots own x s
   local_to s r =
       record {
         of = slot_to core slots x s r.slot r.is_slot;
@@ -99,7 +99,7 @@ module _ (core : CoreData) (formed : Formed core) (slots : Slots) (own : Note) (
         masks = r.masks;
       }
 
-  to_local : (s : ℕ) → new.Local core slots own x s → mirror.Local core slots own x s
+  to_local : (s : ℕ) → new.LocalRule core slots own x s → mirror.Local core slots own x s
   to_local s r =
       record {
         slot = (r.of.slot, (r.of.entity, r.of.cap));
@@ -212,7 +212,7 @@ module _ (core : CoreData) (formed : Formed core) (slots : Slots) (own : Note) (
         seen = r.seen;
         sees = r.sees;
         type = r.type;
-        masks = (order_iff ns (before own) (after own)).0 r.masks;
+        masks = (order_iff ns (before own) (masks_after own)).0 r.masks;
       }
 
   to_get : (name : ℕ) → new.Get core own ns x name → mirror.Get core own ns x name
@@ -228,7 +228,7 @@ module _ (core : CoreData) (formed : Formed core) (slots : Slots) (own : Note) (
         seen = r.seen;
         sees = r.sees;
         type = r.type;
-        masks = (order_iff ns (before own) (after own)).1 r.masks;
+        masks = (order_iff ns (before own) (masks_after own)).1 r.masks;
       }
 
   getown_to : (name : ℕ) → mirror.GetOwn core own ns x name → new.GetOwn core own ns x name
@@ -240,7 +240,7 @@ module _ (core : CoreData) (formed : Formed core) (slots : Slots) (own : Note) (
         sees = r.sees;
         set = r.set;
         type = r.type;
-        masks = (order_iff ns (before own) (after own)).0 r.masks;
+        masks = (order_iff ns (before own) (masks_after own)).0 r.masks;
       }
 
   to_getown : (name : ℕ) → new.GetOwn core own ns x name → mirror.GetOwn core own ns x name
@@ -253,7 +253,7 @@ module _ (core : CoreData) (formed : Formed core) (slots : Slots) (own : Note) (
         sees = r.sees;
         set = r.set;
         type = r.type;
-        masks = (order_iff ns (before own) (after own)).1 r.masks;
+        masks = (order_iff ns (before own) (masks_after own)).1 r.masks;
       }
 
   put_to : (name : ℕ) → mirror.Put core own ns x name → new.Put core own ns x name
@@ -274,7 +274,7 @@ module _ (core : CoreData) (formed : Formed core) (slots : Slots) (own : Note) (
         old = r.old;
         takes = r.takes;
         type = r.type;
-        masks = (order_iff ns (before own) (after own)).0 r.masks;
+        masks = (order_iff ns (before own) (masks_after own)).0 r.masks;
       }
 
   to_put : (name : ℕ) → new.Put core own ns x name → mirror.Put core own ns x name
@@ -296,7 +296,7 @@ module _ (core : CoreData) (formed : Formed core) (slots : Slots) (own : Note) (
         old = r.old;
         takes = r.takes;
         type = r.type;
-        masks = (order_iff ns (before own) (after own)).1 r.masks;
+        masks = (order_iff ns (before own) (masks_after own)).1 r.masks;
       }
 
   putown_to : (name : ℕ) → mirror.PutOwn core own ns x name → new.PutOwn core own ns x name
@@ -344,7 +344,7 @@ module _ (core : CoreData) (formed : Formed core) (slots : Slots) (own : Note) (
         is_called = r.is_called;
         go = go_to core formed ns r.called.params r.go;
         type = r.type;
-        masks = (order_iff ns (before own) (after own)).0 r.masks;
+        masks = (order_iff ns (before own) (masks_after own)).0 r.masks;
       }
 
   to_new : (k : ℕ) → new.New core own ns k → mirror.New core own ns k
@@ -354,7 +354,7 @@ module _ (core : CoreData) (formed : Formed core) (slots : Slots) (own : Note) (
         is_called = r.is_called;
         go = to_go core formed ns r.called.params r.go;
         type = r.type;
-        masks = (order_iff ns (before own) (after own)).1 r.masks;
+        masks = (order_iff ns (before own) (masks_after own)).1 r.masks;
       }
 
   spawn_to : (k : ℕ) → mirror.Spawn core own ns k → new.Spawn core own ns k
@@ -364,7 +364,7 @@ module _ (core : CoreData) (formed : Formed core) (slots : Slots) (own : Note) (
         is_called = r.is_called;
         go = go_to core formed ns r.called.params r.go;
         type = r.type;
-        masks = (order_iff ns (before own) (after own)).0 r.masks;
+        masks = (order_iff ns (before own) (masks_after own)).0 r.masks;
       }
 
   to_spawn : (k : ℕ) → new.Spawn core own ns k → mirror.Spawn core own ns k
@@ -374,7 +374,7 @@ module _ (core : CoreData) (formed : Formed core) (slots : Slots) (own : Note) (
         is_called = r.is_called;
         go = to_go core formed ns r.called.params r.go;
         type = r.type;
-        masks = (order_iff ns (before own) (after own)).1 r.masks;
+        masks = (order_iff ns (before own) (masks_after own)).1 r.masks;
       }
 
   call_to : (name : ℕ) → mirror.Call core own ns name → new.Call core own ns name
@@ -385,7 +385,7 @@ module _ (core : CoreData) (formed : Formed core) (slots : Slots) (own : Note) (
         go = go_to core formed r.call.arguments r.call.called.params r.go;
         fit = (fits_iff r.call.to.1 r.call.called.receiver).0 r.fit;
         type = r.type;
-        masks = (order_iff ns (before own) (after own)).0 r.masks;
+        masks = (order_iff ns (before own) (masks_after own)).0 r.masks;
       }
 
   to_call : (name : ℕ) → new.Call core own ns name → mirror.Call core own ns name
@@ -396,7 +396,7 @@ module _ (core : CoreData) (formed : Formed core) (slots : Slots) (own : Note) (
         go = to_go core formed r.call.arguments r.call.called.params r.go;
         fit = (fits_iff r.call.to.1 r.call.called.receiver).1 r.fit;
         type = r.type;
-        masks = (order_iff ns (before own) (after own)).1 r.masks;
+        masks = (order_iff ns (before own) (masks_after own)).1 r.masks;
       }
 
   callrecover_to : (name : ℕ) → mirror.CallRecover core own ns name → new.CallRecover core own ns name
@@ -411,7 +411,7 @@ module _ (core : CoreData) (formed : Formed core) (slots : Slots) (own : Note) (
         may_go = (sendable_iff r.call.arguments r.call.called.params).0 r.may_go;
         result = (choice (sendable_form r.call.called.result.1) (Some r.call.called.result) None own.ty r.type).0;
         no_result = (choice (sendable_form r.call.called.result.1) (Some r.call.called.result) None own.ty r.type).1;
-        masks = (order_iff ns (before own) (after own)).0 r.masks;
+        masks = (order_iff ns (before own) (masks_after own)).0 r.masks;
       }
 
   to_callrecover : (name : ℕ) → new.CallRecover core own ns name → mirror.CallRecover core own ns name
@@ -425,7 +425,7 @@ module _ (core : CoreData) (formed : Formed core) (slots : Slots) (own : Note) (
         lent = r.lent;
         may_go = (sendable_iff r.call.arguments r.call.called.params).1 r.may_go;
         type = chosen (sendable_form r.call.called.result.1) (Some r.call.called.result) None own.ty r.result r.no_result;
-        masks = (order_iff ns (before own) (after own)).1 r.masks;
+        masks = (order_iff ns (before own) (masks_after own)).1 r.masks;
       }
 
   send_to : (name : ℕ) → mirror.Send core own ns name → new.Send core own ns name
@@ -435,7 +435,7 @@ module _ (core : CoreData) (formed : Formed core) (slots : Slots) (own : Note) (
         behaviour = r.behaviour;
         go = go_to core formed r.call.arguments r.call.called.params r.go;
         type = r.type;
-        masks = (order_iff ns (before own) (after own)).0 r.masks;
+        masks = (order_iff ns (before own) (masks_after own)).0 r.masks;
       }
 
   to_send : (name : ℕ) → new.Send core own ns name → mirror.Send core own ns name
@@ -445,7 +445,7 @@ module _ (core : CoreData) (formed : Formed core) (slots : Slots) (own : Note) (
         behaviour = r.behaviour;
         go = to_go core formed r.call.arguments r.call.called.params r.go;
         type = r.type;
-        masks = (order_iff ns (before own) (after own)).1 r.masks;
+        masks = (order_iff ns (before own) (masks_after own)).1 r.masks;
       }
 
   builtin_to : (name : ℕ) → mirror.Builtin core own ns name → new.Builtin core own ns name
@@ -456,7 +456,7 @@ module _ (core : CoreData) (formed : Formed core) (slots : Slots) (own : Note) (
         is_string = r.is_string;
         reads = (either_reads 1 2 r.child.ty).0 r.reads;
         type = r.type;
-        masks = (order_iff ns (before own) (after own)).0 r.masks;
+        masks = (order_iff ns (before own) (masks_after own)).0 r.masks;
       }
 
   to_builtin : (name : ℕ) → new.Builtin core own ns name → mirror.Builtin core own ns name
@@ -467,12 +467,12 @@ module _ (core : CoreData) (formed : Formed core) (slots : Slots) (own : Note) (
         is_string = r.is_string;
         reads = (either_reads 1 2 r.child.ty).1 r.reads;
         type = r.type;
-        masks = (order_iff ns (before own) (after own)).1 r.masks;
+        masks = (order_iff ns (before own) (masks_after own)).1 r.masks;
       }
 
-  operator_to : (e d : ℕ) → mirror.BothRead e ns → own.ty ≡ Some (d, form.Val) → mirror.OneAfterOther ns (before own) (after own) → new.Operator own ns e d
+  operator_to : (e d : ℕ) → mirror.BothRead e ns → own.ty ≡ Some (d, form.Val) → mirror.OneAfterOther ns (before own) (masks_after own) → new.Operator own ns e d
   operator_to e d r t m =
-      record { left = r.0; right = r.1; children = r.2; left_reads = (reads_iff e r.0.ty).0 r.3; right_reads = (reads_iff e r.1.ty).0 r.4; type = t; masks = (order_iff ns (before own) (after own)).0 m }
+      record { left = r.0; right = r.1; children = r.2; left_reads = (reads_iff e r.0.ty).0 r.3; right_reads = (reads_iff e r.1.ty).0 r.4; type = t; masks = (order_iff ns (before own) (masks_after own)).0 m }
 
   to_both : (e d : ℕ) → new.Operator own ns e d → mirror.BothRead e ns
   to_both e d r = (r.left, r.right, r.children, (reads_iff e r.left.ty).1 r.left_reads, (reads_iff e r.right.ty).1 r.right_reads)
@@ -481,25 +481,27 @@ module _ (core : CoreData) (formed : Formed core) (slots : Slots) (own : Note) (
   arith_to o r = ((arithmetic_iff o).0 r.operator, operator_to 1 1 r.both r.type r.masks)
 
   to_arith : (o : Op) → new.IsOneOf new.arithmetic o × new.Operator own ns 1 1 → mirror.Arith own ns o
-  to_arith o m = record { operator = (arithmetic_iff o).1 m.0; both = to_both 1 1 m.1; type = m.1.type; masks = (order_iff ns (before own) (after own)).1 m.1.masks }
+  to_arith o m = record { operator = (arithmetic_iff o).1 m.0; both = to_both 1 1 m.1; type = m.1.type; masks = (order_iff ns (before own) (masks_after own)).1 m.1.masks }
 
   compare_to : (o : Op) → mirror.Compare own ns o → new.IsOneOf new.comparisons o × new.Operator own ns 1 2
   compare_to o r = ((comparison_iff o).0 r.operator, operator_to 1 2 r.both r.type r.masks)
 
   to_compare : (o : Op) → new.IsOneOf new.comparisons o × new.Operator own ns 1 2 → mirror.Compare own ns o
-  to_compare o m = record { operator = (comparison_iff o).1 m.0; both = to_both 1 2 m.1; type = m.1.type; masks = (order_iff ns (before own) (after own)).1 m.1.masks }
+  to_compare o m = record { operator = (comparison_iff o).1 m.0; both = to_both 1 2 m.1; type = m.1.type; masks = (order_iff ns (before own) (masks_after own)).1 m.1.masks }
 
   join_to : (o : Op) → mirror.Join own ns o → (o ≡ op.Add) × new.Operator own ns 3 3
   join_to o r = ((add_iff o).0 r.operator, operator_to 3 3 r.both r.type r.masks)
 
   to_join : (o : Op) → (o ≡ op.Add) × new.Operator own ns 3 3 → mirror.Join own ns o
-  to_join o m = record { operator = (add_iff o).1 m.0; both = to_both 3 3 m.1; type = m.1.type; masks = (order_iff ns (before own) (after own)).1 m.1.masks }
+  to_join o m = record { operator = (add_iff o).1 m.0; both = to_both 3 3 m.1; type = m.1.type; masks =
+      (order_iff ns (before own) (masks_after own)).1 m.1.masks }
 
   xor_to : (o : Op) → mirror.Xor own ns o → (o ≡ op.Xor) × new.Operator own ns 2 2
   xor_to o r = ((xor_iff o).0 r.operator, operator_to 2 2 r.both r.type r.masks)
 
   to_xor : (o : Op) → (o ≡ op.Xor) × new.Operator own ns 2 2 → mirror.Xor own ns o
-  to_xor o m = record { operator = (xor_iff o).1 m.0; both = to_both 2 2 m.1; type = m.1.type; masks = (order_iff ns (before own) (after own)).1 m.1.masks }
+  to_xor o m = record { operator = (xor_iff o).1 m.0; both = to_both 2 2 m.1; type = m.1.type; masks =
+      (order_iff ns (before own) (masks_after own)).1 m.1.masks }
 
   abbrev Equals : Type 0
   Equals = new.Operator own ns 1 2 ⊎ (new.Operator own ns 2 2 ⊎ new.Operator own ns 3 2)
@@ -514,7 +516,7 @@ module _ (core : CoreData) (formed : Formed core) (slots : Slots) (own : Note) (
   )
 
   equals : (o : Op) (e : ℕ) → is_equality o ≡ true → mirror.BothRead 1 ns ⊎ (mirror.BothRead 2 ns ⊎ mirror.BothRead 3 ns) → new.Operator own ns e 2 → mirror.Equal own ns o
-  equals o e t b r = record { operator = t; both = b; type = r.type; masks = (order_iff ns (before own) (after own)).1 r.masks }
+  equals o e t b r = record { operator = t; both = b; type = r.type; masks = (order_iff ns (before own) (masks_after own)).1 r.masks }
 
   to_equal : (o : Op) → new.IsOneOf new.equalities o × Equals → mirror.Equal own ns o
   to_equal o m =
@@ -531,7 +533,7 @@ module _ (core : CoreData) (formed : Formed core) (slots : Slots) (own : Note) (
         children = r.children;
         reads = (reads_iff 2 r.child.ty).0 r.reads;
         type = r.type;
-        masks = (order_iff ns (before own) (after own)).0 r.masks;
+        masks = (order_iff ns (before own) (masks_after own)).0 r.masks;
       }
 
   to_not : new.Not own ns → mirror.Not own ns
@@ -541,7 +543,7 @@ module _ (core : CoreData) (formed : Formed core) (slots : Slots) (own : Note) (
         children = r.children;
         reads = (reads_iff 2 r.child.ty).1 r.reads;
         type = r.type;
-        masks = (order_iff ns (before own) (after own)).1 r.masks;
+        masks = (order_iff ns (before own) (masks_after own)).1 r.masks;
       }
 
   lazy_to : mirror.Lazy own ns → new.Lazy own ns
@@ -583,7 +585,7 @@ module _ (core : CoreData) (formed : Formed core) (slots : Slots) (own : Note) (
         right_type = r.right_type;
         is_right = r.is_right;
         type = r.type;
-        masks = (order_iff ns (before own) (after own)).0 r.masks;
+        masks = (order_iff ns (before own) (masks_after own)).0 r.masks;
       }
 
   to_identity : new.Identity own ns → mirror.Identity own ns
@@ -597,10 +599,10 @@ module _ (core : CoreData) (formed : Formed core) (slots : Slots) (own : Note) (
         right_type = r.right_type;
         is_right = r.is_right;
         type = r.type;
-        masks = (order_iff ns (before own) (after own)).1 r.masks;
+        masks = (order_iff ns (before own) (masks_after own)).1 r.masks;
       }
 
-  seq_to : mirror.Seq core own ns x → new.Seq core own ns x
+  seq_to : mirror.Seq core own ns x → new.SeqRule core own ns x
   seq_to r =
       record {
         front = r.front;
@@ -613,7 +615,7 @@ module _ (core : CoreData) (formed : Formed core) (slots : Slots) (own : Note) (
         set = ap (λ (m : Masks). m.1) r.masks;
       }
 
-  to_seq : new.Seq core own ns x → mirror.Seq core own ns x
+  to_seq : new.SeqRule core own ns x → mirror.Seq core own ns x
   to_seq r =
       record {
         front = r.front;
@@ -695,7 +697,7 @@ module _ (core : CoreData) (formed : Formed core) (slots : Slots) (own : Note) (
         lifted = r.lifted;
         recovers = recovers_to k r.value.1 r.lifted r.is_lifted;
         type = r.type;
-        masks = (order_iff ns (before own) (after own)).0 r.masks;
+        masks = (order_iff ns (before own) (masks_after own)).0 r.masks;
       }
 
   to_recover : (k : Option Cap) → new.Recover own ns k → mirror.Recover own ns k
@@ -708,7 +710,7 @@ module _ (core : CoreData) (formed : Formed core) (slots : Slots) (own : Note) (
         lifted = r.lifted;
         is_lifted = to_recovers k r.value.1 r.lifted r.recovers;
         type = r.type;
-        masks = (order_iff ns (before own) (after own)).1 r.masks;
+        masks = (order_iff ns (before own) (masks_after own)).1 r.masks;
       }
 
   body_to : mirror.Body core own ns x → new.Body core own ns x
@@ -722,7 +724,7 @@ module _ (core : CoreData) (formed : Formed core) (slots : Slots) (own : Note) (
         set = starts_to core r.home own.set_before r.set;
         result = λ k. let q = r.result k in (q.0, q.1, (lower_iff core q.0 r.home.result formed).0 q.2);
         type = r.type;
-        masks = (order_iff ns (before own) (after own)).0 r.masks;
+        masks = (order_iff ns (before own) (masks_after own)).0 r.masks;
       }
 
   to_body : new.Body core own ns x → mirror.Body core own ns x
@@ -736,7 +738,7 @@ module _ (core : CoreData) (formed : Formed core) (slots : Slots) (own : Note) (
         set = to_starts core x.method r.home own.set_before formed r.is_home r.set;
         result = λ k. let q = r.result k in (q.0, q.1, (lower_iff core q.0 r.home.result formed).1 q.2);
         type = r.type;
-        masks = (order_iff ns (before own) (after own)).1 r.masks;
+        masks = (order_iff ns (before own) (masks_after own)).1 r.masks;
       }
 
 -- ---- every rule

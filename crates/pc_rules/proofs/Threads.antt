@@ -22,7 +22,7 @@ use Rattle.pc_ann.specs.declared.annotation.Rule.TheVariants as rule
 use Rattle.pc_masks.specs.Masks.{same}
 use Rattle.pc_rules.specs.declared.said.Said.{Said}
 use Rattle.pc_rules.specs.Parts.{starts, through, type_of, one_child, last_child}
-use Rattle.pc_valid.specs.Words.{Ty, Masks, before, after}
+use Rattle.pc_valid.specs.Words.{Ty, Masks, before, masks_after}
 use Rattle.pc_rules.specs.Values.{defines, assigns}
 use Rattle.pc_rules.specs.Fields.{own_field, field_type, old_type}
 use Rattle.pc_rules.specs.Control.{recovered}
@@ -41,17 +41,17 @@ threaded : (ann : Ann) (cs : List ℕ) (m : Masks) (f : Masks → Option Said) (
 threaded ann cs m f q e = let a = bind_some (through ann cs m) f q e in (a.0, a.1)
 
 -- After one node, and then after another.
-through_one : (ann : Ann) (c : ℕ) (m n : Masks) → through ann (c ∷ []) m ≡ Some n → (t : Note) × (slice_get ann.notes c ≡ Some t) × (starts t m ≡ true) × (after t ≡ n)
+through_one : (ann : Ann) (c : ℕ) (m n : Masks) → through ann (c ∷ []) m ≡ Some n → (t : Note) × (slice_get ann.notes c ≡ Some t) × (starts t m ≡ true) × (masks_after t ≡ n)
 through_one ann c m n e =
     let a = bind_some (slice_get ann.notes c) _ n e in
-    let k = kept (starts a.0 m) (Some (after a.0)) n a.2 in
-    (a.0, a.1, k.0, same_Some (after a.0) n k.1)
+    let k = kept (starts a.0 m) (Some (masks_after a.0)) n a.2 in
+    (a.0, a.1, k.0, same_Some (masks_after a.0) n k.1)
 
 through_two : (ann : Ann) (c d : ℕ) (m n k : Masks) → through ann (c ∷ []) m ≡ Some n → through ann (d ∷ []) n ≡ Some k → through ann (c ∷ d ∷ []) m ≡ Some k
 through_two ann c d m n k e f =
     let t = through_one ann c m n e in
-    bind_is (slice_get ann.notes c) (λ u. cond (starts u m) (through ann (d ∷ []) (after u)) None) t.0 t.1
-    ∙ ap (λ b. cond b (through ann (d ∷ []) (after t.0)) None) t.2 ∙ ap (through ann (d ∷ [])) t.3 ∙ f
+    bind_is (slice_get ann.notes c) (λ u. cond (starts u m) (through ann (d ∷ []) (masks_after u)) None) t.0 t.1
+    ∙ ap (λ b. cond b (through ann (d ∷ []) (masks_after t.0)) None) t.2 ∙ ap (through ann (d ∷ [])) t.3 ∙ f
 
 two_are : (cs : List ℕ) (c : ℕ × ℕ) → two_children cs ≡ Some c → cs ≡ c.0 ∷ c.1 ∷ []
 two_are [] c e = absurd (none-some c e)
@@ -237,18 +237,18 @@ pub first_starts : (ann : Ann) (cs : List ℕ) (m : Masks) (c : ℕ) (t : Note) 
 first_starts ann [] m c t h e g = absurd (none-some c e)
 first_starts ann (d ∷ cs) m c t h e g =
     let a = bind_some (slice_get ann.notes d) _ h.0 h.1 in
-    let k = kept (starts a.0 m) (through ann cs (after a.0)) h.0 a.2 in
+    let k = kept (starts a.0 m) (through ann cs (masks_after a.0)) h.0 a.2 in
     let is : a.0 ≡ t = same_Some a.0 t (sym a.1 ∙ ap (slice_get ann.notes) (same_Some d c e) ∙ g) in
     ap before (sym is) ∙ starts_so a.0 m k.0
 
-pub next_starts : (ann : Ann) (cs : List ℕ) (m : Masks) (i c d : ℕ) (t u : Note) → Threaded ann cs m → slice_get cs i ≡ Some c → slice_get cs (suc i) ≡ Some d → slice_get ann.notes c ≡ Some t → slice_get ann.notes d ≡ Some u → before u ≡ after t
+pub next_starts : (ann : Ann) (cs : List ℕ) (m : Masks) (i c d : ℕ) (t u : Note) → Threaded ann cs m → slice_get cs i ≡ Some c → slice_get cs (suc i) ≡ Some d → slice_get ann.notes c ≡ Some t → slice_get ann.notes d ≡ Some u → before u ≡ masks_after t
 next_starts ann [] m i c d t u h e f g k = absurd (none-some c e)
 next_starts ann (b ∷ cs) m zero c d t u h e f g k =
     let a = bind_some (slice_get ann.notes b) _ h.0 h.1 in
-    let n = kept (starts a.0 m) (through ann cs (after a.0)) h.0 a.2 in
+    let n = kept (starts a.0 m) (through ann cs (masks_after a.0)) h.0 a.2 in
     let is : a.0 ≡ t = same_Some a.0 t (sym a.1 ∙ ap (slice_get ann.notes) (same_Some b c e) ∙ g) in
-    first_starts ann cs (after a.0) d u (h.0, n.1) f k ∙ ap after is
+    first_starts ann cs (masks_after a.0) d u (h.0, n.1) f k ∙ ap masks_after is
 next_starts ann (b ∷ cs) m (suc i) c d t u h e f g k =
     let a = bind_some (slice_get ann.notes b) _ h.0 h.1 in
-    let n = kept (starts a.0 m) (through ann cs (after a.0)) h.0 a.2 in
-    next_starts ann cs (after a.0) i c d t u (h.0, n.1) e f g k
+    let n = kept (starts a.0 m) (through ann cs (masks_after a.0)) h.0 a.2 in
+    next_starts ann cs (masks_after a.0) i c d t u (h.0, n.1) e f g k

@@ -20,7 +20,7 @@ use Rattle.pc_ann.specs.declared.annotation.Note.{Note}
 use Rattle.pc_ann.specs.declared.annotation.Ann.{Ann}
 use Rattle.pc_masks.specs.Masks.{same}
 use Rattle.pc_rules.specs.Parts.{starts, through}
-use Rattle.pc_valid.specs.Words.{Masks, before, after}
+use Rattle.pc_valid.specs.Words.{Masks, before, masks_after}
 use Rattle.pc_rules.specs.Rules.{said_by, IsSaid}
 use Rattle.pc_rules.specs.Checks.{Checks}
 use Rattle.pc_rules.proofs.Derivations.{to_valid}
@@ -59,8 +59,8 @@ note_of_child ann [] m i c h e = absurd (none-some c e)
 note_of_child ann (d ∷ cs) m zero c h e = let a = bind_some (slice_get ann.notes d) _ h.0 h.1 in (a.0, ap (slice_get ann.notes) (sym (same_Some d c e)) ∙ a.1)
 note_of_child ann (d ∷ cs) m (suc i) c h e =
     let a = bind_some (slice_get ann.notes d) _ h.0 h.1 in
-    let k = kept (starts a.0 m) (through ann cs (after a.0)) h.0 a.2 in
-    note_of_child ann cs (after a.0) i c (h.0, k.1) e
+    let k = kept (starts a.0 m) (through ann cs (masks_after a.0)) h.0 a.2 in
+    note_of_child ann cs (masks_after a.0) i c (h.0, k.1) e
 
 module _ (core : CoreData) (a b : Ann) (formed : Formed core) (va : Checks core a) (vb : Checks core b) where
   -- If a node starts from the same masks in both, the annotations agree inside it and at it.
@@ -95,8 +95,8 @@ module _ (core : CoreData) (a b : Ann) (formed : Formed core) (va : Checks core 
         let fa = note_of_child a (c ∷ e ∷ []) m 1 e ea refl in
         let fb = note_of_child b (c ∷ e ∷ []) m 1 e eb refl in
         same_two (c + 1) high d e da.0 db.0 fa.0 fb.0 f one da.1 db.1 fa.1 fb.1
-        (next_starts a (c ∷ d ∷ []) m 0 c d ca.0 da.0 ta refl refl ca.1 da.1 ∙ ap after eq ∙ sym (next_starts b (c ∷ d ∷ []) m 0 c d cb.0 db.0 tb refl refl cb.1 db.1))
-        (next_starts a (c ∷ e ∷ []) m 0 c e ca.0 fa.0 ea refl refl ca.1 fa.1 ∙ ap after eq ∙ sym (next_starts b (c ∷ e ∷ []) m 0 c e cb.0 fb.0 eb refl refl cb.1 fb.1))
+        (next_starts a (c ∷ d ∷ []) m 0 c d ca.0 da.0 ta refl refl ca.1 da.1 ∙ ap masks_after eq ∙ sym (next_starts b (c ∷ d ∷ []) m 0 c d cb.0 db.0 tb refl refl cb.1 db.1))
+        (next_starts a (c ∷ e ∷ []) m 0 c e ca.0 fa.0 ea refl refl ca.1 fa.1 ∙ ap masks_after eq ∙ sym (next_starts b (c ∷ e ∷ []) m 0 c e cb.0 fb.0 eb refl refl cb.1 fb.1))
     same_branches low high (c ∷ d ∷ e ∷ g ∷ cs) m f count same ta ea tb eb = absurd (omega (arith, count))
 
     same_two : (low high d e : ℕ) (da db fa fb : Note) → Forest core low high (d ∷ e ∷ []) → Agree core a b low → slice_get a.notes d ≡ Some da → slice_get b.notes d ≡ Some db → slice_get a.notes e ≡ Some fa → slice_get b.notes e ≡ Some fb → before da ≡ before db → before fa ≡ before fb → Agree core a b high
@@ -110,11 +110,11 @@ module _ (core : CoreData) (a b : Ann) (formed : Formed core) (va : Checks core 
     same_forest low high (c ∷ cs) m ma mb (more t f) same ea eb =
         let pa = bind_some (slice_get a.notes c) _ ma ea in
         let pb = bind_some (slice_get b.notes c) _ mb eb in
-        let ka = kept (starts pa.0 m) (through a cs (after pa.0)) ma pa.2 in
-        let kb = kept (starts pb.0 m) (through b cs (after pb.0)) mb pb.2 in
+        let ka = kept (starts pa.0 m) (through a cs (masks_after pa.0)) ma pa.2 in
+        let kb = kept (starts pb.0 m) (through b cs (masks_after pb.0)) mb pb.2 in
         let first_one = same_tree low c pa.0 pb.0 t same pa.1 pb.1 (starts_so pa.0 m ka.0 ∙ sym (starts_so pb.0 m kb.0)) in
         let eq : pa.0 ≡ pb.0 = same_Some pa.0 pb.0 (sym pa.1 ∙ first_one.notes c (omega arith) ∙ pb.1) in
-        same_forest (c + 1) high cs (after pa.0) ma mb f first_one ka.1 (subst (λ (z : Note). through b cs (after z) ≡ Some mb) (sym eq) kb.1)
+        same_forest (c + 1) high cs (masks_after pa.0) ma mb f first_one ka.1 (subst (λ (z : Note). through b cs (masks_after z) ≡ Some mb) (sym eq) kb.1)
 
   -- A method's body starts from the same masks in both.
   body_alike : (m : ℕ) (x : Method) (body : ℕ) → slice_get core.methods m ≡ Some x → x.body ≡ Some body → BodyFits core m x body → Agree core a b x.first_node → Agree core a b (body + 1)

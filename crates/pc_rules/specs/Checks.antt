@@ -4,7 +4,7 @@ use Rattle.std.specs.Prelude.{◌≡◌, ℕ, zero, suc, ◌+◌, ◌<◌, ◌�
 use Rattle.pc_ann.specs.declared.annotation.Rule.{Rule}
 use Rattle.pc_sub.specs.Declarations.{DeclOk}
 use Rattle.pc_rules.specs.Parts.{constructs, full}
-use Rattle.pc_valid.specs.Words.{Masks, Slots, before, after}
+use Rattle.pc_valid.specs.Words.{Masks, Slots, before, masks_after}
 use Rattle.pc_valid.specs.Valid.{KeepsWritten, DifferAt}
 use Rattle.pc_rules.specs.Control.{start_set}
 use Rattle.pc_rules.specs.Rules.{says, IsSaid, NoteIsSaid}
@@ -47,9 +47,10 @@ pub data StartsFrom (core : CoreData) (ann : Ann) : ℕ → Masks → Type 0 whe
   first_child : {n : ℕ} {m : Masks} (p : ℕ) (x : Node) → slice_get core.nodes p ≡ Some x → slice_get x.children 0 ≡ Some n
       → StartsFrom core ann p m → StartsFrom core ann n m
   else_branch : {n : ℕ} (p c : ℕ) (x : Node) (t : Note) → slice_get core.nodes p ≡ Some x → x.kind ≡ node.If → slice_get x.children 2 ≡ Some n
-      → slice_get x.children 0 ≡ Some c → slice_get ann.notes c ≡ Some t → StartsFrom core ann n (after t)
+      → slice_get x.children 0 ≡ Some c → slice_get ann.notes c ≡ Some t → StartsFrom core ann n (masks_after t)
   next_child : {n : ℕ} (p c i : ℕ) (x : Node) (t : Note) → slice_get core.nodes p ≡ Some x → is_else x.kind (suc i) ≡ false
-      → slice_get x.children (suc i) ≡ Some n → slice_get x.children i ≡ Some c → slice_get ann.notes c ≡ Some t → StartsFrom core ann n (after t)
+      → slice_get x.children (suc i) ≡ Some n → slice_get x.children i ≡ Some c → slice_get ann.notes c ≡ Some t
+          → StartsFrom core ann n (masks_after t)
 
 -- ---- that no annotation is valid
 

@@ -30,17 +30,17 @@ gather notes [] = []
 gather notes (c ∷ cs) = put_before (slice_get notes c) (gather notes cs)
 
 -- All notes, or those with these numbers among them.
-abbrev pub either : Bool → List Note → List ℕ → List Note
-either true notes cs = notes
-either false notes cs = gather notes cs
+abbrev pub all_or_gathered : Bool → List Note → List ℕ → List Note
+all_or_gathered true notes cs = notes
+all_or_gathered false notes cs = gather notes cs
 
 abbrev pub MayGather : Bool → List Note → List ℕ → Type 0
 MayGather true notes cs = Unit {0}
 MayGather false notes cs = HaveNotes notes cs
 
 -- The note of the child with this index.
-abbrev pub picked : List Note → List ℕ → ℕ → Option Note
-picked notes cs i = do
+abbrev pub picked_note : List Note → List ℕ → ℕ → Option Note
+picked_note notes cs i = do
   c ← slice_get cs i
   slice_get notes c
 

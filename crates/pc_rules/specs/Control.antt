@@ -2,7 +2,7 @@
 use Rattle.std.specs.Prelude.{ℕ, ◌+◌, Bool, true, false, ◌&&◌, List, [], ◌∷◌, length, Option, Some, None, slice_get, if◌then◌else◌}
 use Rattle.pc_caps.specs.Tables.{fits, unalias, lift}
 use Rattle.pc_rules.specs.Parts.{says_of, reads_as, lower, constructs, all_fields, starts, through_notes, one_note, one_type, two_notes, three_notes, last_note}
-use Rattle.pc_valid.specs.Words.{Ty, Masks, after}
+use Rattle.pc_valid.specs.Words.{Ty, Masks, masks_after}
 use Rattle.pc_rules.specs.Operators.{meet_masks}
 use Rattle.pc_caps.specs.declared.capability.Cap.{Cap}
 use Rattle.pc_caps.specs.declared.capability.Form.{Form}
@@ -56,7 +56,8 @@ joined core a b = None
 
 -- Both branches start from the masks after the condition; after the node come the masks that both leave.
 abbrev pub branch_masks : Note × Note × Note → Masks → Option Masks
-branch_masks c m = if starts c.0 m && (starts c.1 (after c.0) && starts c.2 (after c.0)) then Some (meet_masks (after c.1) (after c.2)) else None
+branch_masks c m = if starts c.0 m
+    && (starts c.1 (masks_after c.0) && starts c.2 (masks_after c.0)) then Some (meet_masks (masks_after c.1) (masks_after c.2)) else None
 
 -- A condition is a readable Bool.
 abbrev pub is_condition : Option Ty → Bool
@@ -74,8 +75,8 @@ if_says core ns m = do
 -- fields as they are before the node.
 abbrev pub loop_masks : Note × Note → Masks → Option Masks
 loop_masks c m =
-    if (starts c.0 m && starts c.1 (after c.0)) && (within m.0 c.1.live_after && same c.1.set_after m.1)
-    then Some (after c.0)
+    if (starts c.0 m && starts c.1 (masks_after c.0)) && (within m.0 c.1.live_after && same c.1.set_after m.1)
+    then Some (masks_after c.0)
     else None
 
 -- While: None, and the masks after the condition.
@@ -112,12 +113,12 @@ abbrev pub starts_method : CoreData → Method → Masks → Bool
 starts_method core f m = same m.0 (first (1 + length f.params)) && same m.1 (start_set core f)
 
 -- The value of a function's sequence is below its result. For other methods there is no requirement.
-abbrev pub gives : CoreData → Ty → Option Ty → Bool
-gives core r None = false
-gives core r (Some v) = lower core v r
+abbrev pub gives_result : CoreData → Ty → Option Ty → Bool
+gives_result core r None = false
+gives_result core r (Some v) = lower core v r
 
 abbrev pub result_ok : CoreData → MethodKind → Ty → Option Ty → Bool
-result_ok core method.Fun r v = gives core r v
+result_ok core method.Fun r v = gives_result core r v
 result_ok core method.Be r v = true
 result_ok core method.New r v = true
 result_ok core method.Spawn r v = true

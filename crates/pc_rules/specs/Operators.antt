@@ -3,7 +3,7 @@ use Rattle.std.specs.Prelude.{ℕ, Bool, true, false, ◌&&◌, ◌||◌, List, 
 use Rattle.pc_tree.specs.declared.kinds.Op.{Op}
 use Rattle.pc_tree.specs.declared.kinds.Op.TheVariants as op
 use Rattle.pc_rules.specs.Parts.{says_of, reads_as, starts, through_notes, one_type, two_notes, two_types}
-use Rattle.pc_valid.specs.Words.{Ty, Masks, after}
+use Rattle.pc_valid.specs.Words.{Ty, Masks, masks_after}
 use Rattle.pc_caps.specs.declared.capability.Form.TheVariants as form
 use Rattle.pc_tree.specs.BuiltIn.{u64_entity, bool_entity, string_entity}
 use Rattle.pc_lists.specs.Options.{◌>>=◌}
@@ -103,7 +103,7 @@ meet_masks a b = (meet a.0 b.0, meet a.1 b.1)
 abbrev pub lazy_masks : List Note → Masks → Option Masks
 lazy_masks ns m = do
   c ← two_notes ns
-  if starts c.0 m && starts c.1 (after c.0) then Some (meet_masks (after c.0) (after c.1)) else None
+  if starts c.0 m && starts c.1 (masks_after c.0) then Some (meet_masks (masks_after c.0) (masks_after c.1)) else None
 
 abbrev pub lazy_says : List Note → Masks → Option Said
 lazy_says ns m = do

@@ -17,7 +17,7 @@ use Rattle.pc_masks.specs.declared.mask.Mask.{Mask}
 use Rattle.pc_ann.specs.declared.annotation.Note.{Note}
 use Rattle.pc_ann.specs.declared.annotation.Ann.{Ann}
 use Rattle.pc_masks.specs.Masks.{first, within, same}
-use Rattle.pc_valid.specs.Words.{Ty, Masks, Slots, after}
+use Rattle.pc_valid.specs.Words.{Ty, Masks, Slots, masks_after}
 use Rattle.pc_rules.specs.declared.said.Said.{Said}
 
 -- The conclusion of a rule: this type, or none, and these masks after the node.
@@ -90,7 +90,7 @@ starts t m = same t.live_before m.0 && same t.set_before m.1
 -- from other masks than the previous one leaves.
 abbrev pub through_notes : List Note → Masks → Option Masks
 through_notes [] m = Some m
-through_notes (t ∷ ts) m = if starts t m then through_notes ts (after t) else None
+through_notes (t ∷ ts) m = if starts t m then through_notes ts (masks_after t) else None
 
 -- The right number of children for the kind.
 abbrev pub one_note : List Note → Option Note
@@ -145,7 +145,7 @@ abbrev pub through : Ann → List ℕ → Masks → Option Masks
 through ann [] m = Some m
 through ann (c ∷ cs) m = do
   t ← slice_get ann.notes c
-  if starts t m then through ann cs (after t) else None
+  if starts t m then through ann cs (masks_after t) else None
 
 -- The type of a node in an annotation.
 abbrev pub type_of : Ann → ℕ → Option Ty

@@ -10,7 +10,7 @@ use Rattle.pc_ann.specs.declared.annotation.Note.{Note}
 use Rattle.pc_ann.specs.declared.annotation.Ann.{Ann}
 use Rattle.pc_ann.specs.declared.annotation.Rule.{Rule}
 use Rattle.pc_ann.specs.declared.annotation.Rule.TheVariants as rule
-use Rattle.pc_masks.specs.Masks.{IsIn}
+use Rattle.pc_masks.specs.Masks.{IsInMask}
 use Rattle.pc_rules.specs.declared.said.Said.{Said}
 use Rattle.pc_rules.specs.Parts.{through}
 use Rattle.pc_valid.specs.Words.{Masks, Slots, before, Defines}
@@ -28,21 +28,21 @@ RulesDetermine = (core : CoreData) (ann : Ann) (x : Node) (a b : Note) → a.rul
 abbrev pub ConsumeTakesOut : Type 0
 ConsumeTakesOut =
     (core : CoreData) (ann : Ann) (x : Node) (s : ℕ) (m : Masks) (r : Said) → says core ann x m rule.Consume (node.Consume s) ≡ Some r
-    → ((i : ℕ) → (IsIn r.live i) ↔ ((i ≢ s) × IsIn m.0 i)) × (r.set ≡ m.1)
+    → ((i : ℕ) → (IsInMask r.live i) ↔ ((i ≢ s) × IsInMask m.0 i)) × (r.set ≡ m.1)
 
 -- After a definition exactly its slot is live in addition to what is live after the value, and the set fields are as
 -- there.
 abbrev pub DefinePutsIn : Type 0
 DefinePutsIn =
     (core : CoreData) (ann : Ann) (x : Node) (s : ℕ) (m n : Masks) (r : Said) → says core ann x m rule.Define (node.Define s) ≡ Some r → through ann x.children m ≡ Some n
-    → ((i : ℕ) → (IsIn r.live i) ↔ (((i ≡ s) × (s < slot_limit)) ⊎ IsIn n.0 i)) × (r.set ≡ n.1)
+    → ((i : ℕ) → (IsInMask r.live i) ↔ (((i ≡ s) × (s < slot_limit)) ⊎ IsInMask n.0 i)) × (r.set ≡ n.1)
 
 -- After a sequence exactly the slots that its items define are no longer live, and the set fields are as after its last
 -- item.
 abbrev pub SeqTakesOut : Type 0
 SeqTakesOut =
     (core : CoreData) (ann : Ann) (x : Node) (m n : Masks) (r : Said) → says core ann x m rule.Seq node.Seq ≡ Some r → through ann x.children m ≡ Some n
-    → ((i : ℕ) → (IsIn r.live i) ↔ (IsIn n.0 i × ((Defines core x.children i) → ⊥))) × (r.set ≡ n.1)
+    → ((i : ℕ) → (IsInMask r.live i) ↔ (IsInMask n.0 i × ((Defines core x.children i) → ⊥))) × (r.set ≡ n.1)
 
 -- At most one annotation of a core is valid.
 abbrev pub OneValid : Type 0

@@ -1,6 +1,6 @@
 //! The notes of a node's children, in order: held together, or found by their numbers in an annotation.
 ghost use Rattle.std.specs.Prelude.{◌≡◌, false, length, slice_get};
-ghost use Rattle.pc_rules.specs.Children.{HaveNotes, is_there, each_has, picked, either, MayGather};
+ghost use Rattle.pc_rules.specs.Children.{HaveNotes, is_there, each_has, picked_note, all_or_gathered, MayGather};
 
 use pc_ann::Note;
 use std::marker::Model;
@@ -16,11 +16,11 @@ pub(crate) struct Children<'a> {
 impl<'a> Model for Children<'a> {
     ghost use Rattle.std.specs.Prelude.{List};
     ghost use Rattle.pc_ann.specs.declared.annotation.Note.{Note as NoteIs};
-    ghost use Rattle.pc_rules.specs.Children.{either, MayGather};
+    ghost use Rattle.pc_rules.specs.Children.{all_or_gathered, MayGather};
 
     ghost Value = { List NoteIs };
 
-    ghost view = { λ s. either s.held s.notes.now s.numbers.now };
+    ghost view = { λ s. all_or_gathered s.held s.notes.now s.numbers.now };
 
     ghost invariant = { λ s. MayGather s.held s.notes.now s.numbers.now };
 }
@@ -40,7 +40,7 @@ impl<'a> Children<'a> {
     /// Those of these notes that have these numbers.
     pub(crate) fn among(notes: &'a [Note], numbers: &'a [u32]) -> Children<'a>
         requires { HaveNotes notes.now numbers.now }
-        ensures { result ≡ either false notes.now numbers.now }
+        ensures { result ≡ all_or_gathered false notes.now numbers.now }
     {
         Children {
             notes,
@@ -66,7 +66,7 @@ impl<'a> Children<'a> {
 
 fn note_in(held: bool, notes: &[Note], numbers: &[u32], index: usize) -> Option<Note>
     requires { MayGather held notes.now numbers.now }
-    ensures { result ≡ slice_get (either held notes.now numbers.now) index }
+    ensures { result ≡ slice_get (all_or_gathered held notes.now numbers.now) index }
 {
     if held {
         notes.get(index).copied()
@@ -77,7 +77,7 @@ fn note_in(held: bool, notes: &[Note], numbers: &[u32], index: usize) -> Option<
 
 fn count_in(held: bool, notes: &[Note], numbers: &[u32]) -> usize
     requires { MayGather held notes.now numbers.now }
-    ensures { result ≡ length (either held notes.now numbers.now) }
+    ensures { result ≡ length (all_or_gathered held notes.now numbers.now) }
 {
     if held { notes.len() } else { numbers.len() }
 }
@@ -95,7 +95,7 @@ fn note_at(notes: &[Note], number: u32) -> Option<Note>
 }
 
 fn note_of(notes: &[Note], numbers: &[u32], index: usize) -> Option<Note>
-    ensures { result ≡ picked notes.now numbers.now index }
+    ensures { result ≡ picked_note notes.now numbers.now index }
 {
     let number = number_at(numbers, index)?;
     note_at(notes, number)

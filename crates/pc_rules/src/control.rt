@@ -223,7 +223,7 @@ fn starts_method(core: &Core, method: &Method, masks: (Mask, Mask)) -> bool
 }
 
 fn gives(core: &Core, result_type: (u32, Form), value: Option<(u32, Form)>) -> bool
-    ensures { result ≡ spec.gives core.now result_type value }
+    ensures { result ≡ spec.gives_result core.now result_type value }
 {
     match value {
         None => false,

@@ -1,7 +1,7 @@
 //! What the rules are about: slots, masks, the notes of children and their types.
 ghost use Rattle.std.specs.Prelude.{◌≡◌, length, slice_get};
 ghost use Rattle.pc_masks.specs.Masks.{first};
-ghost use Rattle.pc_valid.specs.Words.{after as after_of};
+ghost use Rattle.pc_valid.specs.Words.{masks_after as after_of};
 ghost use Rattle.pc_rules.specs.Parts as spec;
 
 use crate::children::Children;

@@ -1,7 +1,7 @@
 //! The rules.
 ghost use Rattle.std.specs.Prelude.{◌≡◌, ◌↔◌, ◌<◌, IsTrue, Some, false, length};
 ghost use Rattle.pc_valid.specs.Words.{before};
-ghost use Rattle.pc_rules.specs.Children.{HaveNotes, either};
+ghost use Rattle.pc_rules.specs.Children.{HaveNotes, all_or_gathered};
 ghost use Rattle.pc_valid.specs.Valid.{MeetsRule, Holds};
 ghost use Rattle.pc_rules.specs.Rules as spec;
 
@@ -80,7 +80,7 @@ fn rule_says(
 // The same for a node of an annotation whose children have notes.
 fn says_among(core: &Core, ann: &Ann, node: &Node, masks: (Mask, Mask), rule: Rule) -> Option<Said>
     requires { HaveNotes ann.now.notes node.now.children }
-    ensures { result ≡ spec.rule_says core.now ann.now.slots (either false ann.now.notes node.now.children) node.now masks rule node.now.kind }
+    ensures { result ≡ spec.rule_says core.now ann.now.slots (all_or_gathered false ann.now.notes node.now.children) node.now masks rule node.now.kind }
 {
     let children = Children::among(ann.notes.as_slice(), node.children.as_slice());
     rule_says(core, ann.slots.as_slice(), &children, node, masks, rule)

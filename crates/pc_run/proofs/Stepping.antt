@@ -25,7 +25,7 @@ use Rattle.pc_run.specs.declared.counts.Progress.{Progress}
 use Rattle.pc_run.specs.Counting.{counted}
 use Rattle.pc_run.specs.Ends.{NeverLacks, IsBegun}
 use Rattle.pc_run.specs.Spreading.{spread}
-use Rattle.pc_run.specs.Underway.{Underway, Reached}
+use Rattle.pc_run.specs.Underway.{Underway, ReachedSoFar}
 use Rattle.pc_machine.proofs.Growing.{Changes, step_changes, few_at_start}
 
 -- ---- the steps of turns
@@ -141,7 +141,7 @@ module _ (core : CoreData) (list : List ℕ) (c : Configuration) (k : Counts) (i
       few_messages = omega (arith, u.few_messages);
     }
 
-    pub stepped : (o : Outcome) → ◌≡◌ {A = Outcome × Configuration} (o, d) (step core c i) → Reached core list d left (counted k o)
+    pub stepped : (o : Outcome) → ◌≡◌ {A = Outcome × Configuration} (o, d) (step core c i) → ReachedSoFar core list d left (counted k o)
     stepped outcome.Moved e = moved_on e
     stepped outcome.Skipped e = subst (λ (x : Configuration). Underway core list x (record { moved = k.moved; skipped = k.skipped + 1 }) left) (sym (changes outcome.Skipped e)) (skipped_on e)
     stepped outcome.TooLong e = (sym (end_later outcome.TooLong e), changes outcome.TooLong e ∙ later outcome.TooLong e left ∙ ap (after core) (sym list_later))
@@ -164,8 +164,8 @@ module _ (core m : CoreData) (list rest : List ℕ) (c d : Configuration) (k : C
   pub turn_never_lacks : (l : Lack) → o ≡ outcome.Lacks l → ⊥
   turn_never_lacks = never core list c k i behind_one one_left safe d o of_core
 
-  pub turn_stepped : (p : Progress) → p ≡ counted k o → Reached core list d behind_one p
-  turn_stepped p is = subst (Reached core list d behind_one) (sym is) (stepped core list c k i behind_one one_left safe d o of_core)
+  pub turn_stepped : (p : Progress) → p ≡ counted k o → ReachedSoFar core list d behind_one p
+  turn_stepped p is = subst (ReachedSoFar core list d behind_one) (sym is) (stepped core list c k i behind_one one_left safe d o of_core)
 
 -- what is left if memory ran out
 pub refused : {T E : Type 0} (core : CoreData) (list : List ℕ) (c d : Configuration) (k : Counts) (left : List ℕ) (r : Result T E) → Underway core list c k left → d ≡ c → OnErr r (IsBegun core list d)

@@ -19,7 +19,7 @@ use Rattle.pc_run.specs.declared.report.RunFault.TheVariants.{Sink, TooLong, Mem
 use Rattle.std.proofs.KnownBytes.{Appends-trans}
 use Rattle.pc_run.specs.Ends.{IsAnswer, Leaves, WritesText}
 use Rattle.pc_run.specs.Reports.{report_of, summary_of}
-use Rattle.pc_run.specs.Underway.{Underway, Reached}
+use Rattle.pc_run.specs.Underway.{Underway, ReachedSoFar}
 use Rattle.pc_io.specs.Change.{Change, change}
 use Rattle.pc_run.specs.Writing.{WriteStops}
 use Rattle.pc_run.proofs.Stepping.{behind_all}
@@ -42,11 +42,11 @@ module _ (core : CoreData) (list : List ℕ) where
   writes_stopped text out e (Err x) is by s = stopped text out x is (subst (WriteStops text out) (sym by) s)
 
   module _ (c : Configuration) where
-    all_taken : (p : Progress) → Reached core list c [] p → c ≡ after core list
+    all_taken : (p : Progress) → ReachedSoFar core list c [] p → c ≡ after core list
     all_taken (progress.Going k) u = behind_all core list c k [] u
     all_taken (progress.TooLong n) h = h.1
 
-    pub leaves_all : (p : Progress) → Reached core list c [] p → (r : Result Report RunFault) → Leaves core list c r
+    pub leaves_all : (p : Progress) → ReachedSoFar core list c [] p → (r : Result Report RunFault) → Leaves core list c r
     leaves_all p h (Ok x) = all_taken p h
     leaves_all p h (Err Sink) = all_taken p h
     leaves_all p h (Err (TooLong n)) = all_taken p h
@@ -71,11 +71,11 @@ module _ (core : CoreData) (list : List ℕ) where
           ∙ ap (λ (r : Report). lines (after core list).printed ++ summary_of r) whole_report
           ∙ ap (text_behind (after core list) (outcomes core list)) u.end
 
-    pub cut_text : (n : ℕ) → Reached core list c [] (progress.TooLong n) → lines c.printed ≡ run_text core list
+    pub cut_text : (n : ℕ) → ReachedSoFar core list c [] (progress.TooLong n) → lines c.printed ≡ run_text core list
     cut_text n h = ap (λ (d : Configuration). lines d.printed) h.1 ∙ ap (text_behind (after core list) (outcomes core list)) (sym h.0)
 
     -- The printed texts are the first of what is written.
-    pub text_begins : (p : Progress) → Reached core list c [] p → (rest : List ℕ) × (lines c.printed ++ rest ≡ run_text core list)
+    pub text_begins : (p : Progress) → ReachedSoFar core list c [] p → (rest : List ℕ) × (lines c.printed ++ rest ≡ run_text core list)
     text_begins (progress.Going k) u = (summary_of (report_at c k), whole_text k u)
     text_begins (progress.TooLong n) h = ([], append-nil _ ∙ cut_text n h)
 
@@ -97,12 +97,12 @@ module _ (core : CoreData) (list : List ℕ) where
         (ap (λ ts. lines ts ++ summary_of report) are ∙ ap (λ (n : Report). lines c.printed ++ summary_of n) is ∙ whole_text c k u)
         (Appends-trans w x y (lines texts) (summary_of report) front s)
 
-    pub cut_writes : (n : ℕ) → Reached core list c [] (progress.TooLong n) → (w x : Option (List ℕ)) → Appends w x (lines texts) → Appends w x (run_text core list)
+    pub cut_writes : (n : ℕ) → ReachedSoFar core list c [] (progress.TooLong n) → (w x : Option (List ℕ)) → Appends w x (lines texts) → Appends w x (run_text core list)
     cut_writes n h w x front = subst (Appends w x) (ap lines are ∙ cut_text c n h) front
 
   -- ---- the exits of the writing
 
-  module _ (c : Configuration) (p : Progress) (h : Reached core list c [] p) (texts : List (List ℕ)) (are : texts ≡ c.printed) (e : RunFault) (r : Result Report RunFault) (by : IsErrAnd r (λ x. x ≡ e)) where
+  module _ (c : Configuration) (p : Progress) (h : ReachedSoFar core list c [] p) (texts : List (List ℕ)) (are : texts ≡ c.printed) (e : RunFault) (r : Result Report RunFault) (by : IsErrAnd r (λ x. x ≡ e)) where
     -- The writing of the texts stopped.
     pub texts_stopped : (out : Change) → WriteStops (lines texts) out e → WritesText core list out.before out.now r
     texts_stopped out s =

@@ -2,7 +2,7 @@
 use Rattle.std.specs.Prelude.{◌≡◌, ℕ, List, take, Option, Some, None, Result, Ok, Err}
 use Rattle.std.specs.Io.KnownBytes.{Appends}
 use Rattle.pc_core.specs.CoreData.{CoreData}
-use Rattle.pc_io.specs.Sink.{Rose, GrowsByPrefix}
+use Rattle.pc_io.specs.Sink.{HasRisen, GrowsByPrefix}
 use Rattle.pc_semantics.specs.declared.outcome.Outcome.TheVariants as outcome
 use Rattle.pc_semantics.specs.Configurations.{Configuration}
 use Rattle.pc_semantics.specs.Runs.{after, outcomes}
@@ -26,7 +26,7 @@ IsBegun core list c = (n : ℕ) × (c ≡ after core (take n list))
 abbrev pub IsAnswer : CoreData → List ℕ → (before now : ℕ) → Result Report RunFault → Type 0
 IsAnswer core list before now (Ok report) = (end_of (outcomes core list) ≡ None) × (report ≡ report_of core list)
 IsAnswer core list before now (Err (TooLong n)) = end_of (outcomes core list) ≡ Some (n, outcome.TooLong)
-IsAnswer core list before now (Err Sink) = Rose before now
+IsAnswer core list before now (Err Sink) = HasRisen before now
 IsAnswer core list before now (Err Memory) = Unit {0}
 
 -- The run's text was written, or a prefix of it if the sink failed or memory ran out.

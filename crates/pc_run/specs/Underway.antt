@@ -26,6 +26,6 @@ pub record Underway (core : CoreData) (list : List ℕ) (c : Configuration) (k :
   pub few_messages : waiting c ≤ 1 + (k.moved + k.skipped)
 
 -- The run of a list has come this far, and led to configuration c.
-abbrev pub Reached : CoreData → List ℕ → Configuration → List ℕ → Progress → Type 0
-Reached core list c left (Going k) = Underway core list c k left
-Reached core list c left (TooLong n) = (end_of (outcomes core list) ≡ Some (n, outcome.TooLong)) × (c ≡ after core list)
+abbrev pub ReachedSoFar : CoreData → List ℕ → Configuration → List ℕ → Progress → Type 0
+ReachedSoFar core list c left (Going k) = Underway core list c k left
+ReachedSoFar core list c left (TooLong n) = (end_of (outcomes core list) ≡ Some (n, outcome.TooLong)) × (c ≡ after core list)

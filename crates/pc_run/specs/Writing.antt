@@ -2,13 +2,13 @@
 use Rattle.std.specs.Prelude.{List, ℕ, Result, MatchResult}
 use Rattle.std.specs.Io.KnownBytes.{Appends}
 use Rattle.pc_io.specs.Change.{Change}
-use Rattle.pc_io.specs.Sink.{Rose, GrowsByPrefix}
+use Rattle.pc_io.specs.Sink.{HasRisen, GrowsByPrefix}
 use Rattle.pc_run.specs.declared.report.RunFault.{RunFault}
 use Rattle.pc_run.specs.declared.report.RunFault.TheVariants.{Sink, TooLong, Memory}
 
 -- The writing of a text stopped: the sink failed, or memory ran out. A prefix of the text was written.
 abbrev pub WriteStops : List ℕ → Change → RunFault → Type 0
-WriteStops text out Sink = Rose out.faults_before out.faults_now × GrowsByPrefix out.before out.now text
+WriteStops text out Sink = HasRisen out.faults_before out.faults_now × GrowsByPrefix out.before out.now text
 WriteStops text out (TooLong n) = ⊥
 WriteStops text out Memory = GrowsByPrefix out.before out.now text
 

@@ -7,7 +7,7 @@ ghost use Rattle.pc_semantics.specs.Configurations.{start};
 ghost use Rattle.pc_semantics.specs.Text.{waiting};
 ghost use Rattle.pc_run.specs.Ends.{NeverLacks, IsAnswer, Leaves, WritesText};
 ghost use Rattle.pc_run.specs.Spreading.{spread};
-ghost use Rattle.pc_run.specs.Underway.{Reached};
+ghost use Rattle.pc_run.specs.Underway.{ReachedSoFar};
 
 use crate::counts::{Counts, Progress};
 use crate::report::{Report, RunFault};
@@ -52,8 +52,8 @@ pub fn put_run<O: Sink>(
     progress: Progress,
     out: &mut O,
 ) -> Result<Report, RunFault>
-    ensures answers { (list : Sequence ℕ) → Reached machine.now.core list machine.now.configuration [] progress → IsAnswer machine.now.core list (O.faults out.old) (O.faults out.new) result }
-    ensures writes { (list : Sequence ℕ) → Reached machine.now.core list machine.now.configuration [] progress → WritesText machine.now.core list (O.written out.old) (O.written out.new) result }
+    ensures answers { (list : Sequence ℕ) → ReachedSoFar machine.now.core list machine.now.configuration [] progress → IsAnswer machine.now.core list (O.faults out.old) (O.faults out.new) result }
+    ensures writes { (list : Sequence ℕ) → ReachedSoFar machine.now.core list machine.now.configuration [] progress → WritesText machine.now.core list (O.written out.old) (O.written out.new) result }
     ensures later { O.faults out.old ≤ O.faults out.new }
 {
     put_texts(alloc, machine.printed().as_slice(), out)?;

@@ -5,7 +5,7 @@ ghost use Rattle.pc_sched.specs.Schedules.{total};
 ghost use Rattle.pc_semantics.specs.Configurations.{start};
 ghost use Rattle.pc_run.specs.Ends.{NeverLacks, IsBegun};
 ghost use Rattle.pc_run.specs.Spreading.{spread};
-ghost use Rattle.pc_run.specs.Underway.{Underway, Reached};
+ghost use Rattle.pc_run.specs.Underway.{Underway, ReachedSoFar};
 
 use crate::counts::{Counts, Progress};
 use pc_machine::Machine;
@@ -23,7 +23,7 @@ fn take_turn(
     requires never_lacks { NeverLacks machine.old.core }
     requires underway { Underway machine.old.core (spread turns.now) machine.old.configuration counts (spread (drop at turns.now)) }
     ensures core { machine.new.core ≡ machine.old.core }
-    ensures ok { IfOk result (Reached machine.old.core (spread turns.now) machine.new.configuration (spread (drop (at + 1) turns.now))) }
+    ensures ok { IfOk result (ReachedSoFar machine.old.core (spread turns.now) machine.new.configuration (spread (drop (at + 1) turns.now))) }
     ensures err { OnErr result (IsBegun machine.old.core (spread turns.now) machine.new.configuration) }
 {
     let turn = turns[at];
@@ -44,7 +44,7 @@ pub fn take_turns(machine: &mut Machine<'_>, turns: &[Turn]) -> Result<Progress,
     requires few { total turns.now ≤ turn_limit }
     requires never_lacks { NeverLacks machine.old.core }
     ensures core { machine.new.core ≡ machine.old.core }
-    ensures ok { IfOk result (Reached machine.old.core (spread turns.now) machine.new.configuration []) }
+    ensures ok { IfOk result (ReachedSoFar machine.old.core (spread turns.now) machine.new.configuration []) }
     ensures err { OnErr result (IsBegun machine.old.core (spread turns.now) machine.new.configuration) }
 {
     let mut counts = Counts::NONE;

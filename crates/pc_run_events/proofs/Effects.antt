@@ -24,7 +24,7 @@ use Rattle.pc_semantics.specs.declared.frames.Frame.{Frame}
 use Rattle.pc_semantics.specs.declared.frames.Task.{Task}
 use Rattle.pc_semantics.specs.declared.mailbox.Message.{Message}
 use Rattle.pc_semantics.specs.declared.outcome.Outcome.TheVariants.{Moved}
-use Rattle.pc_events.specs.Before.{at_place, Event, waiting, waiting_of}
+use Rattle.pc_events.specs.Before.{at_place, Event, waiting_for, waiting_of}
 use Rattle.pc_events.proofs.Changes.{Change, Heaping, New, Same, Sets, applied, changed, going, heaped, local, on_heap, planned, plan, pushing}
 use Rattle.pc_events.proofs.Closed.{moved_next}
 use Rattle.pc_events.proofs.Lists.{get_changed, length_changed}
@@ -58,7 +58,7 @@ pub record OneMade (core : CoreData) (c d : Configuration) (i : ℕ) : Type 0 wh
 
 -- The message that was sent comes last in its receiver's mailbox, and its method is the one that was called.
 abbrev pub OneSent : CoreData → Configuration → Configuration → (i r : ℕ) → Type 0
-OneSent core c d i r = (m : ℕ) × (method_sent core c i r ≡ Some m) × (method_waiting d r (waiting c r) ≡ Some m)
+OneSent core c d i r = (m : ℕ) × (method_sent core c i r ≡ Some m) × (method_waiting d r (waiting_for c r) ≡ Some m)
 
 abbrev pub Effects : CoreData → Configuration → Configuration → ℕ → Ahead → Type 0
 Effects core c d i ahead.Take = Unit {0}

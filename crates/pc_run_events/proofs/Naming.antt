@@ -11,7 +11,7 @@ use Rattle.pc_lists.proofs.Gets.{get_within}
 use Rattle.pc_lists.specs.Options.{◌>>=◌}
 use Rattle.pc_run_events.proofs.Effects.{Effects, NoneMade, OneMade, effects_at}
 use Rattle.pc_run_events.specs.Events.{AllEvents, Does, MadeThere, method_waiting}
-use Rattle.pc_run_events.specs.Names.{AllNamed, HasName, IsNamed}
+use Rattle.pc_run_events.specs.Names.{AllNamed, MethodHasName, DeedHasNames}
 use Rattle.pc_run_events.specs.declared.events.Deed.{Deed}
 use Rattle.pc_run_events.specs.declared.events.Deed.TheVariants as deed
 use Rattle.pc_run_events.specs.declared.events.RunEvent.{RunEvent}
@@ -27,7 +27,7 @@ some_below : {T : Type 0} (xs : List T) (n : ℕ) → n < length xs → IsSome (
 some_below xs n l = let there = get_within xs n l in is_some (slice_get xs n) there.0 there.1
 
 module _ (core : CoreData) (formed : Formed core) where
-  method_there : (m : ℕ) (x : Method) → slice_get core.methods m ≡ Some x → HasName core m
+  method_there : (m : ℕ) (x : Method) → slice_get core.methods m ≡ Some x → MethodHasName core m
   method_there m x e =
       let fits = formed.methods m x e in
       (x, e, is_some (slice_get core.entities x.entity) fits.owner fits.is_owner, some_below core.names x.name fits.name)
@@ -35,15 +35,15 @@ module _ (core : CoreData) (formed : Formed core) where
   -- ---- a message that waits
 
   module _ (c : Configuration) (quiet : Quiet core c) (a n m : ℕ) where
-    of_message : (x : Actor) → slice_get c.actors a ≡ Some x → (o : Option Message) → slice_get x.mailbox n ≡ o → (o >>= (λ m. Some m.method)) ≡ Some m → HasName core m
+    of_message : (x : Actor) → slice_get c.actors a ≡ Some x → (o : Option Message) → slice_get x.mailbox n ≡ o → (o >>= (λ m. Some m.method)) ≡ Some m → MethodHasName core m
     of_message x is None there e = absurd (none-some m e)
-    of_message x is (Some sent) there e = let known = quiet a x is n sent there in subst (HasName core) (same_Some sent.method m e) (method_there sent.method known.method known.is_method)
+    of_message x is (Some sent) there e = let known = quiet a x is n sent there in subst (MethodHasName core) (same_Some sent.method m e) (method_there sent.method known.method known.is_method)
 
-    of_actor : (o : Option Actor) → slice_get c.actors a ≡ o → (o >>= (λ x. slice_get x.mailbox n >>= (λ m. Some m.method))) ≡ Some m → HasName core m
+    of_actor : (o : Option Actor) → slice_get c.actors a ≡ o → (o >>= (λ x. slice_get x.mailbox n >>= (λ m. Some m.method))) ≡ Some m → MethodHasName core m
     of_actor None is e = absurd (none-some m e)
     of_actor (Some x) is e = of_message x is (slice_get x.mailbox n) refl e
 
-    waiting_named : method_waiting c a n ≡ Some m → HasName core m
+    waiting_named : method_waiting c a n ≡ Some m → MethodHasName core m
     waiting_named e = of_actor (slice_get c.actors a) refl e
 
   -- ---- an event
@@ -62,7 +62,7 @@ module _ (core : CoreData) (formed : Formed core) where
         let fits = formed.methods of.0 of.1 of.2 in
         subst (λ (k : ℕ). IsSome (slice_get core.entities k)) (sym ((one.only a e made).1 ∙ of.3)) (is_some (slice_get core.entities of.1.entity) fits.owner fits.is_owner)
 
-    named : (d : Deed) → Does core list p i d → IsNamed core d
+    named : (d : Deed) → Does core list p i d → DeedHasNames core d
     named (deed.Take m sent) does = waiting_named here (safe (take p list)).quiet i 0 m does.1
     named (deed.Send r m) does = waiting_named next (safe (take (suc p) list)).quiet r _ m does.1
     named (deed.Make a m) does = waiting_named next (safe (take (suc p) list)).quiet a 0 m does.2

@@ -12,7 +12,7 @@ use Rattle.pc_semantics.specs.declared.access.Access.{Access}
 use Rattle.pc_semantics.specs.declared.ahead.Ahead.{Ahead}
 use Rattle.pc_semantics.specs.declared.ahead.Ahead.TheVariants as ahead
 use Rattle.pc_semantics.specs.declared.outcome.Outcome.TheVariants.{Moved}
-use Rattle.pc_events.specs.Before.{at_place, Carries, Event, receiver_of, taken_before, waiting}
+use Rattle.pc_events.specs.Before.{at_place, Carries, Event, receiver_of, taken_before, waiting_for}
 use Rattle.pc_events.specs.Counting.{Live, Put, total}
 use Rattle.pc_events.proofs.Events.{one_actor}
 use Rattle.pc_events.proofs.Outcomes.{earlier}
@@ -124,7 +124,7 @@ module _ (core : CoreData) (list : List ℕ) (p i : ℕ) where
     one_deed (deed.Send r m) (deed.Take k t) a b = absurd (take_send r (sym b.0 ∙ a.0))
     one_deed (deed.Send r m) (deed.Send s k) a b =
         let to : r ≡ s = send_same r s (sym a.0 ∙ b.0) in
-        both deed.Send r s m k to (same_Some m k (sym a.1 ∙ ap (λ (z : ℕ). method_waiting next z (waiting here z)) to ∙ b.1))
+        both deed.Send r s m k to (same_Some m k (sym a.1 ∙ ap (λ (z : ℕ). method_waiting next z (waiting_for here z)) to ∙ b.1))
     one_deed (deed.Send r m) (deed.Make n k) a b = absurd (send_spawn r (sym a.0 ∙ b.0))
     one_deed (deed.Send r m) (deed.New q e) a b = absurd (send_task r (sym a.0 ∙ b.0))
     one_deed (deed.Send r m) (deed.Touch x) a b = absurd (no_task (ahead.Send r) (λ z. z) x a.0 b)

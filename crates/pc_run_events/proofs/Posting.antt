@@ -11,7 +11,7 @@ use Rattle.pc_semantics.specs.Runs.{outcomes}
 use Rattle.pc_semantics.specs.declared.ahead.Ahead.{Ahead}
 use Rattle.pc_semantics.specs.declared.ahead.Ahead.TheVariants as ahead
 use Rattle.pc_semantics.specs.declared.outcome.Outcome.TheVariants.{Moved, Skipped}
-use Rattle.pc_events.specs.Before.{at_place, Event, is_take, receiver_by, receiver_of, taken_before, waiting, waiting_of}
+use Rattle.pc_events.specs.Before.{at_place, Event, is_take, receiver_by, receiver_of, taken_before, waiting_for, waiting_of}
 use Rattle.pc_events.specs.Counting.{Put, total}
 use Rattle.pc_events.proofs.Boxes.{Boxes, none_behind}
 use Rattle.pc_events.proofs.Events.{one_actor}
@@ -36,7 +36,7 @@ task_take e = cc
 -- ---- the start
 
 abbrev Started : Configuration → ℕ → List ℕ → Type 0
-Started c a s = (length s ≡ waiting c a) × ((n m : ℕ) → slice_get s n ≡ Some m → m ≡ 0)
+Started c a s = (length s ≡ waiting_for c a) × ((n m : ℕ) → slice_get s n ≡ Some m → m ≡ 0)
 
 abbrev no_row : List ℕ
 no_row = []
@@ -83,7 +83,7 @@ posts_rested core list k posts e h =
       row = λ a s g.
           let o = h.row a s g in
           record {
-            waits = o.waits ∙ ap (λ (c : Configuration). waiting c a) (sym r.same);
+            waits = o.waits ∙ ap (λ (c : Configuration). waiting_for c a) (sym r.same);
             sent = λ n m i. subst (λ (t : ℕ). SentBefore core list (suc k) a (t + n) m) (sym (r.counts a)) (later a (taken_before core list k a + n) m (o.sent n m i));
           };
     }
@@ -132,7 +132,7 @@ module _ (core : CoreData) (list : List ℕ) (k i : ℕ) (ev : Event core list k
       let w = h.waits in
       subst (λ (t : ℕ). SentBefore core list (suc k) a (t + n) m) (sym same) (old_sent a (taken_before core list k a + n) m (omega (arith, b, w)) (h.sent n m e))
 
-  same_row : (a : ℕ) (s : List ℕ) → RowKeeps core list k a s → taken_before core list (suc k) a ≡ taken_before core list k a → waiting next a ≡ waiting here a → RowKeeps core list (suc k) a s
+  same_row : (a : ℕ) (s : List ℕ) → RowKeeps core list k a s → taken_before core list (suc k) a ≡ taken_before core list k a → waiting_for next a ≡ waiting_for here a → RowKeeps core list (suc k) a s
   same_row a s h same waits = record { waits = h.waits ∙ sym waits; sent = old_row a s h same }
 
   now_sent : (r : ℕ) → receiver_of core here i ≡ Some r → SentBefore core list (suc k) r (total core list k r) (suc k)
@@ -154,7 +154,7 @@ module _ (core : CoreData) (list : List ℕ) (k i : ℕ) (ev : Event core list k
 
     -- ---- a message that is taken
 
-    module _ (new : List (List ℕ)) (is : kind ≡ ahead.Take) (count : length next.actors ≡ length here.actors) (one : waiting here i ≡ suc (waiting next i)) (rest : (a : ℕ) → a ≢ i → waiting next a ≡ waiting here a)
+    module _ (new : List (List ℕ)) (is : kind ≡ ahead.Take) (count : length next.actors ≡ length here.actors) (one : waiting_for here i ≡ suc (waiting_for next i)) (rest : (a : ℕ) → a ≢ i → waiting_for next a ≡ waiting_for here a)
         (takes : RowAt old new i (λ s t. t ≡ drop 1 s)) where
       got : Pair new i (λ s t. t ≡ drop 1 s)
       got = pair new i _ there takes
@@ -167,7 +167,7 @@ module _ (core : CoreData) (list : List ℕ) (k i : ℕ) (ev : Event core list k
       got_row =
           let h = keeps.row i got.0 got.2 in
           record {
-            waits = ap (λ (s : List ℕ). length s) got.4 ∙ one_less got.0 (waiting next i) (h.waits ∙ one);
+            waits = ap (λ (s : List ℕ). length s) got.4 ∙ one_less got.0 (waiting_for next i) (h.waits ∙ one);
             sent = λ n m e.
                 let old_place : slice_get got.0 (1 + n) ≡ Some m = sym (get_drop got.0 1 n) ∙ ap (λ (s : List ℕ). slice_get s n) (sym got.4) ∙ e in
                 let b = get_below got.0 (1 + n) m old_place in
@@ -192,7 +192,7 @@ module _ (core : CoreData) (list : List ℕ) (k i : ℕ) (ev : Event core list k
     -- ---- a message that is sent
 
     module _ (new : List (List ℕ)) (none : (a : ℕ) → taken_before core list (suc k) a ≡ taken_before core list k a) (r : ℕ) (to : receiver_of core here i ≡ Some r) (count : length next.actors ≡ length here.actors) (b : r < length here.actors)
-        (one : waiting next r ≡ suc (waiting here r)) (rest : (a : ℕ) → a ≢ r → waiting next a ≡ waiting here a) (place : ℕ) (at : place ≡ suc k) (puts : RowAt old new r (λ s t. t ≡ s ++ place ∷ [])) where
+        (one : waiting_for next r ≡ suc (waiting_for here r)) (rest : (a : ℕ) → a ≢ r → waiting_for next a ≡ waiting_for here a) (place : ℕ) (at : place ≡ suc k) (puts : RowAt old new r (λ s t. t ≡ s ++ place ∷ [])) where
       put : Pair new r (λ s t. t ≡ s ++ place ∷ [])
       put = pair new r _ (subst (λ (n : ℕ). r < n) (sym keeps.count) b) puts
 
@@ -227,8 +227,8 @@ module _ (core : CoreData) (list : List ℕ) (k i : ℕ) (ev : Event core list k
     -- ---- a new actor
 
     module _ (new : List (List ℕ)) (none : (a : ℕ) → taken_before core list (suc k) a ≡ taken_before core list k a) (to : receiver_of core here i ≡ Some (length here.actors)) (count : length next.actors ≡ suc (length here.actors))
-        (one : waiting next (length here.actors) ≡ 1) (rest : (a : ℕ) → a ≢ length here.actors → waiting next a ≡ waiting here a) (place : ℕ) (at : place ≡ suc k) (born : new ≡ old ++ (place ∷ []) ∷ []) where
-      nobody_waits : waiting here (length here.actors) ≡ 0
+        (one : waiting_for next (length here.actors) ≡ 1) (rest : (a : ℕ) → a ≢ length here.actors → waiting_for next a ≡ waiting_for here a) (place : ℕ) (at : place ≡ suc k) (born : new ≡ old ++ (place ∷ []) ∷ []) where
+      nobody_waits : waiting_for here (length here.actors) ≡ 0
       nobody_waits = ap waiting_of (none_behind here.actors (length here.actors) (no_less (length here.actors)))
         where
           no_less : (n : ℕ) → n ≤ n
@@ -332,7 +332,7 @@ module _ (core : CoreData) (list : List ℕ) (k i : ℕ) (ev : Event core list k
     taking ahead.Take is e b =
         let w = get_within old i there in
         let row = keeps.row i w.0 w.1 in
-        subst (λ (o : Option (List ℕ)). SentAt core list k (first_row o)) (sym w.1) (sent_by (first_of w.0) is (first_sent w.0 row (waiting next i) (row.waits ∙ b.1)))
+        subst (λ (o : Option (List ℕ)). SentAt core list k (first_row o)) (sym w.1) (sent_by (first_of w.0) is (first_sent w.0 row (waiting_for next i) (row.waits ∙ b.1)))
     taking (ahead.Send r) is e b = absurd (send_take r e)
     taking ahead.Spawn is e b = absurd (spawn_take e)
     taking ahead.Task is e b = absurd (task_take e)

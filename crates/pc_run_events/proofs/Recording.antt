@@ -21,7 +21,7 @@ use Rattle.pc_semantics.specs.declared.ahead.Ahead.TheVariants as ahead
 use Rattle.pc_semantics.specs.declared.mailbox.Message.{Message}
 use Rattle.pc_semantics.specs.declared.outcome.Outcome.TheVariants.{Moved, Skipped}
 use Rattle.pc_clocks.specs.Seats.{number}
-use Rattle.pc_events.specs.Before.{at_place, Event, waiting, waiting_of}
+use Rattle.pc_events.specs.Before.{at_place, Event, waiting_for, waiting_of}
 use Rattle.pc_events.specs.Clock.{Clock, Clocks}
 use Rattle.pc_events.specs.Counting.{AtOrBefore, Counts}
 use Rattle.pc_events.proofs.Boxes.{Boxes}
@@ -148,7 +148,7 @@ first_method (Some a) k e = in_mailbox a.mailbox e
     in_mailbox [] e = absurd (omega (arith, e))
     in_mailbox (m ∷ ms) e = (m.method, refl)
 
-first_waits : (c : Configuration) (a k : ℕ) → waiting c a ≡ suc k → (m : ℕ) × (method_waiting c a 0 ≡ Some m)
+first_waits : (c : Configuration) (a k : ℕ) → waiting_for c a ≡ suc k → (m : ℕ) × (method_waiting c a 0 ≡ Some m)
 first_waits c a k e = first_method (slice_get c.actors a) k e
 
 clocks : (core : CoreData) (list : List ℕ) (p : ℕ) (clock : List ℕ) → length clock ≡ length (at_place core list p).actors → Counts core list (suc p) (AtOrBefore core list p) (number clock) → Clocks core list p clock
@@ -302,7 +302,7 @@ module _ (core : CoreData) (list : List ℕ) (n : ℕ) (events : List RunEvent) 
     module _ (sent : ℕ) (sent_there : ahead_of core here i ≡ ahead.Take → SentAt core list n sent) where
       recorded_by : (h : Ahead) → ahead_of core here i ≡ h → Boxes here next i h → Effects core here next i h → With (deed_by h (sight core here i) next i sent)
       recorded_by ahead.Take is b x =
-          let w = first_waits here i (waiting next i) b.1 in
+          let w = first_waits here i (waiting_for next i) b.1 in
           subst With (sym (ap (λ (o : Option ℕ). o >>= (λ m. Some (deed.Take m sent))) (method_is ahead.Take is ∙ w.1))) (recorded_more (deed.Take w.0 sent) (is, w.1, sent_there is))
       recorded_by (ahead.Send r) is b x =
           subst With (sym (ap (λ (o : Option ℕ). o >>= (λ m. Some (deed.Send r m))) (method_is (ahead.Send r) is ∙ x.1))) (recorded_more (deed.Send r x.0) (is, x.2))

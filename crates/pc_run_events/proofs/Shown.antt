@@ -18,7 +18,7 @@ use Rattle.pc_heap.specs.declared.value.Value.TheVariants.{At}
 use Rattle.pc_lists.specs.Options.{◌>>=◌}
 use Rattle.pc_run_events.proofs.Access.{Plain, get_node, put_node}
 use Rattle.pc_run_events.specs.Sights.{method_called, name_called}
-use Rattle.pc_semantics.specs.Around.{Around, Move, Stuck, Overflows, Goes, Writes, Makes, Spawns, Enters, Sends, Leaves, entity_of, popped, with_stack}
+use Rattle.pc_semantics.specs.Around.{Around, Move, Stuck, Overflows, Goes, Writes, Makes, Spawns, Enters, Sends, Leaves, value_entity, popped, with_stack}
 use Rattle.pc_semantics.specs.Calls.{begin_new, enter, invoke_found, invoke_kind, invoke_method, invoke_on, invoke_task, is_string, make_of, make_task, push_text, send, spawn_of, spawn_task, text_of}
 use Rattle.pc_semantics.specs.Configurations.{own_address}
 use Rattle.pc_semantics.specs.Safety.{touched_name}
@@ -118,13 +118,13 @@ module _ (core : CoreData) (h : ObjectMap) (i actors n : ℕ) where
 
   -- A name is called.
   module _ (name : ℕ) (named : (r : ℕ) → method_called core h (task.Invoke n) r ≡ (class_at h (own_address r) >>= (λ e. method_named core e name))) where
-    module _ (v : Value) (e : ℕ) (is : entity_of h v ≡ Some e) (m : ℕ) (found : method_named core e name ≡ Some m) where
+    module _ (v : Value) (e : ℕ) (is : value_entity h v ≡ Some e) (m : ℕ) (found : method_named core e name ≡ Some m) where
       to_actor : (r s : ℕ) → class_at h (record { maker = r; serial = s }) ≡ Some e → s ≡ 0 → method_called core h (task.Invoke n) r ≡ Some m
       to_actor r s own zero =
           named r ∙ ap (λ (k : ℕ). class_at h (record { maker = r; serial = k }) >>= (λ e. method_named core e name)) (sym zero)
           ∙ ap (λ (o : Option ℕ). o >>= (λ e. method_named core e name)) own ∙ found
 
-      send_shown : (x : Method) (vs : List Value) (f : Frame) (w : Value) → entity_of h w ≡ Some e → Called (send a m x vs f w)
+      send_shown : (x : Method) (vs : List Value) (f : Frame) (w : Value) → value_entity h w ≡ Some e → Called (send a m x vs f w)
       send_shown x vs f (At q) own =
           if_shown core h (task.Invoke n) (nat_eq q.serial 0 && nat_lt q.maker actors) _ _ (λ b.
           if_shown core h (task.Invoke n) (nat_eq (length vs) (length x.params)) _ _ (λ c. to_actor q.maker q.serial own (eqb-true q.serial 0 (and_parts (nat_eq q.serial 0) (nat_lt q.maker actors) b).0)) tt) tt
@@ -139,18 +139,18 @@ module _ (core : CoreData) (h : ObjectMap) (i actors n : ℕ) where
       found_shown vs f None = tt
       found_shown vs f (Some x) = kind_shown x vs f x.kind
 
-    method_shown : (v : Value) (e : ℕ) → entity_of h v ≡ Some e → (vs : List Value) (f : Frame) (p : Option ℕ) → method_named core e name ≡ p → Called (invoke_method core a name v vs f p)
+    method_shown : (v : Value) (e : ℕ) → value_entity h v ≡ Some e → (vs : List Value) (f : Frame) (p : Option ℕ) → method_named core e name ≡ p → Called (invoke_method core a name v vs f p)
     method_shown v e is vs f None found = if_shown core h (task.Invoke n) (is_string core name vs) _ _ (λ c. text_shown core h (task.Invoke n) f (text_of v)) tt
     method_shown v e is vs f (Some m) found = found_shown v e is m found vs f (slice_get core.methods m)
 
-    on_shown : (v : Value) (vs : List Value) (f : Frame) (p : Option ℕ) → entity_of h v ≡ p → Called (invoke_on core a name v vs f p)
+    on_shown : (v : Value) (vs : List Value) (f : Frame) (p : Option ℕ) → value_entity h v ≡ p → Called (invoke_on core a name v vs f p)
     on_shown v vs f None is = tt
     on_shown v vs f (Some e) is = method_shown v e is vs f (method_named core e name) refl
 
   invoke_shown : (f : Frame) (x : Node) → slice_get core.nodes n ≡ Some x → (k : NodeKind) → x.kind ≡ k → Called (invoke_task core a f x.children k)
   invoke_shown f x there (node.Call name) is =
       top_all (Shown core h (task.Invoke n)) f f.stack _
-      (λ v vs. arguments_all (Shown core h (task.Invoke n)) (with_stack f vs) (popped (length x.children - 1) vs []) _ (λ us g. on_shown name named v us g (entity_of h v) refl) tt) tt
+      (λ v vs. arguments_all (Shown core h (task.Invoke n)) (with_stack f vs) (popped (length x.children - 1) vs []) _ (λ us g. on_shown name named v us g (value_entity h v) refl) tt) tt
     where
       named : (r : ℕ) → method_called core h (task.Invoke n) r ≡ (class_at h (own_address r) >>= (λ e. method_named core e name))
       named r =

@@ -30,7 +30,7 @@ use Rattle.pc_trace.specs.Keeps.{first_seats}
 use Rattle.pc_trace.specs.Noted.{Noted}
 use Rattle.pc_trace.specs.Reached.{Reached, noted_with as touched_with}
 use Rattle.pc_trace.specs.Traces.{RanOn}
-use Rattle.pc_trace.specs.Turns.{Follows}
+use Rattle.pc_trace.specs.Turns.{FollowsEvent}
 use Rattle.pc_trace.proofs.Covering.{number_there}
 use Rattle.pc_trace.proofs.Ends.{outcome_at}
 use Rattle.pc_trace.proofs.Keeping.{Behind, behind_event}
@@ -98,7 +98,7 @@ module _ (core : CoreData) (list : List ℕ) (n : ℕ) (c : Configuration) (seat
       pub row_there : HasRow seen.ahead (get_or list n 0) posts
       row_there = subst (λ (h : Ahead). HasRow h (get_or list n 0) posts) (sym kind_here) (has_row core list n (get_or list n 0) ev posts u.kept)
 
-      module _ (place : ℕ) (at : place ≡ n + 1) (next : List Seat) (follows : Follows seen.ahead seen.actors (get_or list n 0) seats next) (sent : ℕ) (sent_is : sent ≡ sent_by seen.ahead (get_or list n 0) posts)
+      module _ (place : ℕ) (at : place ≡ n + 1) (next : List Seat) (follows : FollowsEvent seen.ahead seen.actors (get_or list n 0) seats next) (sent : ℕ) (sent_is : sent ≡ sent_by seen.ahead (get_or list n 0) posts)
           (deed : Option Deed) (deed_is : deed ≡ deed_after seen d (get_or list n 0) sent) (more : List RunEvent) (made : more ≡ noted_with deed place (get_or list n 0) (clock_of next (get_or list n 0)) events) where
         count_here : seen.actors ≡ length here.actors
         count_here = ap (λ (s : Sight). s.actors) seen_here
@@ -109,7 +109,7 @@ module _ (core : CoreData) (list : List ℕ) (n : ℕ) (c : Configuration) (seat
         behind : Behind core list n (get_or list n 0) next
         behind =
             behind_event core list n (get_or list n 0) u.reached.live ev seats u.reached.keeps next
-            (subst (λ (m : ℕ). Follows (ahead_of core here (get_or list n 0)) m (get_or list n 0) seats next) count_here (subst (λ (h : Ahead). Follows h seen.actors (get_or list n 0) seats next) kind_here follows))
+            (subst (λ (m : ℕ). FollowsEvent (ahead_of core here (get_or list n 0)) m (get_or list n 0) seats next) count_here (subst (λ (h : Ahead). FollowsEvent h seen.actors (get_or list n 0) seats next) kind_here follows))
 
         place_here : place ≡ suc n
         place_here = at ∙ sym (one_on n)

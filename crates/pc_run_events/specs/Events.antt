@@ -9,7 +9,7 @@ use Rattle.pc_semantics.specs.Ahead.{ahead_of}
 use Rattle.pc_semantics.specs.Configurations.{Configuration}
 use Rattle.pc_semantics.specs.Safety.{access}
 use Rattle.pc_semantics.specs.declared.ahead.Ahead.TheVariants as ahead
-use Rattle.pc_events.specs.Before.{at_place, Event, Carries, waiting}
+use Rattle.pc_events.specs.Before.{at_place, Event, Carries, waiting_for}
 use Rattle.pc_events.specs.Clock.{Clocks}
 use Rattle.pc_run_events.specs.declared.events.Deed.{Deed}
 use Rattle.pc_run_events.specs.declared.events.Deed.TheVariants as deed
@@ -38,7 +38,8 @@ abbrev pub Does : CoreData → List ℕ → (place actor : ℕ) → Deed → Typ
 Does core list p i (deed.Take m sent) =
     (ahead_of core (at_place core list p) i ≡ ahead.Take) × (method_waiting (at_place core list p) i 0 ≡ Some m) × SentAt core list p sent
 Does core list p i (deed.Send r m) =
-    (ahead_of core (at_place core list p) i ≡ ahead.Send r) × (method_waiting (at_place core list (suc p)) r (waiting (at_place core list p) r) ≡ Some m)
+    (ahead_of core (at_place core list p) i ≡ ahead.Send r)
+        × (method_waiting (at_place core list (suc p)) r (waiting_for (at_place core list p) r) ≡ Some m)
 Does core list p i (deed.Make a m) =
     (ahead_of core (at_place core list p) i ≡ ahead.Spawn) × (a ≡ length (at_place core list p).actors) × (method_waiting (at_place core list (suc p)) a 0 ≡ Some m)
 Does core list p i (deed.New a e) =

@@ -3,7 +3,7 @@ use Rattle.std.specs.Prelude.{◌≡◌, ◌<◌, ◌+◌, ℕ, zero, suc, List,
 use Rattle.pc_core.specs.CoreData.{CoreData}
 use Rattle.pc_semantics.specs.Configurations.{Configuration}
 use Rattle.pc_clocks.specs.declared.seat.Seat.{Seat}
-use Rattle.pc_events.specs.Before.{at_place, Event, taken_before, waiting}
+use Rattle.pc_events.specs.Before.{at_place, Event, taken_before, waiting_for}
 use Rattle.pc_events.specs.Counting.{Put}
 use Rattle.pc_run_events.specs.Events.{Does, EventAt, touches_in}
 use Rattle.pc_run_events.specs.declared.events.Deed.{Deed}
@@ -17,7 +17,7 @@ SentBefore core list k r n (suc e) = (e < k) × Put core list e r n
 
 -- The places of the messages that wait for actor a.
 pub record RowKeeps (core : CoreData) (list : List ℕ) (k a : ℕ) (row : List ℕ) : Type 0 where
-  pub waits : length row ≡ waiting (at_place core list k) a
+  pub waits : length row ≡ waiting_for (at_place core list k) a
   pub sent : (n m : ℕ) → slice_get row n ≡ Some m → SentBefore core list k a (taken_before core list k a + n) m
 
 pub record PostsKeep (core : CoreData) (list : List ℕ) (k : ℕ) (posts : List (List ℕ)) : Type 0 where

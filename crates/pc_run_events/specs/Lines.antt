@@ -4,15 +4,15 @@ use Rattle.pc_core.specs.CoreData.{CoreData}
 use Rattle.pc_heap.specs.declared.value.Address.{Address}
 use Rattle.pc_lists.specs.Texts.{Text, line_end}
 use Rattle.pc_run_events.specs.Events.{touches_in}
-use Rattle.pc_run_events.specs.Names.{entity_name, method_text}
+use Rattle.pc_run_events.specs.Names.{name_of_entity, method_text}
 use Rattle.pc_run_events.specs.declared.events.Deed.{Deed}
 use Rattle.pc_run_events.specs.declared.events.Deed.TheVariants as deed
 use Rattle.pc_run_events.specs.declared.events.RunEvent.{RunEvent}
 use Rattle.pc_semantics.specs.declared.access.Access.{Access}
 
-abbrev pub kind_text : Bool → Text
-kind_text true = codes "write"
-kind_text false = codes "read"
+abbrev pub access_word : Bool → Text
+access_word true = codes "write"
+access_word false = codes "read"
 
 -- `M.S`
 abbrev pub address_text : Address → Text
@@ -20,7 +20,7 @@ address_text a = decimal a.maker ++ (codes "." ++ decimal a.serial)
 
 -- `read M.S F`, or the same with `write`.
 abbrev pub access_text : Access → Text
-access_text x = kind_text x.write ++ (codes " " ++ (address_text x.address ++ (codes " " ++ decimal x.field)))
+access_text x = access_word x.write ++ (codes " " ++ (address_text x.address ++ (codes " " ++ decimal x.field)))
 
 -- `take E.m FROM`
 abbrev pub take_text : CoreData → (method sent : ℕ) → Text
@@ -32,7 +32,7 @@ message_text core b m = decimal b ++ (codes " " ++ method_text core (slice_get c
 
 -- `new M.S E`
 abbrev pub new_text : CoreData → Address → (entity : ℕ) → Text
-new_text core a e = codes "new " ++ (address_text a ++ (codes " " ++ entity_name (slice_get core.entities e)))
+new_text core a e = codes "new " ++ (address_text a ++ (codes " " ++ name_of_entity (slice_get core.entities e)))
 
 -- What an event does.
 abbrev pub deed_text : CoreData → Deed → Text
@@ -72,9 +72,9 @@ is_access (deed.Make a m) = false
 is_access (deed.New a e) = false
 
 -- `events N accesses M ordered`
-abbrev pub count_line : (events accesses : ℕ) → Text
-count_line n m = codes "events " ++ (decimal n ++ (codes " accesses " ++ (decimal m ++ (codes " ordered" ++ line_end))))
+abbrev pub event_count_line : (events accesses : ℕ) → Text
+event_count_line n m = codes "events " ++ (decimal n ++ (codes " accesses " ++ (decimal m ++ (codes " ordered" ++ line_end))))
 
 -- The events, a line each, followed by their number and the number of accesses among them.
-abbrev pub run_text : CoreData → List RunEvent → Text
-run_text core events = events_text core events ++ count_line (length events) (length (touches_in events))
+abbrev pub events_text_of_run : CoreData → List RunEvent → Text
+events_text_of_run core events = events_text core events ++ event_count_line (length events) (length (touches_in events))

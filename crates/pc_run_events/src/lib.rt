@@ -13,7 +13,7 @@ mod deeds;
 mod events;
 mod follow;
 mod lines;
-mod names;
+mod method_names;
 mod posts;
 mod recorder;
 mod safe;

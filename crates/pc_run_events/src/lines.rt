@@ -5,7 +5,7 @@ ghost use Rattle.pc_run_events.specs.Lines as spec;
 ghost use Rattle.pc_run_events.specs.Names.{method_text};
 
 use crate::events::{Deed, RunEvent};
-use crate::names::{push_entity, push_method};
+use crate::method_names::{push_entity, push_method};
 use itoa::Buffer;
 use pc_caps::List;
 use pc_core::Core;
@@ -47,7 +47,7 @@ fn push_clock(text: &mut Vec<u8>, clock: &[u64]) -> Result<(), AllocError>
 
 // What an access does.
 fn kind_of(write: bool) -> &'static str
-    ensures { result.now ≡ spec.kind_text write }
+    ensures { result.now ≡ spec.access_word write }
 {
     if write { "write" } else { "read" }
 }
@@ -194,7 +194,7 @@ fn push_counts(
     events: usize,
     accesses: usize,
 ) -> Result<(), AllocError>
-    ensures { OnOk result (text.new.items ≡ text.old.items ++ spec.count_line events accesses) }
+    ensures { OnOk result (text.new.items ≡ text.old.items ++ spec.event_count_line events accesses) }
 {
     let words = format!(in alloc; "events {events} accesses {accesses} ordered\n")?;
     text.extend_from_slice(words.as_bytes())
@@ -202,7 +202,7 @@ fn push_counts(
 
 /// The lines of the events of a run of a core, and then `events N accesses M ordered`.
 pub fn write_events(alloc: Global, core: &Core, events: &[RunEvent]) -> Result<List<u8>, AllocError>
-    ensures { IfOk result (λ text. text ≡ spec.run_text core.now events.now) }
+    ensures { IfOk result (λ text. text ≡ spec.events_text_of_run core.now events.now) }
 {
     let mut text: Vec<u8> = Vec::new(alloc);
     push_events(alloc, &mut text, core, events)?;

@@ -7,10 +7,10 @@ use Rattle.pc_semantics.specs.Configurations.{Configuration}
 use Rattle.pc_semantics.specs.Safety.{Race, Quiet, Safe}
 use Rattle.pc_list_steps.specs.declared.fault.StepsFault.{StepsFault}
 use Rattle.pc_list_steps.specs.declared.fault.StepsFault.TheVariants.{TooLong, Memory}
-use Rattle.pc_safe.specs.Apart.{IsApart, EndsApart}
+use Rattle.pc_safe.specs.Apart.{IsRaceFreeAndQuiet, EndsApart}
 use Rattle.pc_list_steps.specs.Ends.{IsBehind, RunEnds}
 
-behind_apart : (core : CoreData) (list : List ℕ) (machine : MachineData) → Safe core → IsBehind core list machine → IsApart core machine
+behind_apart : (core : CoreData) (list : List ℕ) (machine : MachineData) → Safe core → IsBehind core list machine → IsRaceFreeAndQuiet core machine
 behind_apart core list machine safe is =
     subst (λ (c : Configuration). (Race core c → ⊥) × Quiet core c) (sym is.1) ((safe list).no_race, (safe list).quiet)
 

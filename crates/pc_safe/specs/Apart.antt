@@ -7,13 +7,13 @@ use Rattle.pc_list_steps.specs.declared.fault.StepsFault.{StepsFault}
 use Rattle.pc_list_steps.specs.declared.fault.StepsFault.TheVariants.{TooLong, Memory}
 
 -- The machine's configuration has no race, and is quiet.
-abbrev pub IsApart : CoreData → MachineData → Type 0
-IsApart core machine = (Race core machine.configuration → ⊥) × Quiet core machine.configuration
+abbrev pub IsRaceFreeAndQuiet : CoreData → MachineData → Type 0
+IsRaceFreeAndQuiet core machine = (Race core machine.configuration → ⊥) × Quiet core machine.configuration
 
 -- So does that of the machine before a step that is too long.
 abbrev pub StopsApart : CoreData → StepsFault → Type 0
-StopsApart core (TooLong step machine) = IsApart core machine
+StopsApart core (TooLong step machine) = IsRaceFreeAndQuiet core machine
 StopsApart core Memory = Unit {0}
 
 abbrev pub EndsApart : CoreData → Result MachineData StepsFault → Type 0
-EndsApart core result = MatchResult result (IsApart core) (StopsApart core)
+EndsApart core result = MatchResult result (IsRaceFreeAndQuiet core) (StopsApart core)

@@ -8,31 +8,32 @@ use Rattle.pc_sched.specs.declared.turns.Turn.{Turn}
 use Rattle.pc_sched.specs.declared.fault.SchedFault.{SchedFault}
 use Rattle.pc_sched.specs.declared.fault.SchedFault.TheVariants as fault
 use Rattle.pc_sched.specs.Limits.{turn_limit}
-use Rattle.pc_sched.specs.Schedules.{no_blank, Piece, blank, word, bytes_of, IsPiece, Pieces, Spells, Spelled, total, TurnList, WordAt}
+use Rattle.pc_sched.specs.Schedules.{no_blank, SchedulePiece, blank, word, piece_bytes, IsSchedulePiece, SchedulePieces, SpellsTurn, SpelledTurns, total}
+use Rattle.pc_sched.specs.Schedules.{TurnList, WordAt}
 use Rattle.pc_sched.specs.Reading.{turn_of, word_at, Steps, Stuck}
-use Rattle.pc_sched.specs.Answers.{Refuses}
+use Rattle.pc_sched.specs.Answers.{RefusesSchedule}
 use Rattle.pc_sched.proofs.Runs.{run_ends, first_blank}
 use Rattle.pc_lists.proofs.Prefixes.{run_all}
 use Rattle.pc_sched.proofs.TurnReading.{turn_sound, no_turn}
 
 pub record Sofar (text : List ℕ) (at count : ℕ) (turns : List Turn) : Type 0 where
-  pub pieces : List Piece
+  pub pieces : List SchedulePiece
   pub within : at ≤ length text
-  pub cut : Pieces text pieces (drop at text)
-  pub spelled : Spelled pieces turns
+  pub cut : SchedulePieces text pieces (drop at text)
+  pub spelled : SpelledTurns pieces turns
   pub counted : count ≡ total turns
   pub few : count ≤ turn_limit
 
-add_piece : (ps : List Piece) (text : List ℕ) (p : Piece) (mid rest : List ℕ) → Pieces text ps mid → mid ≡ bytes_of p ++ rest → IsPiece p rest → Pieces text (ps ++ p ∷ []) rest
+add_piece : (ps : List SchedulePiece) (text : List ℕ) (p : SchedulePiece) (mid rest : List ℕ) → SchedulePieces text ps mid → mid ≡ piece_bytes p ++ rest → IsSchedulePiece p rest → SchedulePieces text (ps ++ p ∷ []) rest
 add_piece [] text p mid rest h e stands = (rest, h ∙ e, stands, refl)
 add_piece (q ∷ ps) text p mid rest h e stands = (h.0, h.1, h.2, add_piece ps h.0 p mid rest h.3 e stands)
 
-add_blank : (ps : List Piece) (x : ℕ) (ts : List Turn) → Spelled ps ts → Spelled (ps ++ blank x ∷ []) ts
+add_blank : (ps : List SchedulePiece) (x : ℕ) (ts : List Turn) → SpelledTurns ps ts → SpelledTurns (ps ++ blank x ∷ []) ts
 add_blank [] x ts h = h
 add_blank (blank y ∷ ps) x ts h = add_blank ps x ts h
 add_blank (word b ∷ ps) x ts h = (h.0, h.1, h.2, h.3, add_blank ps x h.1 h.4)
 
-add_word : (ps : List Piece) (b : List ℕ) (ts : List Turn) (turn : Turn) → Spells b turn → Spelled ps ts → Spelled (ps ++ word b ∷ []) (ts ++ turn ∷ [])
+add_word : (ps : List SchedulePiece) (b : List ℕ) (ts : List Turn) (turn : Turn) → SpellsTurn b turn → SpelledTurns ps ts → SpelledTurns (ps ++ word b ∷ []) (ts ++ turn ∷ [])
 add_word [] b ts turn s h = (turn, [], ap (λ l. l ++ turn ∷ []) h, s, refl)
 add_word (blank y ∷ ps) b ts turn s h = add_word ps b ts turn s h
 add_word (word c ∷ ps) b ts turn s h = (h.0, h.1 ++ turn ∷ [], ap (λ l. l ++ turn ∷ []) h.2, h.3, add_word ps b h.1 turn s h.4)
@@ -46,7 +47,7 @@ starts_so text = record { pieces = []; within = omega arith; cut = refl; spelled
 
 module _ (text : List ℕ) (at count : ℕ) (turns : List Turn) (inside : at < length text) (so : Sofar text at count turns) where
   -- the word at the place, if there is one
-  word_stands : 0 < prefix_len no_blank (drop at text) → IsPiece (word (word_at text at)) (drop (prefix_len no_blank (drop at text)) (drop at text))
+  word_stands : 0 < prefix_len no_blank (drop at text) → IsSchedulePiece (word (word_at text at)) (drop (prefix_len no_blank (drop at text)) (drop at text))
   word_stands some = (omega (arith, some, length-prefix_len no_blank (drop at text)), run_all no_blank (drop at text), run_ends (drop at text))
 
   blank_passed : prefix_len no_blank (drop at text) ≡ 0 → Sofar text (at + 1) count turns
@@ -70,7 +71,7 @@ module _ (text : List ℕ) (at count : ℕ) (turns : List Turn) (inside : at < l
       record {
         pieces = so.pieces ++ word (word_at text at) ∷ [];
         within = omega (arith, so.within, prefix_len-le-length no_blank (drop at text), length-drop at text);
-        cut = subst (Pieces text (so.pieces ++ word (word_at text at) ∷ [])) rest (add_piece so.pieces text (word (word_at text at)) (drop at text) (drop n (drop at text)) so.cut split (word_stands some));
+        cut = subst (SchedulePieces text (so.pieces ++ word (word_at text at) ∷ [])) rest (add_piece so.pieces text (word (word_at text at)) (drop at text) (drop n (drop at text)) so.cut split (word_stands some));
         spelled = add_word so.pieces (word_at text at) turns turn (turn_sound (word_at text at) turn is) so.spelled;
         counted = omega (arith, so.counted, total_add turns turn);
         few = few;
@@ -83,7 +84,7 @@ module _ (text : List ℕ) (at count : ℕ) (turns : List Turn) (inside : at < l
       record {
         pieces = so.pieces;
         rest = drop n (drop at text);
-        cut = subst (Pieces text so.pieces) split so.cut;
+        cut = subst (SchedulePieces text so.pieces) split so.cut;
         stands = word_stands some;
         spelled = so.spelled;
         few = omega (arith, so.counted, so.few);
@@ -100,9 +101,10 @@ module _ (text : List ℕ) (at count : ℕ) (turns : List Turn) (inside : at < l
       let pair : ((at + prefix_len no_blank (drop at text), count + turn.times), turns ++ turn ∷ []) ≡ (r, new) = sym (ap₂ (λ x y. (x, y)) e same) in
       subst P pair (word_read turn some is few)
 
-  pub stuck_so : (f : SchedFault) → Stuck text at count f → Refuses text f
-  stuck_so (fault.BadWord p) s = subst (λ q. Refuses text (fault.BadWord q)) (sym s.0) (turns, word_at text at, word_here s.1, no_turn (word_at text at) s.2)
-  stuck_so (fault.TooMany p) s = subst (λ q. Refuses text (fault.TooMany q)) (sym s.0) (turns, word_at text at, word_here s.1, s.2, turn_sound (word_at text at) s.2 s.3, omega (arith, so.counted, s.4))
+  pub stuck_so : (f : SchedFault) → Stuck text at count f → RefusesSchedule text f
+  stuck_so (fault.BadWord p) s =
+      subst (λ q. RefusesSchedule text (fault.BadWord q)) (sym s.0) (turns, word_at text at, word_here s.1, no_turn (word_at text at) s.2)
+  stuck_so (fault.TooMany p) s = subst (λ q. RefusesSchedule text (fault.TooMany q)) (sym s.0) (turns, word_at text at, word_here s.1, s.2, turn_sound (word_at text at) s.2 s.3, omega (arith, so.counted, s.4))
   stuck_so fault.Memory s = tt
 
 pub nearer : (text : List ℕ) (at count : ℕ) (old new : List Turn) (r : ℕ × ℕ) → Steps text at count old new r → at < r.0
@@ -111,4 +113,4 @@ nearer text at count old new r (inr (turn, some, is, few, e, same)) = omega (ari
 
 pub ends_so : (text : List ℕ) (at count : ℕ) (turns : List Turn) → length text ≤ at → Sofar text at count turns → TurnList text turns
 ends_so text at count turns past so =
-    ((so.pieces, subst (Pieces text so.pieces) (drop_all at text past) so.cut, so.spelled), omega (arith, so.counted, so.few))
+    ((so.pieces, subst (SchedulePieces text so.pieces) (drop_all at text past) so.cut, so.spelled), omega (arith, so.counted, so.few))

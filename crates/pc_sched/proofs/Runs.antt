@@ -3,7 +3,7 @@ use Rattle.std.proofs.Common.{◌≡◌, ℕ, suc, ◌+◌, ◌≤◌, Bool, tru
 use Rattle.std.proofs.lemmas.Bool.{not-false}
 use Rattle.std.proofs.lemmas.List.{take_all}
 use Rattle.std.specs.List.{prefix_len, list_all}
-use Rattle.pc_sched.specs.Schedules.{is_blank, no_blank, AtWordEnd}
+use Rattle.pc_sched.specs.Schedules.{is_separator, no_blank, AtWordEnd}
 use Rattle.pc_lists.proofs.Prefixes.{run_all}
 
 pub run_whole : (p : ℕ → Bool) (xs : List ℕ) → length xs ≤ prefix_len p xs → list_all p xs ≡ true
@@ -11,7 +11,7 @@ run_whole p xs whole = subst (λ l. list_all p l ≡ true) (take_all (prefix_len
 
 ends_step : (b : ℕ) (bs : List ℕ) (n : ℕ) (t : Bool) → no_blank b ≡ t → AtWordEnd (drop n bs) → AtWordEnd (drop (cond t (1 + n) 0) (b ∷ bs))
 ends_step b bs n true e more = let one : 1 + n ≡ suc n = omega arith in rw one more
-ends_step b bs n false e more = not-false (is_blank b) e
+ends_step b bs n false e more = not-false (is_separator b) e
 
 -- after bytes that are no blanks, the text ends or a blank follows
 pub run_ends : (text : List ℕ) → AtWordEnd (drop (prefix_len no_blank text) text)
@@ -23,10 +23,10 @@ pub end_none : (rest : List ℕ) → AtWordEnd rest → prefix_len no_blank rest
 end_none [] h = refl
 end_none (b ∷ bs) h = rw h refl
 
-first_step : (b : ℕ) (n : ℕ) (t : Bool) → no_blank b ≡ t → cond t (1 + n) 0 ≡ 0 → is_blank b ≡ true
+first_step : (b : ℕ) (n : ℕ) (t : Bool) → no_blank b ≡ t → cond t (1 + n) 0 ≡ 0 → is_separator b ≡ true
 first_step b n true e none = absurd (omega (arith, none))
-first_step b n false e none = not-false (is_blank b) e
+first_step b n false e none = not-false (is_separator b) e
 
 -- if no word begins, a blank does
-pub first_blank : (b : ℕ) (bs : List ℕ) → prefix_len no_blank (b ∷ bs) ≡ 0 → is_blank b ≡ true
+pub first_blank : (b : ℕ) (bs : List ℕ) → prefix_len no_blank (b ∷ bs) ≡ 0 → is_separator b ≡ true
 first_blank b bs none = first_step b (prefix_len no_blank bs) (no_blank b) refl none

@@ -7,9 +7,9 @@ use Rattle.pc_sched.specs.declared.turns.Turn.{Turn}
 use Rattle.pc_sched.specs.declared.fault.SchedFault.{SchedFault}
 use Rattle.pc_sched.specs.declared.fault.SchedFault.TheVariants as fault
 use Rattle.pc_sched.specs.Limits.{turn_limit}
-use Rattle.pc_sched.specs.Schedules.{no_blank, Spells, total, TurnList, WordAt, FirstFault}
+use Rattle.pc_sched.specs.Schedules.{no_blank, SpellsTurn, total, TurnList, WordAt, FirstScheduleFault}
 use Rattle.pc_sched.specs.Reading.{turn_of, word_at, Steps}
-use Rattle.pc_sched.specs.Answers.{Refuses, Answers}
+use Rattle.pc_sched.specs.Answers.{RefusesSchedule, AnswersSchedule}
 use Rattle.pc_sched.proofs.TurnReading.{turn_one}
 use Rattle.pc_sched.proofs.OneCut.{turns_one, through, Meet, meet, Passes, passes}
 use Rattle.pc_sched.proofs.Reached.{Sofar, starts_so, goes_on, nearer, ends_so, stuck_so}
@@ -19,10 +19,10 @@ record Stopped (text : List ℕ) (at : ℕ) (turns : List Turn) (b : List ℕ) :
   here : WordAt text at turns b
   stops : Passes b turns → ⊥
 
-many_stops : (b : List ℕ) (turns : List Turn) (turn : Turn) → Spells b turn → turn_limit < total turns + turn.times → Passes b turns → ⊥
+many_stops : (b : List ℕ) (turns : List Turn) (turn : Turn) → SpellsTurn b turn → turn_limit < total turns + turn.times → Passes b turns → ⊥
 many_stops b turns turn s many (other, o, few) = omega (arith, many, few, ap (λ t. t.times) (turn_one b turn other s o))
 
-stopped : (text : List ℕ) (f : SchedFault) → FirstFault text f → (at : ℕ) × (turns : List Turn) × (b : List ℕ) × Stopped text at turns b
+stopped : (text : List ℕ) (f : SchedFault) → FirstScheduleFault text f → (at : ℕ) × (turns : List Turn) × (b : List ℕ) × Stopped text at turns b
 stopped text (fault.BadWord p) h = (p, h.0, h.1, record { here = h.2; stops = λ x. h.3 x.0 x.1 })
 stopped text (fault.TooMany p) h = (p, h.0, h.1, record { here = h.2; stops = many_stops h.1 h.0 h.3 h.4 h.5 })
 stopped text fault.Memory h = absurd h
@@ -33,7 +33,7 @@ no_list text us at ts b ((qs, cut, spelled), few) s =
     s.stops (passes s.here.pieces more.0 qs b ts us s.here.spelled spelled more.1 few)
 
 -- turns within the limit and a first fault exclude each other
-pub never_both : (text : List ℕ) (turns : List Turn) (f : SchedFault) → TurnList text turns → FirstFault text f → ⊥
+pub never_both : (text : List ℕ) (turns : List Turn) (f : SchedFault) → TurnList text turns → FirstScheduleFault text f → ⊥
 never_both text turns f h i =
     let s = stopped text f i in
     no_list text turns s.0 s.1 s.2 h s.3
@@ -48,24 +48,24 @@ same_cases text p q ts us b c s z (inr (inr (ms, is))) = absurd (z.stops (passes
 same : (text : List ℕ) (p q : ℕ) (ts us : List Turn) (b c : List ℕ) → Stopped text p ts b → Stopped text q us c → (p ≡ q) × (b ≡ c)
 same text p q ts us b c s z = same_cases text p q ts us b c s z (meet s.here.pieces z.here.pieces text b s.here.rest c z.here.rest s.here.cut s.here.stands z.here.cut z.here.stands)
 
-same_faults : (text : List ℕ) (f g : SchedFault) (h : FirstFault text f) (i : FirstFault text g) → ((stopped text f h).0 ≡ (stopped text g i).0) × ((stopped text f h).2 ≡ (stopped text g i).2)
+same_faults : (text : List ℕ) (f g : SchedFault) (h : FirstScheduleFault text f) (i : FirstScheduleFault text g) → ((stopped text f h).0 ≡ (stopped text g i).0) × ((stopped text f h).2 ≡ (stopped text g i).2)
 same_faults text f g h i =
     let s = stopped text f h in
     let z = stopped text g i in
     same text s.0 z.0 s.1 z.1 s.2 z.2 s.3 z.3
 
-pub fault_one : (text : List ℕ) (one other : SchedFault) → FirstFault text one → FirstFault text other → one ≡ other
+pub fault_one : (text : List ℕ) (one other : SchedFault) → FirstScheduleFault text one → FirstScheduleFault text other → one ≡ other
 unfolding stopped
 fault_one text (fault.BadWord p) (fault.BadWord q) h i = ap fault.BadWord (same_faults text (fault.BadWord p) (fault.BadWord q) h i).0
-fault_one text (fault.BadWord p) (fault.TooMany q) h i = absurd (h.3 i.3 (subst (λ l. Spells l i.3) (sym (same_faults text (fault.BadWord p) (fault.TooMany q) h i).1) i.4))
+fault_one text (fault.BadWord p) (fault.TooMany q) h i = absurd (h.3 i.3 (subst (λ l. SpellsTurn l i.3) (sym (same_faults text (fault.BadWord p) (fault.TooMany q) h i).1) i.4))
 fault_one text (fault.BadWord p) fault.Memory h i = absurd i
-fault_one text (fault.TooMany p) (fault.BadWord q) h i = absurd (i.3 h.3 (subst (λ l. Spells l h.3) (same_faults text (fault.TooMany p) (fault.BadWord q) h i).1 h.4))
+fault_one text (fault.TooMany p) (fault.BadWord q) h i = absurd (i.3 h.3 (subst (λ l. SpellsTurn l h.3) (same_faults text (fault.TooMany p) (fault.BadWord q) h i).1 h.4))
 fault_one text (fault.TooMany p) (fault.TooMany q) h i = ap fault.TooMany (same_faults text (fault.TooMany p) (fault.TooMany q) h i).0
 fault_one text (fault.TooMany p) fault.Memory h i = absurd i
 fault_one text fault.Memory other h i = absurd h
 
 abbrev Either : List ℕ → Type 0
-Either text = ((turns : List Turn) × TurnList text turns) ⊎ ((f : SchedFault) × FirstFault text f)
+Either text = ((turns : List Turn) × TurnList text turns) ⊎ ((f : SchedFault) × FirstScheduleFault text f)
 
 abbrev More : List ℕ → ℕ → Type 0
 More text at = (new : List Turn) (r : ℕ × ℕ) → at < r.0 → Sofar text r.0 r.1 new → Either text
@@ -104,21 +104,21 @@ told text = told_from (length text) text 0 0 [] (omega arith) (starts_so text)
 
 abbrev IsAnswer : List ℕ → Result (List Turn) SchedFault → Type 0
 IsAnswer text (Ok turns) = TurnList text turns
-IsAnswer text (Err f) = Refuses text f
+IsAnswer text (Err f) = RefusesSchedule text f
 
-pub is_answer : (text : List ℕ) (result : Result (List Turn) SchedFault) → IfOk result (TurnList text) → IfErr result (Refuses text) → IsAnswer text result
+pub is_answer : (text : List ℕ) (result : Result (List Turn) SchedFault) → IfOk result (TurnList text) → IfErr result (RefusesSchedule text) → IsAnswer text result
 is_answer text (Ok turns) ok err = ok
 is_answer text (Err f) ok err = err
 
 -- the turns within the limit are returned
-pub answers_list : (text : List ℕ) (result : Result (List Turn) SchedFault) (turns : List Turn) → IsAnswer text result → TurnList text turns → Answers result (Ok turns)
+pub answers_list : (text : List ℕ) (result : Result (List Turn) SchedFault) (turns : List Turn) → IsAnswer text result → TurnList text turns → AnswersSchedule result (Ok turns)
 answers_list text (Ok other) turns right h = inl (ap Ok (turns_one text other turns right.0 h.0))
 answers_list text (Err (fault.BadWord p)) turns right h = absurd (never_both text turns (fault.BadWord p) h right)
 answers_list text (Err (fault.TooMany p)) turns right h = absurd (never_both text turns (fault.TooMany p) h right)
 answers_list text (Err fault.Memory) turns right h = inr refl
 
 -- the first fault is returned
-pub answers_fault : (text : List ℕ) (result : Result (List Turn) SchedFault) (g : SchedFault) → IsAnswer text result → FirstFault text g → Answers result (Err g)
+pub answers_fault : (text : List ℕ) (result : Result (List Turn) SchedFault) (g : SchedFault) → IsAnswer text result → FirstScheduleFault text g → AnswersSchedule result (Err g)
 answers_fault text (Ok turns) g right h = absurd (never_both text turns g right h)
 answers_fault text (Err (fault.BadWord p)) g right h = inl (ap Err (fault_one text (fault.BadWord p) g right h))
 answers_fault text (Err (fault.TooMany p)) g right h = inl (ap Err (fault_one text (fault.TooMany p) g right h))

@@ -3,13 +3,13 @@ use Rattle.std.specs.Prelude.{◌≡◌, ℕ, List, Result, Err, ◌⊎◌, ⊤}
 use Rattle.pc_sched.specs.declared.turns.Turn.{Turn}
 use Rattle.pc_sched.specs.declared.fault.SchedFault.{SchedFault}
 use Rattle.pc_sched.specs.declared.fault.SchedFault.TheVariants as fault
-use Rattle.pc_sched.specs.Schedules.{FirstFault}
+use Rattle.pc_sched.specs.Schedules.{FirstScheduleFault}
 
 -- The fault is the text's first, or memory ran out.
-abbrev pub Refuses : List ℕ → SchedFault → Type 0
-Refuses text fault.Memory = ⊤
-Refuses text f = FirstFault text f
+abbrev pub RefusesSchedule : List ℕ → SchedFault → Type 0
+RefusesSchedule text fault.Memory = ⊤
+RefusesSchedule text f = FirstScheduleFault text f
 
 -- The result is this answer, or memory ran out.
-abbrev pub Answers : Result (List Turn) SchedFault → Result (List Turn) SchedFault → Type 0
-Answers result wanted = (result ≡ wanted) ⊎ (result ≡ Err fault.Memory)
+abbrev pub AnswersSchedule : Result (List Turn) SchedFault → Result (List Turn) SchedFault → Type 0
+AnswersSchedule result wanted = (result ≡ wanted) ⊎ (result ≡ Err fault.Memory)

@@ -6,7 +6,7 @@ use Rattle.pc_sched.specs.declared.turns.Turn.{Turn}
 use Rattle.pc_sched.specs.declared.fault.SchedFault.{SchedFault}
 use Rattle.pc_sched.specs.declared.fault.SchedFault.TheVariants as fault
 use Rattle.pc_sched.specs.Limits.{turn_limit}
-use Rattle.pc_sched.specs.Schedules.{no_blank, value}
+use Rattle.pc_sched.specs.Schedules.{no_blank, decimal_value}
 
 abbrev pub below : ℕ → Option ℕ
 below v = if nat_lt v (2 ^ 32) then Some v else None
@@ -17,7 +17,7 @@ no_digits b = length b == 0 || nat_lt 10 (length b) || nat_lt (prefix_len is_asc
 
 -- the number that a text spells
 unfoldable pub number_of : List ℕ → Option ℕ
-number_of b = if no_digits b then None else below (value 0 b)
+number_of b = if no_digits b then None else below (decimal_value 0 b)
 
 abbrev pub turn_with : ℕ → Option ℕ → Option Turn
 turn_with actor None = None
@@ -33,9 +33,9 @@ unfoldable pub turn_of : List ℕ → Option Turn
 turn_of b = let n = prefix_len is_ascii_digit b in turn_at (number_of (take n b)) (drop n b)
 
 -- a number, if it is below 2 ^ 32
-abbrev pub BelowOrNone : Option ℕ → ℕ → Type 0
-BelowOrNone None v = 2 ^ 32 ≤ v
-BelowOrNone (Some x) v = (x ≡ v) × (v < 2 ^ 32)
+abbrev pub BelowOrNone32 : Option ℕ → ℕ → Type 0
+BelowOrNone32 None v = 2 ^ 32 ≤ v
+BelowOrNone32 (Some x) v = (x ≡ v) × (v < 2 ^ 32)
 
 -- the word at a place
 abbrev pub word_at : List ℕ → ℕ → List ℕ

@@ -5,9 +5,9 @@ ghost use Rattle.pc_sched.specs.declared.turns.Turn.{Turn};
 ghost use Rattle.pc_sched.specs.declared.fault.SchedFault.{SchedFault};
 ghost use Rattle.pc_sched.specs.Limits.{schedule_limit, turn_limit};
 ghost use Rattle.pc_sched.specs.Schedules as schedules;
-ghost use Rattle.pc_sched.specs.Schedules.{TurnList, FirstFault};
+ghost use Rattle.pc_sched.specs.Schedules.{TurnList, FirstScheduleFault};
 ghost use Rattle.pc_sched.specs.Reading.{Steps, Stuck};
-ghost use Rattle.pc_sched.specs.Answers.{Refuses, Answers};
+ghost use Rattle.pc_sched.specs.Answers.{RefusesSchedule, AnswersSchedule};
 
 use crate::fault::SchedFault;
 use crate::turns::{Turn, turn_of};
@@ -19,7 +19,7 @@ const TURN_LIMIT: u32 = 1_000_000;
 
 /// Whether a byte separates words.
 fn is_blank(byte: u8) -> bool
-    ensures { result ≡ schedules.is_blank byte }
+    ensures { result ≡ schedules.is_separator byte }
 {
     byte == b' ' || byte == b'\t' || byte == b'\r' || byte == b'\n'
 }
@@ -70,7 +70,7 @@ fn step(
 fn read_all(alloc: Global, text: &[u8]) -> Result<List<Turn>, SchedFault>
     requires { length text.now ≤ schedule_limit }
     ensures ok { IfOk result (TurnList text.now) }
-    ensures err { IfErr result (Refuses text.now) }
+    ensures err { IfErr result (RefusesSchedule text.now) }
 {
     let mut turns: List<Turn> = List::new(alloc);
     let mut at: usize = 0;
@@ -92,11 +92,11 @@ pub fn read(alloc: Global, bytes: &[u8]) -> Result<List<Turn>, SchedFault>
     // The turns are those of the text.
     ensures ok { IfOk result (TurnList bytes.now) }
     // The fault is the first of the text, or memory ran out.
-    ensures err { IfErr result (Refuses bytes.now) }
+    ensures err { IfErr result (RefusesSchedule bytes.now) }
     // If the text spells turns within the limit, they are returned, unless memory ran out.
-    ensures listed { (turns : Sequence Turn) → TurnList bytes.now turns → Answers result (Ok turns) }
+    ensures listed { (turns : Sequence Turn) → TurnList bytes.now turns → AnswersSchedule result (Ok turns) }
     // If there is a first fault, it is returned, unless memory ran out.
-    ensures faulty { (fault : SchedFault) → FirstFault bytes.now fault → Answers result (Err fault) }
+    ensures faulty { (fault : SchedFault) → FirstScheduleFault bytes.now fault → AnswersSchedule result (Err fault) }
 {
     read_all(alloc, bytes)
 }

@@ -4,7 +4,7 @@ ghost use Rattle.std.specs.List.{prefix_len, list_all};
 ghost use Rattle.pc_sched.specs.Schedules as schedules;
 ghost use Rattle.std.specs.Char.{is_ascii_digit};
 ghost use Rattle.pc_sched.specs.Reading as reading;
-ghost use Rattle.pc_sched.specs.Reading.{BelowOrNone};
+ghost use Rattle.pc_sched.specs.Reading.{BelowOrNone32};
 
 /// This number of turns of one actor, one after the other.
 #[derive(Clone, Copy, Debug, PartialEq, Eq)]
@@ -33,7 +33,7 @@ fn digits_len(text: &[u8]) -> usize
 /// A number extended by one digit, if the result is below 2^32.
 fn with_digit(value: u32, byte: u8) -> Option<u32>
     requires { is_ascii_digit byte ≡ true }
-    ensures { BelowOrNone result (value * 10 + (byte - 48)) }
+    ensures { BelowOrNone32 result (value * 10 + (byte - 48)) }
 {
     value.checked_mul(10)?.checked_add((byte - b'0') as u32)
 }
@@ -42,7 +42,7 @@ fn with_digit(value: u32, byte: u8) -> Option<u32>
 #[tactic(auto, using(crate::proofs::Values::value_at, crate::proofs::Values::value_all, crate::proofs::Values::value_grows))]
 fn value_of(digits: &[u8]) -> Option<u32>
     requires { list_all is_ascii_digit digits.now ≡ true }
-    ensures { BelowOrNone result (schedules.value 0 digits.now) }
+    ensures { BelowOrNone32 result (schedules.decimal_value 0 digits.now) }
 {
     let mut value: u32 = 0;
     for b in digits {

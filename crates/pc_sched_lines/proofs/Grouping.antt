@@ -4,12 +4,13 @@ use Rattle.std.proofs.lemmas.List.{length-take-le, take_more}
 use Rattle.std.specs.List.{AllByRecursion}
 use Rattle.pc_sched.specs.declared.turns.Turn.{Turn}
 use Rattle.pc_sched.specs.Limits.{turn_limit}
-use Rattle.pc_sched_lines.specs.Rows.{AreRows, Differs, Fits, RowsOf}
+use Rattle.pc_sched_lines.specs.Rows.{AreRows, HasOtherActor, Fits, RowsOf}
 use Rattle.pc_sched_lines.proofs.Spreads.{last_within, spread_longer, spread_push}
 
 -- ---- the last row is longer
 
-differs_longer : (turn : Turn) (xs : List Turn) (t u : Turn) → u.actor ≡ t.actor → Differs turn (xs ++ t ∷ []) → Differs turn (xs ++ u ∷ [])
+differs_longer : (turn : Turn) (xs : List Turn) (t u : Turn) → u.actor ≡ t.actor → HasOtherActor turn (xs ++ t ∷ [])
+    → HasOtherActor turn (xs ++ u ∷ [])
 differs_longer turn [] t u e d = λ same. d (same ∙ e)
 differs_longer turn (x ∷ xs) t u e d = d
 
@@ -37,7 +38,7 @@ goes_on list xs t few r =
 
 -- ---- another begins
 
-differs_more : (turn : Turn) (xs : List Turn) (t u : Turn) → Differs turn (xs ++ t ∷ []) → Differs turn ((xs ++ t ∷ []) ++ u ∷ [])
+differs_more : (turn : Turn) (xs : List Turn) (t u : Turn) → HasOtherActor turn (xs ++ t ∷ []) → HasOtherActor turn ((xs ++ t ∷ []) ++ u ∷ [])
 differs_more turn [] t u d = d
 differs_more turn (x ∷ xs) t u d = d
 

@@ -3,7 +3,7 @@ use Rattle.std.proofs.Common.{◌≡◌, ◌<◌, ℕ, zero, suc, cond, nat_eq, 
 use Rattle.std.proofs.lemmas.Bool.{eq-eqb, ne_eqb}
 use Rattle.pc_sched.specs.declared.turns.Turn.{Turn}
 use Rattle.pc_sched_lines.specs.Lines.{LinesAreOne, line_of}
-use Rattle.pc_sched_lines.specs.Rows.{AreRows, Differs}
+use Rattle.pc_sched_lines.specs.Rows.{AreRows, HasOtherActor}
 use Rattle.pc_run.specs.Spreading.{spread}
 
 -- the rows of a list, with one step more in front
@@ -15,7 +15,7 @@ grouped : List ℕ → List Turn
 grouped [] = []
 grouped (actor ∷ list) = joined actor (grouped list)
 
-joined_other : (turn : Turn) (turns : List Turn) → Differs turn turns → joined turn.actor turns ≡ record { actor = turn.actor; times = 1 } ∷ turns
+joined_other : (turn : Turn) (turns : List Turn) → HasOtherActor turn turns → joined turn.actor turns ≡ record { actor = turn.actor; times = 1 } ∷ turns
 unfolding joined
 joined_other turn [] d = refl
 joined_other turn (next ∷ turns) d =
@@ -26,13 +26,14 @@ unfolding joined
 joined_same actor times turns =
     ap (λ b. cond b (record { actor = actor; times = suc times } ∷ turns) (record { actor = actor; times = 1 } ∷ record { actor = actor; times = times } ∷ turns)) (eq-eqb actor actor refl)
 
-row_grouped : (turn : Turn) (turns : List Turn) (list : List ℕ) (k : ℕ) → Differs turn turns → grouped list ≡ turns
+row_grouped : (turn : Turn) (turns : List Turn) (list : List ℕ) (k : ℕ) → HasOtherActor turn turns → grouped list ≡ turns
     → grouped (replicate (suc k) turn.actor ++ list) ≡ record { actor = turn.actor; times = suc k } ∷ turns
 unfolding grouped joined
 row_grouped turn turns list zero d e = ap (joined turn.actor) e ∙ joined_other turn turns d
 row_grouped turn turns list (suc k) d e = ap (joined turn.actor) (row_grouped turn turns list k d e) ∙ joined_same turn.actor (suc k) turns
 
-with_times : (turn : Turn) (turns : List Turn) (list : List ℕ) (n : ℕ) → turn.times ≡ n → 0 < n → Differs turn turns → grouped list ≡ turns
+with_times : (turn : Turn) (turns : List Turn) (list : List ℕ) (n : ℕ) → turn.times ≡ n → 0 < n → HasOtherActor turn turns
+    → grouped list ≡ turns
     → grouped (replicate turn.times turn.actor ++ list) ≡ turn ∷ turns
 with_times turn turns list zero e some d g = absurd (omega (arith, some))
 with_times turn turns list (suc k) e some d g =

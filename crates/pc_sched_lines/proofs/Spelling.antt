@@ -10,15 +10,16 @@ use Rattle.std.proofs.lemmas.List.Folds.{list_all-append}
 use Rattle.std.proofs.lemmas.Str.Parse.{IsNumeralModel, numerals_by_fold}
 use Rattle.pc_sched.specs.declared.turns.Turn.{Turn}
 use Rattle.pc_sched.specs.Limits.{turn_limit}
-use Rattle.pc_sched.specs.Schedules.{AtWordEnd, IsPiece, Number, Piece, Pieces, Spelled, Spells, TurnList, blank, no_blank, total, value, word}
-use Rattle.pc_sched_lines.specs.Lines.{IsLine, line_of, word_of, words_behind}
+use Rattle.pc_sched.specs.Schedules.{AtWordEnd, IsSchedulePiece, Number, SchedulePiece, SchedulePieces, SpelledTurns, SpellsTurn, TurnList, blank, no_blank}
+use Rattle.pc_sched.specs.Schedules.{total, decimal_value, word}
+use Rattle.pc_sched_lines.specs.Lines.{IsLine, line_of, turn_word, words_behind}
 use Rattle.pc_sched_lines.specs.Rows.{Fits, RowsOf}
 use Rattle.pc_sched_lines.proofs.Spreads.{length-spread}
 
 -- ---- numbers
 
-own : IsNumeralModel (λ ds. list_all is_ascii_digit ds ≡ true) (value 0)
-own = numerals_by_fold _ (search rules) value (search rules)
+own : IsNumeralModel (λ ds. list_all is_ascii_digit ds ≡ true) (decimal_value 0)
+own = numerals_by_fold _ (search rules) decimal_value (search rules)
 
 number : (n : ℕ) → n < 2 ^ 32 → Number (decimal n) n
 number n small =
@@ -46,7 +47,7 @@ digits_plain (d ∷ ds) h =
 record Read (turn : Turn) (b : List ℕ) : Type 0 where
   some : 0 < length b
   plain : list_all no_blank b ≡ true
-  spells : Spells b turn
+  spells : SpellsTurn b turn
 
 one_step : (turn : Turn) → Number (decimal turn.actor) turn.actor → turn.times ≡ 1 → Read turn (decimal turn.actor)
 one_step turn a e = record { some = a.some; plain = digits_plain (decimal turn.actor) a.digits; spells = inl (a, e) }
@@ -63,43 +64,43 @@ read_by : (turn : Turn) (one : Bool) → nat_eq turn.times 1 ≡ one → Fits tu
 read_by turn true e f = one_step turn (number turn.actor f.0) (eqb-true turn.times 1 e)
 read_by turn false e f = more_steps turn (number turn.actor f.0) (number turn.times f.1)
 
-read : (turn : Turn) → Fits turn → Read turn (word_of turn)
+read : (turn : Turn) → Fits turn → Read turn (turn_word turn)
 read turn f = read_by turn (nat_eq turn.times 1) refl f
 
 -- ---- pieces
 
-pieces_behind : List Turn → List Piece
+pieces_behind : List Turn → List SchedulePiece
 pieces_behind [] = blank 10 ∷ []
-pieces_behind (turn ∷ turns) = blank 32 ∷ word (word_of turn) ∷ pieces_behind turns
+pieces_behind (turn ∷ turns) = blank 32 ∷ word (turn_word turn) ∷ pieces_behind turns
 
-pieces : List Turn → List Piece
+pieces : List Turn → List SchedulePiece
 pieces [] = blank 10 ∷ []
-pieces (turn ∷ turns) = word (word_of turn) ∷ pieces_behind turns
+pieces (turn ∷ turns) = word (turn_word turn) ∷ pieces_behind turns
 
 ends : (turns : List Turn) → AtWordEnd (words_behind turns)
 ends [] = refl
 ends (turn ∷ turns) = refl
 
-is_word : (turn : Turn) (turns : List Turn) → Fits turn → IsPiece (word (word_of turn)) (words_behind turns)
+is_word : (turn : Turn) (turns : List Turn) → Fits turn → IsSchedulePiece (word (turn_word turn)) (words_behind turns)
 is_word turn turns f = let r = read turn f in (r.some, r.plain, ends turns)
 
-cut_behind : (turns : List Turn) → AllByRecursion Fits turns → Pieces (words_behind turns) (pieces_behind turns) []
+cut_behind : (turns : List Turn) → AllByRecursion Fits turns → SchedulePieces (words_behind turns) (pieces_behind turns) []
 unfolding pieces_behind
 cut_behind [] f = ([], refl, refl, refl)
 cut_behind (turn ∷ turns) f =
-    (word_of turn ++ words_behind turns, refl, refl, (words_behind turns, refl, is_word turn turns f.0, cut_behind turns f.1))
+    (turn_word turn ++ words_behind turns, refl, refl, (words_behind turns, refl, is_word turn turns f.0, cut_behind turns f.1))
 
-cut : (turns : List Turn) → AllByRecursion Fits turns → Pieces (line_of turns) (pieces turns) []
+cut : (turns : List Turn) → AllByRecursion Fits turns → SchedulePieces (line_of turns) (pieces turns) []
 unfolding pieces
 cut [] f = ([], refl, refl, refl)
 cut (turn ∷ turns) f = (words_behind turns, refl, is_word turn turns f.0, cut_behind turns f.1)
 
-spelled_behind : (turns : List Turn) → AllByRecursion Fits turns → Spelled (pieces_behind turns) turns
+spelled_behind : (turns : List Turn) → AllByRecursion Fits turns → SpelledTurns (pieces_behind turns) turns
 unfolding pieces_behind
 spelled_behind [] f = refl
 spelled_behind (turn ∷ turns) f = (turn, turns, refl, (read turn f.0).spells, spelled_behind turns f.1)
 
-spelled : (turns : List Turn) → AllByRecursion Fits turns → Spelled (pieces turns) turns
+spelled : (turns : List Turn) → AllByRecursion Fits turns → SpelledTurns (pieces turns) turns
 unfolding pieces
 spelled [] f = refl
 spelled (turn ∷ turns) f = (turn, turns, refl, (read turn f.0).spells, spelled_behind turns f.1)

@@ -5,14 +5,14 @@ use Rattle.pc_sched.specs.declared.turns.Turn.{Turn}
 use Rattle.pc_run.specs.Spreading.{spread}
 
 -- The turn is of a different actor than the first of these.
-abbrev pub Differs : Turn → List Turn → Type 0
-Differs turn [] = ⊤
-Differs turn (next ∷ more) = turn.actor ≢ next.actor
+abbrev pub HasOtherActor : Turn → List Turn → Type 0
+HasOtherActor turn [] = ⊤
+HasOtherActor turn (next ∷ more) = turn.actor ≢ next.actor
 
 -- Each turn has a step, and no two successive turns are of one actor. So none of them could be longer.
 abbrev pub AreRows : List Turn → Type 0
 AreRows [] = ⊤
-AreRows (turn ∷ turns) = (0 < turn.times) × Differs turn turns × AreRows turns
+AreRows (turn ∷ turns) = (0 < turn.times) × HasOtherActor turn turns × AreRows turns
 
 -- Its numbers are allowed in a schedule.
 abbrev pub Fits : Turn → Type 0

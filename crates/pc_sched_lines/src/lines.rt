@@ -11,7 +11,7 @@ use std::alloc::{AllocError, Global};
 
 // The word of a turn.
 fn word_of(alloc: Global, turn: Turn) -> Result<String, AllocError>
-    ensures { IfOk result (λ word. string_bytes word ≡ line.word_of turn) }
+    ensures { IfOk result (λ word. string_bytes word ≡ line.turn_word turn) }
 {
     let Turn { actor, times } = turn;
     if times == 1 {
@@ -23,7 +23,7 @@ fn word_of(alloc: Global, turn: Turn) -> Result<String, AllocError>
 
 // Appends the word of a turn to a text.
 fn push_word(alloc: Global, text: &mut Vec<u8>, turn: Turn) -> Result<(), AllocError>
-    ensures { OnOk result (text.new.items ≡ text.old.items ++ line.word_of turn) }
+    ensures { OnOk result (text.new.items ≡ text.old.items ++ line.turn_word turn) }
 {
     let word = word_of(alloc, turn)?;
     text.extend_from_slice(word.as_bytes())?;

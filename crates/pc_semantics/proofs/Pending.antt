@@ -5,7 +5,7 @@ use Rattle.pc_semantics.specs.declared.frames.Task.{Task}
 use Rattle.pc_semantics.specs.declared.frames.Task.TheVariants as task
 use Rattle.pc_semantics.specs.declared.tasks.Entry.{Entry}
 use Rattle.pc_semantics.specs.Pending.{all_tasks, as_items, behind_tasks, entry_tasks, single}
-use Rattle.pc_semantics.specs.Evaluation.{items}
+use Rattle.pc_semantics.specs.Evaluation.{item_tasks}
 
 -- The first task is that of the first entry.
 pub top_task : (es : List Entry) (e : Entry) → slice_get es 0 ≡ Some e → Some e.task ≡ slice_get (all_tasks es) 0
@@ -17,16 +17,16 @@ no_task [] is = refl
 no_task (x ∷ es) is = absurd (none-some x (sym is))
 
 -- The items of a sequence are the evaluation of the first and then the others, each after a drop.
-pub items_are : (c : ℕ) (cs : List ℕ) → items (c ∷ cs) ≡ task.Eval c ∷ as_items cs
+pub items_are : (c : ℕ) (cs : List ℕ) → item_tasks (c ∷ cs) ≡ task.Eval c ∷ as_items cs
 items_are c [] = refl
 items_are c (d ∷ cs) = ap (λ ts. task.Eval c ∷ task.Discard ∷ ts) (items_are d cs)
 
-pub items_from : (cs shared : List ℕ) (c : ℕ) → Some c ≡ slice_get cs 0 → shared ≡ cs → task.Eval c ∷ as_items (drop 1 shared) ≡ items cs
+pub items_from : (cs shared : List ℕ) (c : ℕ) → Some c ≡ slice_get cs 0 → shared ≡ cs → task.Eval c ∷ as_items (drop 1 shared) ≡ item_tasks cs
 items_from [] shared c is same = absurd (none-some c (sym is))
 items_from (x ∷ cs) shared c is same =
     ap (λ z. task.Eval c ∷ as_items (drop 1 z)) same
     ∙ sym (items_are c cs)
-    ∙ ap (λ z. items (z ∷ cs)) (sym (same_Some x c (sym is)))
+    ∙ ap (λ z. item_tasks (z ∷ cs)) (sym (same_Some x c (sym is)))
 
 -- The second entry goes on after its first task.
 pub second_goes_on : (es : List Entry) (x a n e : Entry) → slice_get (x ∷ es) 1 ≡ Some e → entry_tasks n ≡ behind_tasks e.behind → all_tasks (set (set (x ∷ es) 1 a) 1 n) ≡ entry_tasks x ++ drop 1 (all_tasks es)

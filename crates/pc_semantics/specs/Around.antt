@@ -72,17 +72,17 @@ first_frame m x this arguments body = record { method = m; slots = first_slots x
 abbrev pub none : Value
 none = Prim none_entity
 
-abbrev pub or_none : Option Value → Value
-or_none None = none
-or_none (Some v) = v
+abbrev pub value_or_none : Option Value → Value
+value_or_none None = none
+value_or_none (Some v) = v
 
 -- A value's own entity.
-abbrev pub entity_of : ObjectMap → Value → Option ℕ
-entity_of objects (Num n) = Some u64_entity
-entity_of objects (Truth b) = Some bool_entity
-entity_of objects (Text t) = Some string_entity
-entity_of objects (Prim e) = Some e
-entity_of objects (At a) = class_at objects a
+abbrev pub value_entity : ObjectMap → Value → Option ℕ
+value_entity objects (Num n) = Some u64_entity
+value_entity objects (Truth b) = Some bool_entity
+value_entity objects (Text t) = Some string_entity
+value_entity objects (Prim e) = Some e
+value_entity objects (At a) = class_at objects a
 
 -- ---- the top of the stack
 

@@ -14,7 +14,8 @@ use Rattle.pc_core.specs.declared.nodes.NodeKind.TheVariants as node
 use Rattle.pc_semantics.specs.declared.frames.Frame.{Frame}
 use Rattle.pc_semantics.specs.declared.outcome.Lack.TheVariants as lack
 use Rattle.pc_semantics.specs.Configurations.{own_address, blank_object}
-use Rattle.pc_semantics.specs.Around.{Around, Move, Stuck, Goes, Makes, Spawns, Enters, Sends, Leaves, pushed, first_frame, none, entity_of, pop, pop_arguments}
+use Rattle.pc_semantics.specs.Around.{Around, Move, Stuck, Goes, Makes, Spawns, Enters, Sends, Leaves, pushed, first_frame, none, value_entity, pop}
+use Rattle.pc_semantics.specs.Around.{pop_arguments}
 
 -- ---- counting
 
@@ -110,7 +111,7 @@ invoke_on core around name this arguments f (Some e) = invoke_method core around
 
 abbrev pub invoke_task : CoreData → Around → Frame → List ℕ → NodeKind → Move
 invoke_task core around f cs (node.Call name) =
-    pop f (λ this g. pop_arguments g (length cs - 1) (λ arguments h. invoke_on core around name this arguments h (entity_of around.objects this)))
+    pop f (λ this g. pop_arguments g (length cs - 1) (λ arguments h. invoke_on core around name this arguments h (value_entity around.objects this)))
 invoke_task core around f cs k = Stuck lack.Value
 
 -- ---- Return: the frame ends

@@ -54,10 +54,10 @@ branch_task f cs = pop f (truth (branch cs))
 
 -- ---- Loop: the body and then the whole loop again, or None
 
-abbrev pub turn : ℕ → List ℕ → Bool → Frame → Move
-turn n (c ∷ a ∷ []) true f = Goes (doing f (task.Eval a ∷ task.Discard ∷ task.Eval n ∷ []))
-turn n (c ∷ a ∷ []) false f = Goes (pushed f none)
-turn n cs b f = Stuck lack.Value
+abbrev pub loop_turn : ℕ → List ℕ → Bool → Frame → Move
+loop_turn n (c ∷ a ∷ []) true f = Goes (doing f (task.Eval a ∷ task.Discard ∷ task.Eval n ∷ []))
+loop_turn n (c ∷ a ∷ []) false f = Goes (pushed f none)
+loop_turn n cs b f = Stuck lack.Value
 
 abbrev pub loop_task : Frame → ℕ → List ℕ → Move
-loop_task f n cs = pop f (truth (turn n cs))
+loop_task f n cs = pop f (truth (loop_turn n cs))

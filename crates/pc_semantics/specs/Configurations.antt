@@ -40,24 +40,24 @@ own_address i = record { maker = i; serial = 0 }
 -- ---- the start
 
 -- The number of the entity with this name.
-abbrev pub entity_named : CoreData → List ℕ → Option ℕ
-entity_named core name = position (bytes_eq name) (map (λ x. x.name) core.entities)
+abbrev pub number_of_entity : CoreData → List ℕ → Option ℕ
+number_of_entity core name = position (bytes_eq name) (map (λ x. x.name) core.entities)
 
 -- The entity Main and its constructor `create`, by number.
 abbrev pub main_create : CoreData → Option (ℕ × ℕ)
 main_create core = do
-  main ← entity_named core (codes "Main")
+  main ← number_of_entity core (codes "Main")
   name ← position (bytes_eq (codes "create")) core.names
   create ← method_named core main name
   Some (main, create)
 
-abbrev pub fields_in : Option EntityDef → ℕ
-fields_in None = 0
-fields_in (Some x) = length x.fields
+abbrev pub number_of_fields : Option EntityDef → ℕ
+number_of_fields None = 0
+number_of_fields (Some x) = length x.fields
 
 -- An object of an entity, without field values.
 abbrev pub blank_object : CoreData → ℕ → Object
-blank_object core e = new_object e (fields_in (slice_get core.entities e))
+blank_object core e = new_object e (number_of_fields (slice_get core.entities e))
 
 -- The environment, whose field `out` is actor 0.
 abbrev pub environment : CoreData → Object

@@ -36,10 +36,10 @@ first_then f [] ts = Stuck lack.Value
 first_then f (c ∷ children) ts = Goes (doing f (task.Eval c ∷ ts))
 
 -- The items of a sequence: every value but the last is dropped.
-abbrev pub items : List ℕ → List Task
-items [] = []
-items (c ∷ []) = task.Eval c ∷ []
-items (c ∷ d ∷ children) = task.Eval c ∷ task.Discard ∷ items (d ∷ children)
+abbrev pub item_tasks : List ℕ → List Task
+item_tasks [] = []
+item_tasks (c ∷ []) = task.Eval c ∷ []
+item_tasks (c ∷ d ∷ children) = task.Eval c ∷ task.Discard ∷ item_tasks (d ∷ children)
 
 -- ---- each kind
 
@@ -65,7 +65,7 @@ evaluate f n cs node.And = first_then f cs (task.Test n ∷ [])
 evaluate f n cs node.Or = first_then f cs (task.Test n ∷ [])
 evaluate f n cs node.If = first_then f cs (task.Branch n ∷ [])
 evaluate f n cs node.While = first_then f cs (task.Loop n ∷ [])
-evaluate f n cs node.Seq = Goes (doing f (items cs))
+evaluate f n cs node.Seq = Goes (doing f (item_tasks cs))
 evaluate f n cs (node.Recover cap) = first_then f cs []
 evaluate f n cs node.Body = first_then f cs (task.Return ∷ [])
 

@@ -21,12 +21,12 @@ use Rattle.pc_semantics.specs.Text.{run_text, steps_of, waiting}
 use Rattle.pc_semantics.specs.Programs.{hello, two_messages, one_node, on_one, on_two, lazy, choice, counting, spawning, making, touching, field_n, n, zz}
 
 -- The run of these turns has this output; a turn is an actor and a number of steps.
-abbrev pub Writes : CoreData → List (ℕ × ℕ) → List ℕ → Type 0
-Writes core turns text = run_text core (steps_of turns) ≡ text
+abbrev pub RunWrites : CoreData → List (ℕ × ℕ) → List ℕ → Type 0
+RunWrites core turns text = run_text core (steps_of turns) ≡ text
 
 -- How the last of this number of steps of Main ends.
-abbrev pub Ends : CoreData → ℕ → Outcome → Type 0
-Ends core k o = outcomes core (replicate k 1) ≡ replicate (k - 1) Moved ++ o ∷ []
+abbrev pub EndsMain : CoreData → ℕ → Outcome → Type 0
+EndsMain core k o = outcomes core (replicate k 1) ≡ replicate (k - 1) Moved ++ o ∷ []
 
 -- The value on top of Main's stack after this number of its steps.
 abbrev pub top_of_main : CoreData → ℕ → Option Value
@@ -43,13 +43,13 @@ Leaves core k v = top_of_main core k ≡ Some v
 -- Ten steps of Main: the take, the body, the sequence, the call, the text, the field, the local, the read, the
 -- invocation and the return. Then the stream takes the message.
 abbrev pub HelloRuns : Type 0
-HelloRuns = Writes hello ((1, 10) ∷ (0, 1) ∷ []) (codes "hi\nsteps 11 skipped 0 actors 2 objects 3 waiting 0\n")
+HelloRuns = RunWrites hello ((1, 10) ∷ (0, 1) ∷ []) (codes "hi\nsteps 11 skipped 0 actors 2 objects 3 waiting 0\n")
 
 -- Without turns nothing happens, and nor does it in the turns of an actor that does not exist.
 abbrev pub NoActorNoStep : Type 0
 NoActorNoStep =
-    Writes hello [] (codes "steps 0 skipped 0 actors 2 objects 3 waiting 1\n")
-    × Writes hello ((7, 5) ∷ []) (codes "steps 0 skipped 5 actors 2 objects 3 waiting 1\n")
+    RunWrites hello [] (codes "steps 0 skipped 0 actors 2 objects 3 waiting 1\n")
+    × RunWrites hello ((7, 5) ∷ []) (codes "steps 0 skipped 5 actors 2 objects 3 waiting 1\n")
 
 -- Messages are taken in the order in which they were sent.
 abbrev pub TakenInOrder : Type 0
@@ -81,8 +81,8 @@ abbrev pub LazyRight : Type 0
 LazyRight =
     Leaves (lazy (node.Truth false) node.And) 6 (Truth false)
     × Leaves (lazy (node.Truth true) node.Or) 6 (Truth true)
-    × Ends (lazy (node.Truth true) node.And) 10 (Lacks lack.Value)
-    × Ends (lazy (node.Truth false) node.Or) 10 (Lacks lack.Value)
+    × EndsMain (lazy (node.Truth true) node.And) 10 (Lacks lack.Value)
+    × EndsMain (lazy (node.Truth false) node.Or) 10 (Lacks lack.Value)
 
 abbrev pub BranchTaken : Type 0
 BranchTaken = Leaves (choice (node.Truth true)) 8 (Num 1) × Leaves (choice (node.Truth false)) 8 (Num 2)
@@ -96,8 +96,8 @@ held_by_main core k s = do
 
 abbrev pub WhileTwice : Type 0
 WhileTwice =
-    Ends counting 42 Moved × (held_by_main counting 20 2 ≡ Some (Some (Num 1))) × (held_by_main counting 41 2 ≡ Some (Some (Num 2)))
-    × Ends counting 43 Skipped
+    EndsMain counting 42 Moved × (held_by_main counting 20 2 ≡ Some (Some (Num 1))) × (held_by_main counting 41 2 ≡ Some (Some (Num 2)))
+    × EndsMain counting 43 Skipped
 
 -- Sums and differences wrap at 64 bits; a quotient and a remainder by 0 are 0.
 abbrev pub Wraps : Type 0
@@ -114,11 +114,11 @@ Wraps =
 -- was never set has no value; nothing has the method.
 abbrev pub EachLackComes : Type 0
 EachLackComes =
-    Ends (on_two (node.Number 1) (node.Truth true) (node.Binary op.Add)) 7 (Lacks lack.Value)
-    × Ends (one_node [] (node.Local 2)) 4 (Lacks lack.Slot)
-    × Ends (on_one [] (node.Number 1) (node.Field n)) 6 (Lacks lack.Object)
-    × Ends (on_one field_n node.This (node.Field n)) 6 (Lacks lack.Field)
-    × Ends (on_one [] node.This (node.Call zz)) 6 (Lacks lack.Method)
+    EndsMain (on_two (node.Number 1) (node.Truth true) (node.Binary op.Add)) 7 (Lacks lack.Value)
+    × EndsMain (one_node [] (node.Local 2)) 4 (Lacks lack.Slot)
+    × EndsMain (on_one [] (node.Number 1) (node.Field n)) 6 (Lacks lack.Object)
+    × EndsMain (on_one field_n node.This (node.Field n)) 6 (Lacks lack.Field)
+    × EndsMain (on_one [] node.This (node.Call zz)) 6 (Lacks lack.Method)
 
 -- A text of the greatest length cannot be made a byte longer.
 abbrev pub full_text : List ℕ
@@ -126,8 +126,8 @@ full_text = replicate text_limit 97
 
 abbrev pub TextTooLong : Type 0
 TextTooLong =
-    Ends (on_two (node.Text full_text) (node.Text (codes "b")) (node.Binary op.Add)) 7 TooLong
-    × Ends (on_two (node.Text full_text) (node.Text []) (node.Binary op.Add)) 7 Moved
+    EndsMain (on_two (node.Text full_text) (node.Text (codes "b")) (node.Binary op.Add)) 7 TooLong
+    × EndsMain (on_two (node.Text full_text) (node.Text []) (node.Binary op.Add)) 7 Moved
 
 -- ---- races
 

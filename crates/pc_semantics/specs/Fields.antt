@@ -11,7 +11,7 @@ use Rattle.pc_core.specs.declared.nodes.NodeKind.{NodeKind}
 use Rattle.pc_core.specs.declared.nodes.NodeKind.TheVariants as node
 use Rattle.pc_semantics.specs.declared.frames.Frame.{Frame}
 use Rattle.pc_semantics.specs.declared.outcome.Lack.TheVariants as lack
-use Rattle.pc_semantics.specs.Around.{Around, Move, Stuck, Goes, Writes, pushed, with_slot, or_none, pop}
+use Rattle.pc_semantics.specs.Around.{Around, Move, Stuck, Goes, Writes, pushed, with_slot, value_or_none, pop}
 
 -- ---- Get: the origin is replaced by the field's value
 
@@ -35,7 +35,7 @@ get_from core around name v f = Stuck lack.Object
 
 abbrev pub put_value : Frame → Address → ℕ → Value → Option (Option Value) → Move
 put_value f a i v None = Stuck lack.Field
-put_value f a i v (Some old) = Writes a i v (pushed f (or_none old))
+put_value f a i v (Some old) = Writes a i v (pushed f (value_or_none old))
 
 abbrev pub put_field : Frame → Address → Object → Value → Option ℕ → Move
 put_field f a o v None = Stuck lack.Field
@@ -56,7 +56,7 @@ held None = None
 held (Some o) = o
 
 abbrev pub store : ℕ → Value → Frame → Move
-store s v f = Goes (pushed (with_slot f s (Some v)) (or_none (held (slice_get f.slots s))))
+store s v f = Goes (pushed (with_slot f s (Some v)) (value_or_none (held (slice_get f.slots s))))
 
 -- ---- by the node
 

@@ -12,9 +12,9 @@ use Rattle.pc_semantics.specs.declared.outcome.Lack.TheVariants as lack
 use Rattle.pc_semantics.specs.Around.{Move, Stuck, Overflows, Goes, pushed}
 
 -- The value is pushed; without one, a value of the right kind is lacking.
-abbrev pub gives : Frame → Option Value → Move
-gives f None = Stuck lack.Value
-gives f (Some v) = Goes (pushed f v)
+abbrev pub push_or_lack : Frame → Option Value → Move
+push_or_lack f None = Stuck lack.Value
+push_or_lack f (Some v) = Goes (pushed f v)
 
 -- ---- two numbers
 
@@ -23,15 +23,15 @@ abbrev pub wrapped : ℕ → Value
 wrapped n = Num (n % 2 ^ 64)
 
 -- A quotient or remainder by 0 is 0.
-abbrev pub over : (divisor number : ℕ) → ℕ
-over b n = if nat_eq b 0 then 0 else n
+abbrev pub unless_by_zero : (divisor number : ℕ) → ℕ
+unless_by_zero b n = if nat_eq b 0 then 0 else n
 
 abbrev pub of_numbers : Op → (left right : ℕ) → Option Value
 of_numbers op.Add a b = Some (wrapped (a + b))
 of_numbers op.Sub a b = Some (wrapped (a + (2 ^ 64 - b)))
 of_numbers op.Mul a b = Some (wrapped (a * b))
-of_numbers op.Div a b = Some (Num (over b (a / b)))
-of_numbers op.Rem a b = Some (Num (over b (a % b)))
+of_numbers op.Div a b = Some (Num (unless_by_zero b (a / b)))
+of_numbers op.Rem a b = Some (Num (unless_by_zero b (a % b)))
 of_numbers op.Eq a b = Some (Truth (nat_eq a b))
 of_numbers op.Ne a b = Some (Truth (not (nat_eq a b)))
 of_numbers op.Lt a b = Some (Truth (nat_lt a b))
@@ -54,23 +54,23 @@ of_truths o a b = None
 -- ---- two texts
 
 -- Both texts joined, unless the result is too long.
-abbrev pub joined : Frame → List ℕ → Move
-joined f t = if nat_lt text_limit (length t) then Overflows else Goes (pushed f (Text t))
+abbrev pub joined_text : Frame → List ℕ → Move
+joined_text f t = if nat_lt text_limit (length t) then Overflows else Goes (pushed f (Text t))
 
 abbrev pub of_texts : Frame → Op → List ℕ → List ℕ → Move
-of_texts f op.Add a b = joined f (a ++ b)
+of_texts f op.Add a b = joined_text f (a ++ b)
 of_texts f op.Eq a b = Goes (pushed f (Truth (bytes_eq a b)))
 of_texts f op.Ne a b = Goes (pushed f (Truth (not (bytes_eq a b))))
 of_texts f o a b = Stuck lack.Value
 
 -- ---- two values
 
-abbrev pub with_number : Frame → Op → ℕ → Value → Move
-with_number f o a (Num b) = gives f (of_numbers o a b)
-with_number f o a w = Stuck lack.Value
+abbrev pub with_second_number : Frame → Op → ℕ → Value → Move
+with_second_number f o a (Num b) = push_or_lack f (of_numbers o a b)
+with_second_number f o a w = Stuck lack.Value
 
 abbrev pub with_truth : Frame → Op → Bool → Value → Move
-with_truth f o a (Truth b) = gives f (of_truths o a b)
+with_truth f o a (Truth b) = push_or_lack f (of_truths o a b)
 with_truth f o a w = Stuck lack.Value
 
 abbrev pub with_text : Frame → Op → List ℕ → Value → Move
@@ -78,7 +78,7 @@ with_text f o a (Text b) = of_texts f o a b
 with_text f o a w = Stuck lack.Value
 
 abbrev pub binary : Frame → Op → Value → Value → Move
-binary f o (Num a) w = with_number f o a w
+binary f o (Num a) w = with_second_number f o a w
 binary f o (Truth a) w = with_truth f o a w
 binary f o (Text a) w = with_text f o a w
 binary f o v w = Stuck lack.Value

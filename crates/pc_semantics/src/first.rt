@@ -34,7 +34,7 @@ fn place_named(entities: &[EntityDef], name: &[u8]) -> Option<usize>
 // The number of the entity with this name.
 #[tactic(auto, using(crate::proofs::Named::position_named))]
 fn entity_named(core: &Core, name: &[u8]) -> Option<u32>
-    ensures { result ≡ spec.entity_named core.now name.now }
+    ensures { result ≡ spec.number_of_entity core.now name.now }
 {
     core.formed();
     let place = place_named(core.entities(), name)?;

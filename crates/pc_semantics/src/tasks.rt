@@ -1,7 +1,7 @@
 //! The tasks of a frame.
 ghost use Rattle.std.specs.Prelude.{◌≡◌, ◌<◌, ◌∷◌, ◌++◌, [], length, take, drop, slice_get, Some, MatchOption, OnOk, OnErr};
 ghost use Rattle.pc_semantics.specs.Children.{evaluations};
-ghost use Rattle.pc_semantics.specs.Evaluation.{items};
+ghost use Rattle.pc_semantics.specs.Evaluation.{item_tasks};
 ghost use Rattle.pc_semantics.specs.Pending.{all_tasks, as_items, behind_tasks, entry_tasks, single};
 
 use crate::frames::Task;
@@ -137,7 +137,7 @@ impl Tasks {
     /// one. An `Err` changes nothing.
     pub fn go_on_with_items(&mut self, children: &SharedList<u32>) -> Result<(), AllocError>
         requires { 0 < length self.old }
-        ensures ok { OnOk result (self.new ≡ items children.now ++ drop 1 self.old) }
+        ensures ok { OnOk result (self.new ≡ item_tasks children.now ++ drop 1 self.old) }
         ensures err { OnErr result (self.new ≡ self.old) }
     {
         let Some(first) = children.as_slice().first() else {

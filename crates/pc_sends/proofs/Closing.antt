@@ -10,7 +10,7 @@ use Rattle.pc_core.specs.Formed.{Formed}
 use Rattle.pc_lists.specs.Places.{Has}
 use Rattle.pc_semantics.specs.Configurations.{main_create}
 use Rattle.pc_sends.specs.Growth.{Grown}
-use Rattle.pc_sends.specs.Uses.{Uses}
+use Rattle.pc_sends.specs.Uses.{UsesMethod}
 use Rattle.pc_sends.specs.Reach.{Reach, first, next}
 use Rattle.pc_sends.specs.Reached.{Found, IsReach}
 use Rattle.pc_sends.proofs.Grows.{grown_kept}
@@ -48,19 +48,19 @@ module _ (core : CoreData) (ents : List (Option ℕ)) where
 
   -- ---- a turn of the queue
 
-  pub found_next : (k m : ℕ) (found new : List ℕ) → Found core ents k found → slice_get found k ≡ Some m → Grown (λ t. Uses core ents m t) found new → Found core ents (k + 1) new
+  pub found_next : (k m : ℕ) (found new : List ℕ) → Found core ents k found → slice_get found k ≡ Some m → Grown (λ t. UsesMethod core ents m t) found new → Found core ents (k + 1) new
   found_next k m found new f at g = record {
     reached = λ i t e. elim (g.only t (i, e)) [ inl old ↦ f.reached old.0 t old.1 | inr u ↦ next (f.reached k m at) u ];
     differ = g.differ f.differ;
-    begins = λ e t is. grown_kept (λ t. Uses core ents m t) found new t g (f.begins e t is);
+    begins = λ e t is. grown_kept (λ t. UsesMethod core ents m t) found new t g (f.begins e t is);
     closed = λ i p t l e u.
         let within = get_below found k m at in
         let early : i < length found = omega (arith, l, within) in
-        let here = old_get (λ t. Uses core ents m t) found new i p g early e in
+        let here = old_get (λ t. UsesMethod core ents m t) found new i p g early e in
         elim (cases_lt i k) [
-          | inl below ↦ grown_kept (λ t. Uses core ents m t) found new t g (f.closed i p t below here u)
+          | inl below ↦ grown_kept (λ t. UsesMethod core ents m t) found new t g (f.closed i p t below here u)
           | inr last ↦ let same : i ≡ k = omega (arith, last, l) in
-              g.all t (subst (λ (q : ℕ). Uses core ents q t) (same_Some p m (sym here ∙ ap (slice_get found) same ∙ at)) u)
+              g.all t (subst (λ (q : ℕ). UsesMethod core ents q t) (same_Some p m (sym here ∙ ap (slice_get found) same ∙ at)) u)
         ];
   }
 

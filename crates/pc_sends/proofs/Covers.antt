@@ -25,7 +25,7 @@ use Rattle.pc_sends.specs.Held.{HeldAt, HeldFrom}
 use Rattle.pc_sends.specs.Running.{running}
 use Rattle.pc_sends.specs.Reach.{Reach, first, next, Posts, Sends, MayWait}
 use Rattle.pc_sends.specs.Laws.{message_of, next_move}
-use Rattle.pc_sends.specs.Covering.{Covered, HeldCovers}
+use Rattle.pc_sends.specs.Covering.{ReachCovers, HeldCovers}
 use Rattle.pc_sends.proofs.Homes.{body_in}
 use Rattle.pc_sends.proofs.Moves.{TasksIn, FrameOf, IsThere, Begun, MoveIn}
 use Rattle.pc_sends.proofs.Tasks.{CallNoted, task_in}
@@ -231,7 +231,7 @@ module _ (core : CoreData) (ents : List (Option ℕ)) (formed : Formed core) whe
         posts = message_posted f.method move s (subst (MoveIn core ents f.method) (same_Some _ move e) (runs_in c i f t ts held runs k is)) sent;
       }
 
-  covered : (c : Configuration) → ActorsIn core ents c.actors → HeldAt core ents c → Covered core ents c
+  covered : (c : Configuration) → ActorsIn core ents c.actors → HeldAt core ents c → ReachCovers core ents c
   covered c all held = record {
     frames = λ i a at. each_frame a.frames (all i a at).0;
     waits = λ i a at. each_message a.mailbox (all i a at).1;

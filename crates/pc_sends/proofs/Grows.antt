@@ -8,7 +8,7 @@ use Rattle.pc_lists.specs.Places.{Has, Differ}
 use Rattle.pc_lists.proofs.Bools.{false_true, no_both}
 use Rattle.pc_lists.proofs.Elements.{has_on, has_front}
 use Rattle.pc_lists.proofs.Gets.{get_push, get_behind, get_below}
-use Rattle.pc_sends.specs.Growth.{Grown, Turns, OfSome}
+use Rattle.pc_sends.specs.Growth.{Grown, TurnsBelow, OfSome}
 
 -- ---- a list of numbers as a set
 
@@ -76,24 +76,24 @@ grown_kept P a b t g h = subst (λ (l : List ℕ). Has l t) (sym g.behind) (has_
 
 -- ---- turn by turn
 
-pub grown_none : (Q : ℕ → ℕ → Type 0) (low : ℕ) (xs : List ℕ) → Grown (Turns Q low low) xs xs
-grown_none Q low xs = grown_there (Turns Q low low) xs (λ t k. let l = k.1 in let h = k.2 in absurd (omega (arith, l, h)))
+pub grown_none : (Q : ℕ → ℕ → Type 0) (low : ℕ) (xs : List ℕ) → Grown (TurnsBelow Q low low) xs xs
+grown_none Q low xs = grown_there (TurnsBelow Q low low) xs (λ t k. let l = k.1 in let h = k.2 in absurd (omega (arith, l, h)))
 
-one_turn : (Q : ℕ → ℕ → Type 0) (low n : ℕ) (a b c : List ℕ) (t : ℕ) → Grown (Turns Q low n) a b → Grown (Q n) b c → Turns Q low (n + 1) t → Has c t
+one_turn : (Q : ℕ → ℕ → Type 0) (low n : ℕ) (a b c : List ℕ) (t : ℕ) → Grown (TurnsBelow Q low n) a b → Grown (Q n) b c → TurnsBelow Q low (n + 1) t → Has c t
 one_turn Q low n a b c t g h k =
     elim (cases_lt k.0 n) [
       | inl below ↦ grown_kept (Q n) b c t h (g.all t (k.0, k.1, below, k.3))
       | inr last ↦ let high = k.2 in let same : k.0 ≡ n = omega (arith, last, high) in h.all t (subst (λ (i : ℕ). Q i t) same k.3)
     ]
 
-turned : (Q : ℕ → ℕ → Type 0) (low n : ℕ) (a b c : List ℕ) (t : ℕ) → low ≤ n → Grown (Turns Q low n) a b → Grown (Q n) b c → Has c t → Has a t ⊎ Turns Q low (n + 1) t
+turned : (Q : ℕ → ℕ → Type 0) (low n : ℕ) (a b c : List ℕ) (t : ℕ) → low ≤ n → Grown (TurnsBelow Q low n) a b → Grown (Q n) b c → Has c t → Has a t ⊎ TurnsBelow Q low (n + 1) t
 turned Q low n a b c t l g h k =
     elim (h.only t k) [
       | inl m ↦ elim (g.only t m) [ inl old ↦ inl old | inr q ↦ let m = q.2 in inr (q.0, q.1, omega (arith, m), q.3) ]
       | inr q ↦ inr (n, l, omega arith, q)
     ]
 
-pub grown_turn : (Q : ℕ → ℕ → Type 0) (low n : ℕ) (a b c : List ℕ) → low ≤ n → Grown (Turns Q low n) a b → Grown (Q n) b c → Grown (Turns Q low (n + 1)) a c
+pub grown_turn : (Q : ℕ → ℕ → Type 0) (low n : ℕ) (a b c : List ℕ) → low ≤ n → Grown (TurnsBelow Q low n) a b → Grown (Q n) b c → Grown (TurnsBelow Q low (n + 1)) a c
 grown_turn Q low n a b c l g h = record {
   more = g.more ++ h.more;
   behind = h.behind ∙ ap (λ (m : List ℕ). m ++ h.more) g.behind ∙ append_assoc a g.more h.more;
@@ -108,12 +108,12 @@ grown_turn Q low n a b c l g h = record {
 abbrev pub At : {A : Type 0} → (A → ℕ → Type 0) → List A → ℕ → ℕ → Type 0
 At {A} R xs k t = (x : A) × (slice_get xs k ≡ Some x) × R x t
 
-pub list_turn : {A : Type 0} → (R : A → ℕ → Type 0) (xs : List A) (n : ℕ) (x : A) (a b c : List ℕ) → slice_get xs n ≡ Some x → Grown (Turns (At R xs) 0 n) a b → Grown (R x) b c → Grown (Turns (At R xs) 0 (n + 1)) a c
+pub list_turn : {A : Type 0} → (R : A → ℕ → Type 0) (xs : List A) (n : ℕ) (x : A) (a b c : List ℕ) → slice_get xs n ≡ Some x → Grown (TurnsBelow (At R xs) 0 n) a b → Grown (R x) b c → Grown (TurnsBelow (At R xs) 0 (n + 1)) a c
 list_turn R xs n x a b c is g h =
     grown_turn (At R xs) 0 n a b c (omega arith) g
     (grown_same (R x) (At R xs n) b c (λ t r. (x, is, r)) (λ t k. subst (λ y. R y t) (same_Some k.0 x (sym k.1 ∙ is)) k.2) h)
 
-pub list_all : {A : Type 0} → (R : A → ℕ → Type 0) (xs : List A) (n : ℕ) (a b : List ℕ) → length xs ≤ n → Grown (Turns (At R xs) 0 n) a b → Grown (OfSome R xs) a b
+pub list_all : {A : Type 0} → (R : A → ℕ → Type 0) (xs : List A) (n : ℕ) (a b : List ℕ) → length xs ≤ n → Grown (TurnsBelow (At R xs) 0 n) a b → Grown (OfSome R xs) a b
 list_all R xs n a b l g =
-    grown_same (Turns (At R xs) 0 n) (OfSome R xs) a b (λ t k. (k.0, k.3.0, k.3.1, k.3.2))
+    grown_same (TurnsBelow (At R xs) 0 n) (OfSome R xs) a b (λ t k. (k.0, k.3.0, k.3.1, k.3.2))
     (λ t k. let m = get_below xs k.0 k.1 k.2 in (k.0, omega arith, omega (arith, m, l), (k.1, k.2, k.3))) g

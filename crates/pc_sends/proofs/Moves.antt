@@ -9,8 +9,8 @@ use Rattle.pc_semantics.specs.declared.frames.Task.{Task}
 use Rattle.pc_semantics.specs.declared.frames.Task.TheVariants as task
 use Rattle.pc_semantics.specs.Around.{Move, Stuck, Overflows, Goes, Writes, Makes, Spawns, Enters, Sends, Leaves, with_top, with_stack, with_popped}
 use Rattle.pc_semantics.specs.Children.{evaluations}
-use Rattle.pc_semantics.specs.Evaluation.{items}
-use Rattle.pc_sends.specs.Uses.{Uses}
+use Rattle.pc_semantics.specs.Evaluation.{item_tasks}
+use Rattle.pc_sends.specs.Uses.{UsesMethod}
 use Rattle.pc_sends.specs.Reach.{Posts}
 use Rattle.pc_sends.proofs.Homes.{NodeIn}
 
@@ -45,7 +45,7 @@ IsThere core m = (x : Method) × (slice_get core.methods m ≡ Some x)
 
 -- A frame that method m begins.
 abbrev pub Begun : CoreData → List (Option ℕ) → ℕ → Frame → Type 0
-Begun core ents m g = Uses core ents m g.method × IsThere core g.method × TasksIn core g.method g.tasks
+Begun core ents m g = UsesMethod core ents m g.method × IsThere core g.method × TasksIn core g.method g.tasks
 
 -- A move of a frame of method m.
 abbrev pub MoveIn : CoreData → List (Option ℕ) → ℕ → Move → Type 0
@@ -73,7 +73,7 @@ module _ (core : CoreData) (m : ℕ) where
   evaluations_in [] k = tt
   evaluations_in (c ∷ cs) k = (k 0 c refl, evaluations_in cs (rest_in c cs k))
 
-  pub items_in : (cs : List ℕ) → Each (λ i c. NodeIn core m c) cs → TasksIn core m (items cs)
+  pub items_in : (cs : List ℕ) → Each (λ i c. NodeIn core m c) cs → TasksIn core m (item_tasks cs)
   items_in [] k = tt
   items_in (c ∷ []) k = (k 0 c refl, tt)
   items_in (c ∷ d ∷ cs) k = (k 0 c refl, (tt, items_in (d ∷ cs) (rest_in c (d ∷ cs) k)))

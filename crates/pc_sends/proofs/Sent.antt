@@ -17,16 +17,16 @@ use Rattle.pc_lists.specs.Places.{Has}
 use Rattle.pc_lists.proofs.Bools.{false_true, no_both}
 use Rattle.pc_lists.proofs.Elements.{differ_none}
 use Rattle.pc_lists.proofs.Gets.{get_below, get_within, range_get}
-use Rattle.pc_sends.specs.Growth.{Grown, Turns, OfSome, Sorts}
-use Rattle.pc_sends.specs.Uses.{is_called, Aims, Uses}
+use Rattle.pc_sends.specs.Growth.{Grown, TurnsBelow, OfSome, Sorts}
+use Rattle.pc_sends.specs.Uses.{is_called, Aims, UsesMethod}
 use Rattle.pc_sends.specs.Reach.{Reach, IsSent, Sends, is_message}
 use Rattle.pc_sends.specs.Reached.{IsMessage, ReachedUses, EntityUses, IsUsed, AreSent}
 use Rattle.pc_sends.proofs.Grows.{grown_same}
 
 -- ---- what is used
 
-pub reached_uses : (core : CoreData) (ents : List (Option ℕ)) (m : ℕ) (a b : List ℕ) → Reach core ents m → Grown (Uses core ents m) a b → Grown (ReachedUses core ents m) a b
-reached_uses core ents m a b r g = grown_same (Uses core ents m) (ReachedUses core ents m) a b (λ t u. (r, u)) (λ t p. p.1) g
+pub reached_uses : (core : CoreData) (ents : List (Option ℕ)) (m : ℕ) (a b : List ℕ) → Reach core ents m → Grown (UsesMethod core ents m) a b → Grown (ReachedUses core ents m) a b
+reached_uses core ents m a b r g = grown_same (UsesMethod core ents m) (ReachedUses core ents m) a b (λ t u. (r, u)) (λ t p. p.1) g
 
 -- ---- messages
 
@@ -49,10 +49,10 @@ module _ (core : CoreData) (ents : List (Option ℕ)) (formed : Formed core) whe
       let there = get_within core.methods k (omega (arith, high, within)) in
       (there.0, there.1, (formed.entities e x is).methods (k - x.first_method) there.0 (range_get core.methods x.first_method (x.first_method + x.methods) k there.0 low high there.1))
 
-  turns_uses : (e : ℕ) (x : EntityDef) (t : ℕ) → slice_get core.entities e ≡ Some x → Turns (ReachedUses core ents) x.first_method (x.first_method + x.methods) t → EntityUses core ents e t
+  turns_uses : (e : ℕ) (x : EntityDef) (t : ℕ) → slice_get core.entities e ≡ Some x → TurnsBelow (ReachedUses core ents) x.first_method (x.first_method + x.methods) t → EntityUses core ents e t
   turns_uses e x t is k = let m = own_method e k.0 x is k.1 k.2 in record { from = k.0; method = m.0; is_method = m.1; entity = m.2; uses = k.3 }
 
-  uses_turns : (e : ℕ) (x : EntityDef) (t : ℕ) → slice_get core.entities e ≡ Some x → EntityUses core ents e t → Turns (ReachedUses core ents) x.first_method (x.first_method + x.methods) t
+  uses_turns : (e : ℕ) (x : EntityDef) (t : ℕ) → slice_get core.entities e ≡ Some x → EntityUses core ents e t → TurnsBelow (ReachedUses core ents) x.first_method (x.first_method + x.methods) t
   uses_turns e x t is u =
       let r = method_among core u.from u.method formed u.is_method (get_below core.methods u.from u.method u.is_method) in
       let same : r.0 ≡ x = same_Some r.0 x (sym r.1 ∙ ap (slice_get core.entities) u.entity ∙ is) in (
@@ -62,7 +62,7 @@ module _ (core : CoreData) (ents : List (Option ℕ)) (formed : Formed core) whe
         u.uses,
       )
 
-  pub entity_used : (e : ℕ) (x : EntityDef) (used : List ℕ) → slice_get core.entities e ≡ Some x → Grown (Turns (ReachedUses core ents) x.first_method (x.first_method + x.methods)) [] used → IsUsed core ents e used
+  pub entity_used : (e : ℕ) (x : EntityDef) (used : List ℕ) → slice_get core.entities e ≡ Some x → Grown (TurnsBelow (ReachedUses core ents) x.first_method (x.first_method + x.methods)) [] used → IsUsed core ents e used
   entity_used e x used is g = record {
     differ = g.differ differ_none;
     exact = λ t. (λ h. turns_uses e x t is (from_none _ used t g h), λ u. g.all t (uses_turns e x t is u));

@@ -8,8 +8,8 @@ use Rattle.pc_core.specs.declared.nodes.Node.{Node}
 use Rattle.pc_core.specs.Entities.{IsAbstract}
 use Rattle.pc_core.specs.Lookup.{method_named}
 use Rattle.pc_lists.proofs.Bools.{false_true}
-use Rattle.pc_sends.specs.Entities.{MayBe, IsOne}
-use Rattle.pc_sends.specs.Uses.{MayCall, Aims, Uses}
+use Rattle.pc_sends.specs.Entities.{MayBe, IsOrConformsTo}
+use Rattle.pc_sends.specs.Uses.{MayCall, Aims, UsesMethod}
 use Rattle.pc_sends.specs.Reach.{Reach, first, Sends}
 use Rattle.pc_sends.specs.Example.{go, never_stops, its_entities, NeverStops}
 
@@ -17,7 +17,7 @@ use Rattle.pc_sends.specs.Example.{go, never_stops, its_entities, NeverStops}
 not_abstract : IsAbstract never_stops 6 → ⊥
 not_abstract a = false_true (ap (λ (x : EntityDef). is_abstract x.kind) (same_Some _ a.0 a.1) ∙ a.2)
 
-is_a : (d : ℕ) → IsOne never_stops d 6 → d ≡ 6
+is_a : (d : ℕ) → IsOrConformsTo never_stops d 6 → d ≡ 6
 is_a d (inl e) = e
 is_a d (inr above) = absurd (not_abstract above.0)
 
@@ -50,7 +50,7 @@ aims_of n x t at a = go_on n at
     go_on (suc (suc (suc (suc (suc (suc (suc (suc (suc zero))))))))) at = by _ (same_Some _ x at) (λ b. absurd b)
     go_on (suc (suc (suc (suc (suc (suc (suc (suc (suc (suc n)))))))))) at = absurd (none-some x at)
 
-uses_of : (m t : ℕ) → Uses never_stops its_entities m t → Targets m t
+uses_of : (m t : ℕ) → UsesMethod never_stops its_entities m t → Targets m t
 uses_of m t u = let k = aims_of u.number u.node t u.is_node u.aims in (sym u.own ∙ k.0, k.1)
 
 main_reached : Reach never_stops its_entities 4

@@ -13,9 +13,9 @@ use Rattle.pc_semantics.specs.Configurations.{Configuration, main_create}
 use Rattle.pc_sends.specs.declared.table.Table.{Table}
 use Rattle.pc_sends.specs.Growth.{Grown, OfSome, Sorts}
 use Rattle.pc_sends.specs.Reach.{Sends, MayWait}
-use Rattle.pc_sends.specs.Covering.{Covered}
+use Rattle.pc_sends.specs.Covering.{ReachCovers}
 use Rattle.pc_sends.specs.Reached.{IsReach, AreSent}
-use Rattle.pc_sends.specs.Tables.{row, Before, InOrder, IsOfActor, IsLater, IsUnsent, IsNever, IsTable, Tells}
+use Rattle.pc_sends.specs.Tables.{row, RowBefore, InOrder, IsOfActor, IsLater, IsUnsent, IsNever, IsTable, TableTells}
 
 -- ---- rows
 
@@ -45,7 +45,7 @@ module _ (core : CoreData) (ents : List (Option ℕ)) (n : ℕ) (rows : List Row
   late : (i : ℕ) (r : Row) → slice_get (map (row n) ts) i ≡ Some r → r.from ≡ n
   late i r e = let k = row_of n ts i r e in sym (ap (λ (q : Row). q.from) k.2)
 
-  later : (i j : ℕ) (a b : Row) → i < j → slice_get (map (row n) ts) i ≡ Some a → slice_get (map (row n) ts) j ≡ Some b → Before a b
+  later : (i j : ℕ) (a b : Row) → i < j → slice_get (map (row n) ts) i ≡ Some a → slice_get (map (row n) ts) j ≡ Some b → RowBefore a b
   later i j a b l e f =
       let p = row_of n ts i a e in
       let q = row_of n ts j b f in
@@ -57,7 +57,7 @@ module _ (core : CoreData) (ents : List (Option ℕ)) (n : ℕ) (rows : List Row
   ordered : InOrder (rows ++ map (row n) ts)
   ordered i j a b l e f = both (append_get rows (map (row n) ts) i a e) (append_get rows (map (row n) ts) j b f)
     where
-      both : (slice_get rows i ≡ Some a) ⊎ ((length rows ≤ i) × (slice_get (map (row n) ts) (i - length rows) ≡ Some a)) → (slice_get rows j ≡ Some b) ⊎ ((length rows ≤ j) × (slice_get (map (row n) ts) (j - length rows) ≡ Some b)) → Before a b
+      both : (slice_get rows i ≡ Some a) ⊎ ((length rows ≤ i) × (slice_get (map (row n) ts) (i - length rows) ≡ Some a)) → (slice_get rows j ≡ Some b) ⊎ ((length rows ≤ j) × (slice_get (map (row n) ts) (j - length rows) ≡ Some b)) → RowBefore a b
       both (inl x) (inl y) = before.order i j a b l x y
       both (inl x) (inr y) = let low = before.below i a x in let at = late (j - length rows) b y.1 in inl (omega (arith, low, at))
       both (inr x) (inl y) = let high = x.0 in let low = get_below rows j b y in absurd (omega (arith, high, low, l))
@@ -160,7 +160,7 @@ may_not_wait : (core : CoreData) (ents : List (Option ℕ)) (t : ℕ) → MayWai
 may_not_wait core ents t (inl first) n = n.later first.0 first.1
 may_not_wait core ents t (inr sent) n = n.unsent sent.0 sent.1
 
-pub table_tells : (core : CoreData) (ents : List (Option ℕ)) (table : Table) (c : Configuration) → IsTable core ents table → Covered core ents c → Tells core table c
+pub table_tells : (core : CoreData) (ents : List (Option ℕ)) (table : Table) (c : Configuration) → IsTable core ents table → ReachCovers core ents c → TableTells core table c
 table_tells core ents table c is covered = record {
   frames = λ i a at k f e. (is.reached f.method).1 (covered.frames i a at k f e);
   sends = λ i x m s. (is.rows x.entity m.method).1 (covered.sends i x m s);

@@ -30,15 +30,15 @@ use Rattle.pc_semantics.specs.declared.outcome.Lack.TheVariants as lack
 use Rattle.pc_semantics.specs.Configurations.{own_address, blank_object}
 use Rattle.pc_semantics.specs.Around.{Around, Move, Stuck, Overflows, Goes, Spawns, Sends, with_stack, pushed, none, popped}
 use Rattle.pc_semantics.specs.Children.{evaluations}
-use Rattle.pc_semantics.specs.Evaluation.{push_slot, take_slot, items, first_then, evaluate, evaluate_node}
+use Rattle.pc_semantics.specs.Evaluation.{push_slot, take_slot, item_tasks, first_then, evaluate, evaluate_node}
 use Rattle.pc_semantics.specs.Fields.{get_value, get_field, get_of, get_from, get_task, put_value, put_field, put_of, put_into, put_task, store, store_task}
-use Rattle.pc_semantics.specs.Operators.{gives, of_numbers, of_truths, of_texts, binary, negated}
+use Rattle.pc_semantics.specs.Operators.{push_or_lack, of_numbers, of_truths, of_texts, binary, negated}
 use Rattle.pc_caps.specs.Limits.{text_limit}
-use Rattle.pc_semantics.specs.Choices.{truth, apply_task, right_side, test_and, test_or, test_task, branch, turn}
+use Rattle.pc_semantics.specs.Choices.{truth, apply_task, right_side, test_and, test_or, test_task, branch, loop_turn}
 use Rattle.pc_semantics.specs.Calls.{counted, is_string, text_of, begin_new, make_of, make_task, spawn_of, spawn_task, enter, send, invoke_kind, push_text, invoke_found, invoke_method, invoke_on, invoke_task, leave_object, leave, return_task}
 use Rattle.pc_semantics.specs.Tasks.{at_node, task_move}
-use Rattle.pc_sends.specs.Held.{receiver_of, call_in, IsNoted}
-use Rattle.pc_sends.specs.Uses.{is_called, last_of, noted_at, Aims, Uses}
+use Rattle.pc_sends.specs.Held.{receiver_child, call_in, IsNoted}
+use Rattle.pc_sends.specs.Uses.{is_called, last_child_of, noted_at, Aims, UsesMethod}
 use Rattle.pc_sends.specs.Reach.{IsSent, Posts}
 use Rattle.pc_sends.proofs.Homes.{NodeIn, children_in, body_in}
 use Rattle.pc_sends.proofs.Moves.{TaskIn, TasksIn, FrameOf, MoveIn, tasks_in, evaluations_in, items_in, cond_in, top_in, popped_in}
@@ -97,7 +97,7 @@ module _ (core : CoreData) (ents : List (Option ℕ)) (formed : Formed core) (m 
   evaluate_in f n cs node.Or k h l = first_in f cs (task.Test n ∷ []) k h (l, tt)
   evaluate_in f n cs node.If k h l = first_in f cs (task.Branch n ∷ []) k h (l, tt)
   evaluate_in f n cs node.While k h l = first_in f cs (task.Loop n ∷ []) k h (l, tt)
-  evaluate_in f n cs node.Seq k h l = (k.0, tasks_in core m (items cs) f.tasks (items_in core m cs h) k.1)
+  evaluate_in f n cs node.Seq k h l = (k.0, tasks_in core m (item_tasks cs) f.tasks (items_in core m cs h) k.1)
   evaluate_in f n cs (node.Recover c) k h l = first_in f cs [] k h tt
   evaluate_in f n cs node.Body k h l = first_in f cs (task.Return ∷ []) k h (tt, tt)
 
@@ -158,7 +158,7 @@ module _ (core : CoreData) (ents : List (Option ℕ)) (formed : Formed core) (m 
 
   -- ---- operators
 
-  gives_in : (f : Frame) (o : Option Value) → Of f → In (gives f o)
+  gives_in : (f : Frame) (o : Option Value) → Of f → In (push_or_lack f o)
   gives_in f None k = tt
   gives_in f (Some v) k = k
 
@@ -223,7 +223,7 @@ module _ (core : CoreData) (ents : List (Option ℕ)) (formed : Formed core) (m 
   branch_in (c ∷ a ∷ []) h t f k = tt
   branch_in (c ∷ a ∷ b ∷ d ∷ cs) h t f k = tt
 
-  turn_in : (n : ℕ) (cs : List ℕ) → NodeIn core m n → Each (λ i c. NodeIn core m c) cs → (b : Bool) (f : Frame) → Of f → In (turn n cs b f)
+  turn_in : (n : ℕ) (cs : List ℕ) → NodeIn core m n → Each (λ i c. NodeIn core m c) cs → (b : Bool) (f : Frame) → Of f → In (loop_turn n cs b f)
   turn_in n (c ∷ a ∷ []) l h true f k = (k.0, (h 1 a refl, (tt, (l, k.1))))
   turn_in n (c ∷ a ∷ []) l h false f k = k
   turn_in n [] l h t f k = tt
@@ -235,15 +235,15 @@ module _ (core : CoreData) (ents : List (Option ℕ)) (formed : Formed core) (m 
   counted_in : (x : Method) (vs : List Value) (move : Move) → In move → In (counted x vs move)
   counted_in x vs move k = cond_in core ents m (nat_eq (length vs) (length x.params)) move (Stuck lack.Method) k tt
 
-  begin_new_in : (around : Around) (t : ℕ) (x : Method) (vs : List Value) (f : Frame) (o : Option ℕ) → Of f → Uses core ents m t → slice_get core.methods t ≡ Some x → x.body ≡ o → In (begin_new core around t x vs f o)
+  begin_new_in : (around : Around) (t : ℕ) (x : Method) (vs : List Value) (f : Frame) (o : Option ℕ) → Of f → UsesMethod core ents m t → slice_get core.methods t ≡ Some x → x.body ≡ o → In (begin_new core around t x vs f o)
   begin_new_in around t x vs f None k u is e = tt
   begin_new_in around t x vs f (Some b) k u is e = ((u, (x, is), (body_in core t b x formed is e, tt)), k)
 
-  make_of_in : (around : Around) (t : ℕ) (vs : List Value) (f : Frame) (o : Option Method) → Of f → Uses core ents m t → slice_get core.methods t ≡ o → In (make_of core around t vs f o)
+  make_of_in : (around : Around) (t : ℕ) (vs : List Value) (f : Frame) (o : Option Method) → Of f → UsesMethod core ents m t → slice_get core.methods t ≡ o → In (make_of core around t vs f o)
   make_of_in around t vs f None k u is = tt
   make_of_in around t vs f (Some x) k u is = counted_in x vs (begin_new core around t x vs f x.body) (begin_new_in around t x vs f x.body k u is refl)
 
-  make_task_in : (around : Around) (f : Frame) (cs : List ℕ) (x : NodeKind) → Of f → ((t : ℕ) → Aims core ents x cs t → Uses core ents m t) → In (make_task core around f cs x)
+  make_task_in : (around : Around) (f : Frame) (cs : List ℕ) (x : NodeKind) → Of f → ((t : ℕ) → Aims core ents x cs t → UsesMethod core ents m t) → In (make_task core around f cs x)
   make_task_in around f cs (node.New t) k u = popped_in core ents m f (popped (length cs) f.stack []) _ k (λ vs g l. make_of_in around t vs g (slice_get core.methods t) l (u t refl) refl)
   make_task_in around f cs x k u = tt
 
@@ -257,7 +257,7 @@ module _ (core : CoreData) (ents : List (Option ℕ)) (formed : Formed core) (m 
 
   -- ---- calls
 
-  enter_in : (t : ℕ) (x : Method) (this : Value) (vs : List Value) (f : Frame) (o : Option ℕ) → Of f → Uses core ents m t → slice_get core.methods t ≡ Some x → x.body ≡ o → In (enter t x this vs f o)
+  enter_in : (t : ℕ) (x : Method) (this : Value) (vs : List Value) (f : Frame) (o : Option ℕ) → Of f → UsesMethod core ents m t → slice_get core.methods t ≡ Some x → x.body ≡ o → In (enter t x this vs f o)
   enter_in t x this vs f None k u is e = tt
   enter_in t x this vs f (Some b) k u is e = ((u, (x, is), (body_in core t b x formed is e, tt)), k)
 
@@ -272,14 +272,15 @@ module _ (core : CoreData) (ents : List (Option ℕ)) (formed : Formed core) (m 
   send_in around t x vs f (Prim n) k u = tt
 
   kind_in : (around : Around) (t : ℕ) (x : Method) (this : Value) (vs : List Value) (f : Frame) (q : MethodKind) → Of f → slice_get core.methods t ≡ Some x → x.kind ≡ q
-      → (is_called x.kind ≡ true → Uses core ents m t) → (x.kind ≡ method.Be → Posts core ents m t) → In (invoke_kind around t x this vs f q)
+      → (is_called x.kind ≡ true → UsesMethod core ents m t) → (x.kind ≡ method.Be → Posts core ents m t)
+          → In (invoke_kind around t x this vs f q)
   kind_in around t x this vs f method.Fun k is e u s = counted_in x vs (enter t x this vs f x.body) (enter_in t x this vs f x.body k (u (ap is_called e)) is refl)
   kind_in around t x this vs f method.Be k is e u s = send_in around t x vs f this k (s e)
   kind_in around t x this vs f method.New k is e u s = tt
   kind_in around t x this vs f method.Spawn k is e u s = tt
 
   found_in : (around : Around) (t : ℕ) (this : Value) (vs : List Value) (f : Frame) (o : Option Method) → Of f → slice_get core.methods t ≡ o
-      → ((x : Method) → slice_get core.methods t ≡ Some x → is_called x.kind ≡ true → Uses core ents m t)
+      → ((x : Method) → slice_get core.methods t ≡ Some x → is_called x.kind ≡ true → UsesMethod core ents m t)
       → ((x : Method) → slice_get core.methods t ≡ Some x → x.kind ≡ method.Be → Posts core ents m t) → In (invoke_found around t this vs f o)
   found_in around t this vs f None k is u s = tt
   found_in around t this vs f (Some x) k is u s = kind_in around t x this vs f x.kind k is refl (u x is) (s x is)
@@ -290,7 +291,7 @@ module _ (core : CoreData) (ents : List (Option ℕ)) (formed : Formed core) (m 
 
   -- By the method that the receiver's own entity has of the name.
   named_in : (around : Around) (name d : ℕ) (this : Value) (vs : List Value) (f : Frame) (o : Option ℕ) → Of f → method_named core d name ≡ o
-      → ((t : ℕ) (x : Method) → method_named core d name ≡ Some t → slice_get core.methods t ≡ Some x → is_called x.kind ≡ true → Uses core ents m t)
+      → ((t : ℕ) (x : Method) → method_named core d name ≡ Some t → slice_get core.methods t ≡ Some x → is_called x.kind ≡ true → UsesMethod core ents m t)
       → ((t : ℕ) (x : Method) → method_named core d name ≡ Some t → slice_get core.methods t ≡ Some x → x.kind ≡ method.Be → Posts core ents m t)
       → In (invoke_method core around name this vs f o)
   named_in around name d this vs f None k e u s = cond_in core ents m (is_string core name vs) (push_text f (text_of this)) (Stuck lack.Method) (text_in f (text_of this) k) tt
@@ -300,16 +301,16 @@ module _ (core : CoreData) (ents : List (Option ℕ)) (formed : Formed core) (m 
   last_there cs l = let k : length cs - 1 < length cs = omega (arith, l) in get_within cs (length cs - 1) k
 
   call_top : (around : Around) (f : Frame) (cs : List ℕ) (name : ℕ) (stack : List Value) → Of f → 1 ≤ length cs
-      → ((t : ℕ) → Aims core ents (node.Call name) cs t → Uses core ents m t)
+      → ((t : ℕ) → Aims core ents (node.Call name) cs t → UsesMethod core ents m t)
       → ((t : ℕ) → Aims core ents (node.Call name) cs t → IsSent core (node.Call name) t → Posts core ents m t)
-      → ((r : ℕ) (v : Value) → receiver_of (node.Call name) cs ≡ Some r → slice_get stack 0 ≡ Some v → IsNoted core ents around.objects r v)
+      → ((r : ℕ) (v : Value) → receiver_child (node.Call name) cs ≡ Some r → slice_get stack 0 ≡ Some v → IsNoted core ents around.objects r v)
       → In (invoke_task core around (with_stack f stack) cs (node.Call name))
   call_top around f cs name [] k l u s held = tt
   call_top around f cs name (this ∷ below) k l u s held =
       let r = last_there cs l in
       let noted = held r.0 this r.1 refl in
       let aims : (t : ℕ) (x : Method) → method_named core noted.own name ≡ Some t → slice_get core.methods t ≡ Some x → is_called x.kind ≡ true → Aims core ents (node.Call name) cs t =
-      λ t x found is c. (noted.noted, bind_is (last_of cs) (noted_at ents) r.0 r.1 ∙ noted.is_noted, record { entity = noted.own; may_be = noted.may_be; found = found; method = x; is_method = is; called = c })
+      λ t x found is c. (noted.noted, bind_is (last_child_of cs) (noted_at ents) r.0 r.1 ∙ noted.is_noted, record { entity = noted.own; may_be = noted.may_be; found = found; method = x; is_method = is; called = c })
       in
       popped_in core ents m (with_stack f below) (popped (length cs - 1) below []) _ k (λ vs g n.
       subst (λ (o : Option ℕ). In (invoke_on core around name this vs g o)) (sym noted.is_own)
@@ -318,9 +319,9 @@ module _ (core : CoreData) (ents : List (Option ℕ)) (formed : Formed core) (m 
       (λ t x found is c. s t (aims t x found is (ap is_called c)) (x, is, c))))
 
   call_in_task : (around : Around) (f : Frame) (cs : List ℕ) (x : NodeKind) → Of f → HasArity x (length cs)
-      → ((t : ℕ) → Aims core ents x cs t → Uses core ents m t)
+      → ((t : ℕ) → Aims core ents x cs t → UsesMethod core ents m t)
       → ((t : ℕ) → Aims core ents x cs t → IsSent core x t → Posts core ents m t)
-      → ((r : ℕ) (v : Value) → receiver_of x cs ≡ Some r → slice_get f.stack 0 ≡ Some v → IsNoted core ents around.objects r v)
+      → ((r : ℕ) (v : Value) → receiver_child x cs ≡ Some r → slice_get f.stack 0 ≡ Some v → IsNoted core ents around.objects r v)
       → In (invoke_task core around f cs x)
   call_in_task around f cs (node.Call name) k l u s held = call_top around f cs name f.stack k l u s held
   call_in_task around f cs x k l u s held = tt
@@ -349,7 +350,7 @@ module _ (core : CoreData) (ents : List (Option ℕ)) (formed : Formed core) (m 
     Does t = TaskIn core m t → CallNoted core ents around.objects (t ∷ f.tasks) f.stack → MoveIn core ents m (task_move core around f t)
 
     module _ (n : ℕ) (here : NodeIn core m n) where
-      abbrev uses : (x : Node) → slice_get core.nodes n ≡ Some x → (t : ℕ) → Aims core ents x.kind x.children t → Uses core ents m t
+      abbrev uses : (x : Node) → slice_get core.nodes n ≡ Some x → (t : ℕ) → Aims core ents x.kind x.children t → UsesMethod core ents m t
       uses x at t a = record { number = n; node = x; is_node = at; own = here x at; aims = a }
 
       posts : (x : Node) → slice_get core.nodes n ≡ Some x → (t : ℕ) → Aims core ents x.kind x.children t → IsSent core x.kind t → Posts core ents m t
@@ -380,6 +381,6 @@ module _ (core : CoreData) (ents : List (Option ℕ)) (formed : Formed core) (m 
     task_in (task.Apply n) here held = at_node_in n here (slice_get core.nodes n) _ refl (λ x at. apply_task_in f x.kind k)
     task_in (task.Test n) here held = at_node_in n here (slice_get core.nodes n) _ refl (λ x at. test_task_in f x.children x.kind k (own_children n here x at))
     task_in (task.Branch n) here held = at_node_in n here (slice_get core.nodes n) _ refl (λ x at. top_in core ents m f f.stack (truth (branch x.children)) k (λ v g l. truth_in g v (branch x.children) l (branch_in x.children (own_children n here x at))))
-    task_in (task.Loop n) here held = at_node_in n here (slice_get core.nodes n) _ refl (λ x at. top_in core ents m f f.stack (truth (turn n x.children)) k (λ v g l. truth_in g v (turn n x.children) l (turn_in n x.children here (own_children n here x at))))
+    task_in (task.Loop n) here held = at_node_in n here (slice_get core.nodes n) _ refl (λ x at. top_in core ents m f f.stack (truth (loop_turn n x.children)) k (λ v g l. truth_in g v (loop_turn n x.children) l (turn_in n x.children here (own_children n here x at))))
     task_in task.Discard here held = top_in core ents m f f.stack (λ v g. Goes g) k (λ v g l. l)
     task_in task.Return here held = return_in f (slice_get core.methods f.method) k

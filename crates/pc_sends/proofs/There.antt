@@ -12,7 +12,7 @@ use Rattle.pc_lists.proofs.Options.{bind_some}
 use Rattle.pc_core.specs.Members.{method_found}
 use Rattle.pc_core.specs.Nodes.{NamesFit}
 use Rattle.pc_core.specs.Formed.{Formed}
-use Rattle.pc_semantics.specs.Configurations.{main_create, entity_named}
+use Rattle.pc_semantics.specs.Configurations.{main_create, number_of_entity}
 use Rattle.pc_sends.specs.Uses.{Aims}
 use Rattle.pc_sends.specs.Reach.{Reach, first, next}
 use Rattle.pc_sends.proofs.Moves.{IsThere}
@@ -20,7 +20,7 @@ use Rattle.pc_sends.proofs.Moves.{IsThere}
 module _ (core : CoreData) (ents : List (Option ℕ)) (formed : Formed core) where
   create_there : (e t : ℕ) → main_create core ≡ Some (e, t) → IsThere core t
   create_there e t is =
-      let a = bind_some (entity_named core (codes "Main")) _ (e, t) is in
+      let a = bind_some (number_of_entity core (codes "Main")) _ (e, t) is in
       let b = bind_some (position (bytes_eq (codes "create")) core.names) _ (e, t) a.2 in
       let c = bind_some (method_named core a.0 b.0) (λ (k : ℕ). Some (a.0, k)) (e, t) b.2 in
       let same : c.0 ≡ t = ap (λ (p : ℕ × ℕ). p.1) (same_Some (a.0, c.0) (e, t) c.2) in

@@ -15,7 +15,7 @@ use Rattle.pc_lists.proofs.Options.{bind_some, bind_is, kept}
 use Rattle.pc_lists.proofs.Gets.{get_within, get_range, range_get}
 use Rattle.pc_sends.specs.Entities.{MayBe, ListsMayBe}
 use Rattle.pc_sends.specs.Growth.{Grown, OfSome}
-use Rattle.pc_sends.specs.Uses.{is_called, MayCall, called_in, Known, noted_receiver, Aims, Uses}
+use Rattle.pc_sends.specs.Uses.{is_called, MayCall, called_in, CallsAreFound, noted_receiver, Aims, UsesMethod}
 use Rattle.pc_sends.proofs.Grows.{grown_same, grown_there, grown_kept}
 use Rattle.pc_sends.proofs.Homes.{node_range, own_node, method_there}
 use Rattle.pc_sends.proofs.Listed.{known_below}
@@ -65,15 +65,15 @@ targets_none core lists name e a l is =
 
 -- ---- calls that were looked at
 
-pub known_grown : (core : CoreData) (calls : List (ℕ × ℕ)) (P : ℕ → Type 0) (a b : List ℕ) → Grown P a b → Known core calls a → Known core calls b
+pub known_grown : (core : CoreData) (calls : List (ℕ × ℕ)) (P : ℕ → Type 0) (a b : List ℕ) → Grown P a b → CallsAreFound core calls a → CallsAreFound core calls b
 known_grown core calls P a b g k name e t h m = grown_kept P a b t g (k name e t h m)
 
 -- No call was looked at.
-pub known_none : (core : CoreData) (calls : List (ℕ × ℕ)) (found : List ℕ) → calls ≡ [] → Known core calls found
+pub known_none : (core : CoreData) (calls : List (ℕ × ℕ)) (found : List ℕ) → calls ≡ [] → CallsAreFound core calls found
 known_none core calls found is name e t h m = let k = subst (λ (ps : List (ℕ × ℕ)). Has ps (name, e)) is h in absurd (none-some (name, e) k.1)
 
 -- One call more.
-pub known_call : (core : CoreData) (old new : List (ℕ × ℕ)) (name e : ℕ) (a b : List ℕ) → Grown (MayCall core name e) a b → Known core old a → ((call : ℕ × ℕ) → Has new call → Has old call ⊎ (call ≡ (name, e))) → Known core new b
+pub known_call : (core : CoreData) (old new : List (ℕ × ℕ)) (name e : ℕ) (a b : List ℕ) → Grown (MayCall core name e) a b → CallsAreFound core old a → ((call : ℕ × ℕ) → Has new call → Has old call ⊎ (call ≡ (name, e))) → CallsAreFound core new b
 known_call core old new name e a b g k more n d t h m =
     elim (more (n, d) h) [
       | inl before ↦ grown_kept (MayCall core name e) a b t g (k n d t before m)
@@ -86,25 +86,26 @@ known_call core old new name e a b g k more n d t h m =
 abbrev pub NodeAims : CoreData → List (Option ℕ) → Node → ℕ → Type 0
 NodeAims core ents y t = Aims core ents y.kind y.children t
 
-method_to : (core : CoreData) (ents : List (Option ℕ)) (m : ℕ) (x : Method) → Formed core → slice_get core.methods m ≡ Some x → (t : ℕ) → OfSome (NodeAims core ents) (own_nodes core x) t → Uses core ents m t
+method_to : (core : CoreData) (ents : List (Option ℕ)) (m : ℕ) (x : Method) → Formed core → slice_get core.methods m ≡ Some x → (t : ℕ) → OfSome (NodeAims core ents) (own_nodes core x) t → UsesMethod core ents m t
 method_to core ents m x formed is t k =
     let r = get_range core.nodes x.first_node (node_end x.first_node x.body) k.0 k.1 k.2 in
     record { number = x.first_node + k.0; node = k.1; is_node = r.1; own = own_node core m k.0 x k.1 formed is k.2; aims = k.3 }
 
-method_from : (core : CoreData) (ents : List (Option ℕ)) (m : ℕ) (x : Method) → Formed core → slice_get core.methods m ≡ Some x → (t : ℕ) → Uses core ents m t → OfSome (NodeAims core ents) (own_nodes core x) t
+method_from : (core : CoreData) (ents : List (Option ℕ)) (m : ℕ) (x : Method) → Formed core → slice_get core.methods m ≡ Some x → (t : ℕ) → UsesMethod core ents m t → OfSome (NodeAims core ents) (own_nodes core x) t
 method_from core ents m x formed is t u =
     let r = node_range core m u.number x u.node formed is u.is_node u.own in
     (u.number - x.first_node, u.node, range_get core.nodes x.first_node (node_end x.first_node x.body) u.number u.node r.0 r.1 u.is_node, u.aims)
 
-pub method_uses : (core : CoreData) (ents : List (Option ℕ)) (m : ℕ) (x : Method) (ns : List Node) (a b : List ℕ) → Formed core → slice_get core.methods m ≡ Some x → ns ≡ own_nodes core x → Grown (OfSome (NodeAims core ents) ns) a b → Grown (Uses core ents m) a b
+pub method_uses : (core : CoreData) (ents : List (Option ℕ)) (m : ℕ) (x : Method) (ns : List Node) (a b : List ℕ) → Formed core → slice_get core.methods m ≡ Some x → ns ≡ own_nodes core x → Grown (OfSome (NodeAims core ents) ns) a b → Grown (UsesMethod core ents m) a b
 method_uses core ents m x ns a b formed is own g =
-    grown_same (OfSome (NodeAims core ents) (own_nodes core x)) (Uses core ents m) a b (method_to core ents m x formed is) (method_from core ents m x formed is)
+    grown_same (OfSome (NodeAims core ents) (own_nodes core x)) (UsesMethod core ents m) a b (method_to core ents m x formed is)
+        (method_from core ents m x formed is)
     (subst (λ (ys : List Node). Grown (OfSome (NodeAims core ents) ys) a b) own g)
 
 -- If there is no such method, no node names it.
-pub no_uses : (core : CoreData) (ents : List (Option ℕ)) (m : ℕ) (a : List ℕ) → Formed core → slice_get core.methods m ≡ None → Grown (Uses core ents m) a a
+pub no_uses : (core : CoreData) (ents : List (Option ℕ)) (m : ℕ) (a : List ℕ) → Formed core → slice_get core.methods m ≡ None → Grown (UsesMethod core ents m) a a
 no_uses core ents m a formed is =
-    grown_there (Uses core ents m) a (λ t u.
+    grown_there (UsesMethod core ents m) a (λ t u.
     let there = method_there core u.number u.node formed u.is_node in
     absurd (none-some there.0 (sym is ∙ ap (slice_get core.methods) (sym u.own) ∙ there.1)))
 

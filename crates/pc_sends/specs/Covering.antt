@@ -12,7 +12,7 @@ use Rattle.pc_sends.specs.Reach.{Reach, Sends, MayWait}
 use Rattle.pc_sends.specs.Laws.{IsSending}
 
 -- What holds at a configuration.
-pub record Covered (core : CoreData) (ents : List (Option ℕ)) (c : Configuration) : Type 0 where
+pub record ReachCovers (core : CoreData) (ents : List (Option ℕ)) (c : Configuration) : Type 0 where
   -- each frame is one of a method in Reach
   pub frames : Each (λ i a. Each (λ k f. Reach core ents f.method) a.frames) c.actors
   -- each waiting message is Main's first one or has a pair in Sends, so its method is in Reach
@@ -23,4 +23,4 @@ pub record Covered (core : CoreData) (ents : List (Option ℕ)) (c : Configurati
 
 -- What is held gives this over every list of actors.
 abbrev pub HeldCovers : Type 0
-HeldCovers = (core : CoreData) (ents : List (Option ℕ)) → Formed core → Held core ents → (list : List ℕ) → Covered core ents (after core list)
+HeldCovers = (core : CoreData) (ents : List (Option ℕ)) → Formed core → Held core ents → (list : List ℕ) → ReachCovers core ents (after core list)

@@ -8,15 +8,15 @@ use Rattle.pc_lists.specs.Places.{Has}
 use Rattle.pc_core.specs.Conforms.{Conforms}
 
 -- The entities are the same, or the second is a trait or an interface to which the first conforms, by its methods.
-abbrev pub IsOne : CoreData → (entity other : ℕ) → Type 0
-IsOne core d e = (d ≡ e) ⊎ (IsAbstract core e × Conforms core d e)
+abbrev pub IsOrConformsTo : CoreData → (entity other : ℕ) → Type 0
+IsOrConformsTo core d e = (d ≡ e) ⊎ (IsAbstract core e × Conforms core d e)
 
 -- A value that is known to be of entity e may be of entity d. No value is of a trait or an interface.
 pub record MayBe (core : CoreData) (d e : ℕ) : Type 0 where
   pub own : EntityDef
   pub is_own : slice_get core.entities d ≡ Some own
   pub concrete : is_abstract own.kind ≡ false
-  pub is_one : IsOne core d e
+  pub is_one : IsOrConformsTo core d e
 
 -- For each entity of the core, the entities that a value may have if it is known to be of it.
 pub record ListsMayBe (core : CoreData) (lists : List (List ℕ)) : Type 0 where

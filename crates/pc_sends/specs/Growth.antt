@@ -11,8 +11,8 @@ pub record Grown (P : ℕ → Type 0) (old new : List ℕ) : Type 0 where
   pub differ : Differ old → Differ new
 
 -- The number is related to some number from `low` on and below n.
-abbrev pub Turns : (ℕ → ℕ → Type 0) → (low end number : ℕ) → Type 0
-Turns Q low n t = (k : ℕ) × (low ≤ k) × (k < n) × Q k t
+abbrev pub TurnsBelow : (ℕ → ℕ → Type 0) → (low end number : ℕ) → Type 0
+TurnsBelow Q low n t = (k : ℕ) × (low ≤ k) × (k < n) × Q k t
 
 -- The number is related to some element of a list.
 abbrev pub OfSome : {A : Type 0} → (A → ℕ → Type 0) → List A → ℕ → Type 0

@@ -12,19 +12,19 @@ use Rattle.pc_semantics.specs.declared.frames.Frame.{Frame}
 use Rattle.pc_semantics.specs.declared.frames.Task.{Task}
 use Rattle.pc_semantics.specs.declared.frames.Task.TheVariants as task
 use Rattle.pc_semantics.specs.Configurations.{Configuration}
-use Rattle.pc_semantics.specs.Around.{entity_of}
+use Rattle.pc_semantics.specs.Around.{value_entity}
 use Rattle.pc_semantics.specs.Runs.{run_from, after}
 use Rattle.pc_sends.specs.Entities.{MayBe}
-use Rattle.pc_sends.specs.Uses.{last_of, noted_at}
+use Rattle.pc_sends.specs.Uses.{last_child_of, noted_at}
 use Rattle.pc_sends.specs.Running.{running}
 
 abbrev pub invoked : Task → Option ℕ
 invoked (task.Invoke n) = Some n
 invoked t = None
 
-abbrev pub receiver_of : NodeKind → List ℕ → Option ℕ
-receiver_of (node.Call name) children = last_of children
-receiver_of k children = None
+abbrev pub receiver_child : NodeKind → List ℕ → Option ℕ
+receiver_child (node.Call name) children = last_child_of children
+receiver_child k children = None
 
 -- The receiver's node and value, if the first of these tasks is a call. The value is on top of the stack.
 abbrev pub call_in : CoreData → List Task → List Value → Option (ℕ × Value)
@@ -32,12 +32,12 @@ call_in core tasks stack = do
   t ← slice_get tasks 0
   n ← invoked t
   x ← slice_get core.nodes n
-  r ← receiver_of x.kind x.children
+  r ← receiver_child x.kind x.children
   v ← slice_get stack 0
   Some (r, v)
 
-abbrev pub call_of : CoreData → Frame → Option (ℕ × Value)
-call_of core f = call_in core f.tasks f.stack
+abbrev pub call_held : CoreData → Frame → Option (ℕ × Value)
+call_held core f = call_in core f.tasks f.stack
 
 -- ---- Held
 
@@ -46,13 +46,13 @@ pub record IsNoted (core : CoreData) (ents : List (Option ℕ)) (objects : Objec
   pub noted : ℕ
   pub is_noted : noted_at ents r ≡ Some noted
   pub own : ℕ
-  pub is_own : entity_of objects v ≡ Some own
+  pub is_own : value_entity objects v ≡ Some own
   pub may_be : MayBe core own noted
 
 -- This holds for each actor whose next task is a call.
 abbrev pub HeldAt : CoreData → List (Option ℕ) → Configuration → Type 0
 HeldAt core ents c =
-    (i : ℕ) (f : Frame) (r : ℕ) (v : Value) → running c i ≡ Some f → call_of core f ≡ Some (r, v) → IsNoted core ents c.objects r v
+    (i : ℕ) (f : Frame) (r : ℕ) (v : Value) → running c i ≡ Some f → call_held core f ≡ Some (r, v) → IsNoted core ents c.objects r v
 
 -- It holds at every configuration that is reached from c.
 abbrev pub HeldFrom : CoreData → List (Option ℕ) → Configuration → Type 0

@@ -7,7 +7,7 @@ use Rattle.pc_core.specs.declared.nodes.NodeKind.TheVariants as nodes
 use Rattle.pc_core.specs.CoreData.{CoreData}
 use Rattle.pc_core.specs.Lookup.{NamesMethod}
 use Rattle.pc_semantics.specs.Configurations.{main_create}
-use Rattle.pc_sends.specs.Uses.{Uses}
+use Rattle.pc_sends.specs.Uses.{UsesMethod}
 use Rattle.pc_core.specs.declared.declarations.MethodKind.{MethodKind}
 
 -- ---- Reach
@@ -15,7 +15,7 @@ use Rattle.pc_core.specs.declared.declarations.MethodKind.{MethodKind}
 -- The least set of methods with Main's `create` and, with each method, those that its nodes may make, spawn or call.
 pub data Reach (core : CoreData) (ents : List (Option ℕ)) : ℕ → Type 0 where
   first : {e t : ℕ} → main_create core ≡ Some (e, t) → Reach core ents t
-  next : {m t : ℕ} → Reach core ents m → Uses core ents m t → Reach core ents t
+  next : {m t : ℕ} → Reach core ents m → UsesMethod core ents m t → Reach core ents t
 
 -- ---- Sends
 
@@ -27,7 +27,7 @@ IsSent core k t = ⊥
 
 -- A node of method m may send method t.
 abbrev pub Posts : CoreData → List (Option ℕ) → (method target : ℕ) → Type 0
-Posts core ents m t = (u : Uses core ents m t) × IsSent core u.node.kind t
+Posts core ents m t = (u : UsesMethod core ents m t) × IsSent core u.node.kind t
 
 -- A method of entity e that is in Reach may send method t.
 pub record Sends (core : CoreData) (ents : List (Option ℕ)) (e t : ℕ) : Type 0 where

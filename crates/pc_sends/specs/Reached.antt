@@ -6,7 +6,7 @@ use Rattle.pc_core.specs.declared.declarations.MethodKind.TheVariants as method
 use Rattle.pc_core.specs.CoreData.{CoreData}
 use Rattle.pc_lists.specs.Places.{Each, Has, Differ, Ascends}
 use Rattle.pc_semantics.specs.Configurations.{main_create}
-use Rattle.pc_sends.specs.Uses.{Uses}
+use Rattle.pc_sends.specs.Uses.{UsesMethod}
 use Rattle.pc_sends.specs.Reach.{Reach, Sends, is_message}
 
 -- Everything found is in Reach, and everything that the first k of the found methods use has been found.
@@ -14,7 +14,7 @@ pub record Found (core : CoreData) (ents : List (Option ℕ)) (k : ℕ) (found :
   pub reached : Each (λ i t. Reach core ents t) found
   pub differ : Differ found
   pub begins : (e t : ℕ) → main_create core ≡ Some (e, t) → Has found t
-  pub closed : (i m t : ℕ) → i < k → slice_get found i ≡ Some m → Uses core ents m t → Has found t
+  pub closed : (i m t : ℕ) → i < k → slice_get found i ≡ Some m → UsesMethod core ents m t → Has found t
 
 -- The list has exactly the methods in Reach, each once.
 pub record IsReach (core : CoreData) (ents : List (Option ℕ)) (found : List ℕ) : Type 0 where
@@ -28,7 +28,7 @@ IsMessage core t = (x : Method) × (slice_get core.methods t ≡ Some x) × (is_
 
 -- Method m is in Reach and uses method t.
 abbrev pub ReachedUses : CoreData → List (Option ℕ) → (method target : ℕ) → Type 0
-ReachedUses core ents m t = Reach core ents m × Uses core ents m t
+ReachedUses core ents m t = Reach core ents m × UsesMethod core ents m t
 
 -- A method of entity e that is in Reach uses method t.
 pub record EntityUses (core : CoreData) (ents : List (Option ℕ)) (e t : ℕ) : Type 0 where

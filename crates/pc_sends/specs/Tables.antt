@@ -19,11 +19,11 @@ abbrev pub row : (entity target : ℕ) → Row
 row e t = record { from = e; target = t }
 
 -- By the sending entity, and then by the method that is sent.
-abbrev pub Before : Row → Row → Type 0
-Before a b = (a.from < b.from) ⊎ ((a.from ≡ b.from) × (a.target < b.target))
+abbrev pub RowBefore : Row → Row → Type 0
+RowBefore a b = (a.from < b.from) ⊎ ((a.from ≡ b.from) × (a.target < b.target))
 
 abbrev pub InOrder : List Row → Type 0
-InOrder rows = (i j : ℕ) (a b : Row) → i < j → slice_get rows i ≡ Some a → slice_get rows j ≡ Some b → Before a b
+InOrder rows = (i j : ℕ) (a b : Row) → i < j → slice_get rows i ≡ Some a → slice_get rows j ≡ Some b → RowBefore a b
 
 -- ---- what is never sent
 
@@ -73,7 +73,7 @@ pub record IsTable (core : CoreData) (ents : List (Option ℕ)) (table : Table) 
 
 -- ---- what it states about a configuration
 
-pub record Tells (core : CoreData) (table : Table) (c : Configuration) : Type 0 where
+pub record TableTells (core : CoreData) (table : Table) (c : Configuration) : Type 0 where
   -- each frame is one of a method that is reached
   pub frames : Each (λ i a. Each (λ k f. Has table.reached f.method) a.frames) c.actors
   -- whatever is about to be sent has its row

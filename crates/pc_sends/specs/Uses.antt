@@ -39,14 +39,14 @@ called_in core name d = do
   if is_called y.kind then Some t else None
 
 -- All methods that these calls may call have been found; a call is a name and the entity of its receiver.
-abbrev pub Known : CoreData → List (ℕ × ℕ) → List ℕ → Type 0
-Known core calls found = (name e t : ℕ) → Has calls (name, e) → MayCall core name e t → Has found t
+abbrev pub CallsAreFound : CoreData → List (ℕ × ℕ) → List ℕ → Type 0
+CallsAreFound core calls found = (name e t : ℕ) → Has calls (name, e) → MayCall core name e t → Has found t
 
 -- ---- nodes
 
 -- The receiver of a call is its last child.
-abbrev pub last_of : List ℕ → Option ℕ
-last_of children = slice_get children (length children - 1)
+abbrev pub last_child_of : List ℕ → Option ℕ
+last_child_of children = slice_get children (length children - 1)
 
 -- The entity that is noted at a node.
 abbrev pub noted_at : List (Option ℕ) → ℕ → Option ℕ
@@ -57,7 +57,7 @@ noted_at ents r = do
 -- The entity that is noted at the receiver of a call with these children.
 abbrev pub noted_receiver : List (Option ℕ) → List ℕ → Option ℕ
 noted_receiver ents children = do
-  r ← last_of children
+  r ← last_child_of children
   noted_at ents r
 
 -- A node may make, spawn or call method t.
@@ -68,7 +68,7 @@ Aims core ents (nodes.Call name) children t = (e : ℕ) × (noted_receiver ents 
 Aims core ents k children t = ⊥
 
 -- A node of method m may make, spawn or call method t.
-pub record Uses (core : CoreData) (ents : List (Option ℕ)) (m t : ℕ) : Type 0 where
+pub record UsesMethod (core : CoreData) (ents : List (Option ℕ)) (m t : ℕ) : Type 0 where
   pub number : ℕ
   pub node : Node
   pub is_node : slice_get core.nodes number ≡ Some node

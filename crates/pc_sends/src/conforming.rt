@@ -21,7 +21,7 @@ fn is_abstract(core: &Core, entity: u32) -> bool
 
 // Whether the entities are the same, or the second is a trait or an interface to which the first conforms.
 fn is_one(core: &Core, entity: u32, known: u32) -> bool
-    ensures { IsTrue result ↔ spec.IsOne core.now entity known }
+    ensures { IsTrue result ↔ spec.IsOrConformsTo core.now entity known }
 {
     entity == known || is_abstract(core, known) && conforms(core, entity, known)
 }

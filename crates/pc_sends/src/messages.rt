@@ -2,8 +2,8 @@
 ghost use Rattle.std.specs.Prelude.{◌≡◌, ◌↔◌, ◌≤◌, ℕ, [], length, IsTrue, IfOk, OnOk};
 ghost use Rattle.pc_lists.specs.Places.{Differ, Has};
 ghost use Rattle.pc_sends.specs.Entities.{ListsMayBe};
-ghost use Rattle.pc_sends.specs.Growth.{Grown, OfSome, Turns};
-ghost use Rattle.pc_sends.specs.Uses.{Known};
+ghost use Rattle.pc_sends.specs.Growth.{Grown, OfSome, TurnsBelow};
+ghost use Rattle.pc_sends.specs.Uses.{CallsAreFound};
 ghost use Rattle.pc_sends.specs.Reach.{is_message};
 ghost use Rattle.pc_sends.specs.Reached as spec;
 
@@ -45,9 +45,9 @@ fn see_reached(
 ) -> Result<(), AllocError>
     requires lists { ListsMayBe noted.now.core.now noted.now.lists.now }
     requires reached { spec.IsReach noted.now.core.now noted.now.entities.now reached.now }
-    requires known { Known noted.now.core.now walk.old.calls walk.old.found }
+    requires known { CallsAreFound noted.now.core.now walk.old.calls walk.old.found }
     ensures grown { OnOk result (Grown (spec.ReachedUses noted.now.core.now noted.now.entities.now number) walk.old.found walk.new.found) }
-    ensures known { OnOk result (Known noted.now.core.now walk.new.calls walk.new.found) }
+    ensures known { OnOk result (CallsAreFound noted.now.core.now walk.new.calls walk.new.found) }
 {
     if reached.has(number) {
         walk.see_method(noted, number)
@@ -67,7 +67,7 @@ fn used_from(
     requires lists { ListsMayBe noted.now.core.now noted.now.lists.now }
     requires reached { spec.IsReach noted.now.core.now noted.now.entities.now reached.now }
     requires ordered { first ≤ end }
-    ensures { IfOk result (λ used. Grown (Turns (spec.ReachedUses noted.now.core.now noted.now.entities.now) first end) [] used) }
+    ensures { IfOk result (λ used. Grown (TurnsBelow (spec.ReachedUses noted.now.core.now noted.now.entities.now) first end) [] used) }
 {
     let mut walk = Walk::new(alloc);
     for number in first..end {

@@ -48,7 +48,7 @@ pub fn sends(alloc: Global, core: &Core, entities: &[Option<u32>]) -> Result<Tab
 
     // Over every list of actors, each frame is of a method that is reached, whatever is sent has its row, and no
     // message of a method that is never sent is in a mailbox.
-    ensures tells { IfOk result (λ table. (list : Sequence ℕ) → spec.Tells core.now table (after core.now list)) }
+    ensures tells { IfOk result (λ table. (list : Sequence ℕ) → spec.TableTells core.now table (after core.now list)) }
 {
     core.formed();
     held_covers();

@@ -95,9 +95,9 @@ fn find_targets(noted: &Noted, name: u32, known: u32, found: &mut Found) -> Resu
 // The same, unless such a call has been looked at already.
 fn see_call(noted: &Noted, name: u32, known: u32, walk: &mut Walk) -> Result<(), AllocError>
     requires lists { ListsMayBe noted.now.core.now noted.now.lists.now }
-    requires known { spec.Known noted.now.core.now walk.old.calls walk.old.found }
+    requires known { spec.CallsAreFound noted.now.core.now walk.old.calls walk.old.found }
     ensures grown { OnOk result (Grown (spec.MayCall noted.now.core.now name known) walk.old.found walk.new.found) }
-    ensures known { OnOk result (spec.Known noted.now.core.now walk.new.calls walk.new.found) }
+    ensures known { OnOk result (spec.CallsAreFound noted.now.core.now walk.new.calls walk.new.found) }
 {
     if walk.calls.has(name, known) {
         return Ok(());
@@ -110,7 +110,7 @@ fn see_call(noted: &Noted, name: u32, known: u32, walk: &mut Walk) -> Result<(),
 
 // The last of these numbers.
 fn last_of(children: &[u32]) -> Option<u32>
-    ensures { result ≡ spec.last_of children.now }
+    ensures { result ≡ spec.last_child_of children.now }
 {
     children.last().copied()
 }
@@ -132,9 +132,9 @@ fn noted_receiver(entities: &[Option<u32>], children: &[u32]) -> Option<u32>
 // Finds what a node may make, spawn or call.
 fn see_node(noted: &Noted, node: &Node, walk: &mut Walk) -> Result<(), AllocError>
     requires lists { ListsMayBe noted.now.core.now noted.now.lists.now }
-    requires known { spec.Known noted.now.core.now walk.old.calls walk.old.found }
+    requires known { spec.CallsAreFound noted.now.core.now walk.old.calls walk.old.found }
     ensures grown { OnOk result (Grown (spec.Aims noted.now.core.now noted.now.entities.now node.now.kind node.now.children) walk.old.found walk.new.found) }
-    ensures known { OnOk result (spec.Known noted.now.core.now walk.new.calls walk.new.found) }
+    ensures known { OnOk result (spec.CallsAreFound noted.now.core.now walk.new.calls walk.new.found) }
 {
     match node.kind {
         NodeKind::New(number) => walk.found.add(number),
@@ -170,9 +170,9 @@ fn see_node(noted: &Noted, node: &Node, walk: &mut Walk) -> Result<(), AllocErro
 // Finds what these nodes may make, spawn or call.
 fn see_nodes(noted: &Noted, nodes: &[Node], walk: &mut Walk) -> Result<(), AllocError>
     requires lists { ListsMayBe noted.now.core.now noted.now.lists.now }
-    requires known { spec.Known noted.now.core.now walk.old.calls walk.old.found }
+    requires known { spec.CallsAreFound noted.now.core.now walk.old.calls walk.old.found }
     ensures grown { OnOk result (Grown (OfSome (λ x t. spec.Aims noted.now.core.now noted.now.entities.now x.kind x.children t) nodes.now) walk.old.found walk.new.found) }
-    ensures known { OnOk result (spec.Known noted.now.core.now walk.new.calls walk.new.found) }
+    ensures known { OnOk result (spec.CallsAreFound noted.now.core.now walk.new.calls walk.new.found) }
 {
     for node in nodes {
         see_node(noted, node, walk)?;
@@ -215,9 +215,9 @@ impl Walk {
     /// Finds what a method's nodes may make, spawn or call.
     pub(crate) fn see_method(&mut self, noted: &Noted, number: u32) -> Result<(), AllocError>
         requires lists { ListsMayBe noted.now.core.now noted.now.lists.now }
-        requires known { spec.Known noted.now.core.now self.old.calls self.old.found }
-        ensures grown { OnOk result (Grown (spec.Uses noted.now.core.now noted.now.entities.now number) self.old.found self.new.found) }
-        ensures known { OnOk result (spec.Known noted.now.core.now self.new.calls self.new.found) }
+        requires known { spec.CallsAreFound noted.now.core.now self.old.calls self.old.found }
+        ensures grown { OnOk result (Grown (spec.UsesMethod noted.now.core.now noted.now.entities.now number) self.old.found self.new.found) }
+        ensures known { OnOk result (spec.CallsAreFound noted.now.core.now self.new.calls self.new.found) }
     {
         noted.core.formed();
         match noted.core.method_at(number) {

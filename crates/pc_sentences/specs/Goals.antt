@@ -13,10 +13,10 @@ use Rattle.pc_parts.specs.Parts.{child_role, role_words}
 use Rattle.pc_rules.specs.Calls.{is_behaviour}
 use Rattle.pc_window.specs.Places.{piece_of}
 use Rattle.pc_window.specs.Quoting.{quoted}
-use Rattle.pc_words.specs.Caps.{cap_word, fitting, form_word, form_words, takes}
+use Rattle.pc_words.specs.Caps.{cap_word, fitting, form_word, form_words, takes_words}
 use Rattle.pc_words.specs.Forms.{name_text, with_article}
 use Rattle.pc_words.specs.Scene.{SceneData}
-use Rattle.pc_sentences.specs.Stop.{StopData, child_form, method_of, named, own_slot}
+use Rattle.pc_sentences.specs.Stop.{StopData, child_form, node_method, named_member, own_slot}
 
 -- The words for the child with this index.
 unfoldable pub part : StopData → ℕ → Text
@@ -33,7 +33,7 @@ param_by s None i = []
 param_by s (Some m) i = param_text s (slice_get m.params i)
 
 abbrev pub param_words : StopData → ℕ → Text
-param_words st i = codes "the parameter " ++ quoted (param_by st.scene (method_of st) i)
+param_words st i = codes "the parameter " ++ quoted (param_by st.scene (node_method st) i)
 
 abbrev pub field_goal : Text → Text
 field_goal name = codes "the field " ++ quoted name
@@ -70,19 +70,19 @@ is_sent (Some m) = is_behaviour m.kind
 
 abbrev pub sends_by : StopData → NodeKind → Bool
 sends_by st (node.Spawn m) = true
-sends_by st (node.Call name) = is_sent (method_of st)
+sends_by st (node.Call name) = is_sent (node_method st)
 sends_by st k = false
 
 -- The node sends its arguments.
-abbrev pub sends : StopData → Bool
-sends st = sends_by st st.at.kind
+abbrev pub sends_arguments : StopData → Bool
+sends_arguments st = sends_by st st.at.kind
 
 abbrev pub form_note : (sent : Bool) → Form → Text
 form_note sent f = if is_alias f then codes ", an alias," else (if sent && not (sendable_form f) then codes ", which is not sendable," else [])
 
 -- A form that was found, with a description.
 unfoldable pub found : StopData → Form → Text
-found st f = form_word f ++ form_note (sends st) f
+found st f = form_word f ++ form_note (sends_arguments st) f
 
 -- `R has the form F`
 unfoldable pub has_form : StopData → ℕ → Text
@@ -91,7 +91,7 @@ has_form st i = part st i ++ (codes " has the form " ++ form_word (child_form st
 -- ---- a form that does not fit
 
 unfoldable pub place_takes : StopData → ℕ → Cap → Text
-place_takes st i k = codes " and " ++ (goal st i ++ (codes ", " ++ (with_article (cap_word k) ++ (codes ", " ++ takes k))))
+place_takes st i k = codes " and " ++ (goal st i ++ (codes ", " ++ (with_article (cap_word k) ++ (codes ", " ++ takes_words k))))
 
 unfoldable pub part_unfit : StopData → ℕ → Cap → Text
 part_unfit st i k = part st i ++ (codes " has the form " ++ (found st (child_form st i) ++ place_takes st i k))
@@ -101,4 +101,4 @@ method_takes name k = codes ": " ++ (quoted name ++ (codes " takes its receiver 
 
 unfoldable pub receiver_unfit : StopData → ℕ → Cap → Text
 receiver_unfit st i k =
-    codes "the receiver has the form " ++ (form_word (child_form st i) ++ (codes ", which does not fit " ++ (cap_word k ++ method_takes (named st) k)))
+    codes "the receiver has the form " ++ (form_word (child_form st i) ++ (codes ", which does not fit " ++ (cap_word k ++ method_takes (named_member st) k)))

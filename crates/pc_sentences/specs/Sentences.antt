@@ -17,16 +17,17 @@ use Rattle.pc_lists.specs.Texts.{Text}
 use Rattle.pc_parts.specs.Parts.{child_role, shown_node}
 use Rattle.pc_parts.specs.declared.parts.Role.{Role}
 use Rattle.pc_parts.specs.declared.parts.Role.TheVariants as role
-use Rattle.pc_window.specs.Places.{place}
+use Rattle.pc_window.specs.Places.{line_and_column}
 use Rattle.pc_window.specs.Quoting.{piece, quoted}
 use Rattle.pc_words.specs.Caps.{cap_word, form_word}
-use Rattle.pc_words.specs.Forms.{entity, entity_name, name_text, with_article}
+use Rattle.pc_words.specs.Forms.{entity_words, entity_name, name_text, with_article}
 use Rattle.pc_words.specs.Lacks.{why_not_below}
-use Rattle.pc_words.specs.Methods.{method_name}
-use Rattle.pc_words.specs.Scene.{child, is_param, slot_type}
+use Rattle.pc_words.specs.Methods.{full_method_name}
+use Rattle.pc_words.specs.Scene.{child, is_param, noted_slot_type}
 use Rattle.pc_sentences.specs.Goals.{goal, has_form, part, part_unfit, receiver_unfit}
 use Rattle.pc_sentences.specs.Slots.{consumed_at, looped_field, lost_slot}
-use Rattle.pc_sentences.specs.Stop.{StopData, child_entity, child_form, child_type, method_of, named, own_entity, own_field, own_slot, receiver_index}
+use Rattle.pc_sentences.specs.Stop.{StopData, child_entity, child_form, child_type, node_method, named_member, own_entity, own_field_name, own_slot}
+use Rattle.pc_sentences.specs.Stop.{receiver_child_index}
 use Rattle.pc_sentences.specs.Untyped.{reason}
 
 -- ---- about a child
@@ -49,7 +50,8 @@ is_a st i = part st i ++ (codes " is " ++ with_article (child_entity st i))
 
 unfoldable pub not_under : StopData → ℕ → ℕ → Text
 not_under st i e =
-    is_a st i ++ (codes ", which is not below " ++ (entity st.scene.core e ++ (codes ", the entity of " ++ (goal st i ++ why_not st (child_type st i) e))))
+    is_a st i ++ (codes ", which is not below "
+        ++ (entity_words st.scene.core e ++ (codes ", the entity of " ++ (goal st i ++ why_not st (child_type st i) e))))
 
 abbrev pub unfit_by : StopData → ℕ → Cap → Role → Text
 unfit_by st i k role.Receiver = receiver_unfit st i k
@@ -68,7 +70,7 @@ not_just st i e = is_a st i ++ (codes ", and must be " ++ with_article (entity_n
 
 unfoldable pub consumed_words : StopData → Text → Option ℕ → Text
 consumed_words st name None = []
-consumed_words st name (Some at) = codes ": `consume " ++ (piece name ++ (codes "` stands at " ++ place st.scene.bytes at))
+consumed_words st name (Some at) = codes ": `consume " ++ (piece name ++ (codes "` stands at " ++ line_and_column st.scene.bytes at))
 
 unfoldable pub not_live : StopData → ℕ → Text
 not_live st k = quoted (own_slot st k) ++ (codes " is not live here" ++ consumed_words st (own_slot st k) (consumed_at st k))
@@ -86,7 +88,7 @@ used_word assigned = if assigned then codes "assigned" else codes "used"
 
 unfoldable pub not_reached : StopData → ℕ → Text
 not_reached st k =
-    quoted (own_slot st k) ++ (codes " comes from outside this recover, and " ++ (cap_or_none (slot_type st.scene st.at.method k)
+    quoted (own_slot st k) ++ (codes " comes from outside this recover, and " ++ (cap_or_none (noted_slot_type st.scene st.at.method k)
     ++ (codes " is not sendable: inside, only outer locals of iso, val or tag are " ++ used_word (is_assign st.at.kind))))
 
 abbrev pub fixed_word : (param : Bool) → Text
@@ -119,10 +121,10 @@ not_entering st = origin_words (child_form st 1) ++ (codes "; the value has the 
 
 abbrev pub method_or_none : CoreData → Option Method → Text
 method_or_none core None = []
-method_or_none core (Some m) = method_name core m
+method_or_none core (Some m) = full_method_name core m
 
 unfoldable pub no_function : StopData → Text
-no_function st = codes "`" ++ (method_or_none st.scene.core (method_of st) ++ codes "` is a constructor, not a function")
+no_function st = codes "`" ++ (method_or_none st.scene.core (node_method st) ++ codes "` is a constructor, not a function")
 
 abbrev pub name_or_none : CoreData → Option Method → Text
 name_or_none core None = []
@@ -135,28 +137,29 @@ is_builtin r = false
 abbrev pub builtin_count : ℕ → Text
 builtin_count given = codes "`string` of U64 and Bool takes no arguments, and " ++ (decimal given ++ codes " are given")
 
-abbrev pub method_count : Text → (given wanted : ℕ) → Text
-method_count name given wanted = quoted name ++ (codes " takes " ++ (decimal wanted ++ (codes " arguments, and " ++ (decimal given ++ codes " are given"))))
+abbrev pub argument_count_words : Text → (given wanted : ℕ) → Text
+argument_count_words name given wanted =
+    quoted name ++ (codes " takes " ++ (decimal wanted ++ (codes " arguments, and " ++ (decimal given ++ codes " are given"))))
 
 unfoldable pub miscounted : StopData → Rule → (given wanted : ℕ) → Text
-miscounted st r given wanted = if is_builtin r then builtin_count given else method_count (name_or_none st.scene.core (method_of st)) given wanted
+miscounted st r given wanted = if is_builtin r then builtin_count given else argument_count_words (name_or_none st.scene.core (node_method st)) given wanted
 
 unfoldable pub not_lent : StopData → Cap → Text
-not_lent st k = quoted (named st) ++ (codes " takes its receiver as " ++ (cap_word k ++ codes ", and a receiver can be lent only as ref or box"))
+not_lent st k = quoted (named_member st) ++ (codes " takes its receiver as " ++ (cap_word k ++ codes ", and a receiver can be lent only as ref or box"))
 
 unfoldable pub not_sent : StopData → ℕ → Cap → Text
 not_sent st i k =
     has_form st i ++ (codes " and goes to a " ++ (cap_word k
     ++ codes " parameter: beside a lent receiver an argument must have the form iso^, iso, val or tag, or go to a parameter of iso, val or tag"))
 
-abbrev pub cap_text : Option Cap → Text
-cap_text None = []
-cap_text (Some k) = cap_word k
+abbrev pub optional_cap_text : Option Cap → Text
+optional_cap_text None = []
+optional_cap_text (Some k) = cap_word k
 
 unfoldable pub not_lifted : StopData → Option Cap → Text
 not_lifted st k =
     has_form st 0 ++ (codes ", which a recover lifts to " ++ (form_word (lift (child_form st 0)) ++ (codes ", and " ++ (form_word (lift (child_form st 0))
-    ++ (codes " does not fit " ++ cap_text k)))))
+    ++ (codes " does not fit " ++ optional_cap_text k)))))
 
 -- ---- with more words
 
@@ -171,38 +174,39 @@ name_and name words = quoted name ++ words
 
 -- ---- each of them
 
-abbrev pub said : StopData → Rule → Condition → Text
-said st r (asks.Typed i) = untyped st i
-said st r (asks.Under i e) = not_under st i e
-said st r (asks.Fits i k) = unfit st i k
-said st r (asks.Below i f) = not_below st i f
-said st r (asks.IsA i e) = not_just st i e
-said st r (asks.Comparable i) = is_a_and st i (codes ": `==` compares two U64, two Bool or two String")
-said st r (asks.Printable i) = is_a_and st i (codes ", and must be a U64 or a Bool, or have a method `string`")
-said st r (asks.Readable i) = form_and st i (codes ", which is not readable: its form must be below box")
-said st r (asks.Live k) = not_live st k
-said st r (asks.Reached k) = not_reached st k
-said st r (asks.Variable k) = not_variable st k
-said st r (asks.HasField i name) = has_none (child_entity st i) (codes "field") (name_text st.scene.core name)
-said st r (asks.HasOwnField name) = has_none (own_entity st) (codes "field") (name_text st.scene.core name)
-said st r (asks.Seen i k) = form_and st i (codes ", and nothing can be read through it")
-said st r (asks.NotFixed b) = field_words (named st) (codes " is a `let`, which only a constructor can write, and only once")
-said st r (asks.Writable i k) = form_and st i (codes ", and nothing can be written through it: only through iso, trn and ref")
-said st r (asks.Enters k) = not_entering st
-said st r (asks.Set i) = field_words (own_field st i) (codes " is not set here: a constructor can read a field only once it is set on every path")
-said st r (asks.SetOnce b i) = field_words (own_field st i) (codes " is a `let` and is already set here")
-said st r (asks.HasMethod name) = has_none (child_entity st (receiver_index st)) (codes "method") (name_text st.scene.core name)
-said st r (asks.Function k) = no_function st
-said st r (asks.Behaviour k) = []
-said st r (asks.Counted given wanted) = miscounted st r given wanted
-said st r (asks.Unfit i k) = []
-said st r (asks.Isolated i) = form_and st i (codes ", and only an iso or a trn can be lent")
-said st r (asks.Lent k) = not_lent st k
-said st r (asks.Sent i k) = not_sent st i k
-said st r asks.KeepsLive = name_and (own_slot st (lost_slot st)) (codes " is live before the loop but not after its body, so the next turn could not use it")
-said st r asks.KeepsSet = field_words (own_field st (looped_field st)) (codes " is set in the loop, which may run no turn or several")
-said st r (asks.Lifted k) = not_lifted st k
+abbrev pub sentence_of : StopData → Rule → Condition → Text
+sentence_of st r (asks.Typed i) = untyped st i
+sentence_of st r (asks.Under i e) = not_under st i e
+sentence_of st r (asks.Fits i k) = unfit st i k
+sentence_of st r (asks.Below i f) = not_below st i f
+sentence_of st r (asks.IsA i e) = not_just st i e
+sentence_of st r (asks.Comparable i) = is_a_and st i (codes ": `==` compares two U64, two Bool or two String")
+sentence_of st r (asks.Printable i) = is_a_and st i (codes ", and must be a U64 or a Bool, or have a method `string`")
+sentence_of st r (asks.Readable i) = form_and st i (codes ", which is not readable: its form must be below box")
+sentence_of st r (asks.Live k) = not_live st k
+sentence_of st r (asks.Reached k) = not_reached st k
+sentence_of st r (asks.Variable k) = not_variable st k
+sentence_of st r (asks.HasField i name) = has_none (child_entity st i) (codes "field") (name_text st.scene.core name)
+sentence_of st r (asks.HasOwnField name) = has_none (own_entity st) (codes "field") (name_text st.scene.core name)
+sentence_of st r (asks.Seen i k) = form_and st i (codes ", and nothing can be read through it")
+sentence_of st r (asks.NotFixed b) = field_words (named_member st) (codes " is a `let`, which only a constructor can write, and only once")
+sentence_of st r (asks.Writable i k) = form_and st i (codes ", and nothing can be written through it: only through iso, trn and ref")
+sentence_of st r (asks.Enters k) = not_entering st
+sentence_of st r (asks.Set i) = field_words (own_field_name st i) (codes " is not set here: a constructor can read a field only once it is set on every path")
+sentence_of st r (asks.SetOnce b i) = field_words (own_field_name st i) (codes " is a `let` and is already set here")
+sentence_of st r (asks.HasMethod name) = has_none (child_entity st (receiver_child_index st)) (codes "method") (name_text st.scene.core name)
+sentence_of st r (asks.Function k) = no_function st
+sentence_of st r (asks.Behaviour k) = []
+sentence_of st r (asks.Counted given wanted) = miscounted st r given wanted
+sentence_of st r (asks.Unfit i k) = []
+sentence_of st r (asks.Isolated i) = form_and st i (codes ", and only an iso or a trn can be lent")
+sentence_of st r (asks.Lent k) = not_lent st k
+sentence_of st r (asks.Sent i k) = not_sent st i k
+sentence_of st r asks.KeepsLive =
+    name_and (own_slot st (lost_slot st)) (codes " is live before the loop but not after its body, so the next turn could not use it")
+sentence_of st r asks.KeepsSet = field_words (own_field_name st (looped_field st)) (codes " is set in the loop, which may run no turn or several")
+sentence_of st r (asks.Lifted k) = not_lifted st k
 
 -- The sentence of a reason.
 unfoldable pub sentence : StopData → Reason → Text
-sentence st r = said st r.rule r.condition
+sentence st r = sentence_of st r.rule r.condition

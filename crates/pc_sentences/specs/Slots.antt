@@ -40,8 +40,8 @@ note_in st None = None
 note_in st (Some c) = slice_get st.scene.notes c
 
 -- The note of a loop's body.
-abbrev pub body_note : StopData → Option Note
-body_note st = note_in st (child st.at 1)
+abbrev pub loop_body_note : StopData → Option Note
+loop_body_note st = note_in st (child st.at 1)
 
 abbrev pub live_after : StopData → Option Note → Mask
 live_after st None = st.live
@@ -59,8 +59,8 @@ differs before after k = if has before k then not (has after k) else has after k
 
 -- The first slot that is live before a loop, but not after its body.
 unfoldable pub lost_slot : StopData → ℕ
-lost_slot st = least (is_lost st.live (live_after st (body_note st))) slot_limit 0
+lost_slot st = least (is_lost st.live (live_after st (loop_body_note st))) slot_limit 0
 
 -- The first field that is set in the loop's body.
 unfoldable pub looped_field : StopData → ℕ
-looped_field st = least (differs st.set (set_after st (body_note st))) field_limit 0
+looped_field st = least (differs st.set (set_after st (loop_body_note st))) field_limit 0

@@ -11,8 +11,8 @@ use Rattle.pc_lists.specs.Texts.{Text}
 use Rattle.pc_rules.specs.Parts.{last_child}
 use Rattle.pc_window.specs.Quoting.{quoted}
 use Rattle.pc_words.specs.Forms.{name_text, type_words}
-use Rattle.pc_words.specs.Scene.{SceneData, child, slot_name, type_of}
-use Rattle.pc_parts.specs.Members.{callee}
+use Rattle.pc_words.specs.Scene.{SceneData, child, slot_name, noted_type}
+use Rattle.pc_parts.specs.Members.{node_callee}
 use Rattle.pc_sentences.specs.declared.untyped.Step.{Step}
 use Rattle.pc_sentences.specs.declared.untyped.Step.TheVariants as step
 
@@ -26,16 +26,16 @@ item_step (Some c) = Some (step.LastItem c)
 abbrev pub branch_step : SceneData → Option ℕ → Option ℕ → Option Step
 branch_step s None b = None
 branch_step s (Some a) None = None
-branch_step s (Some a) (Some b) = if is_none (type_of s a) then Some (step.FirstBranch a) else (if is_none (type_of s b) then Some (step.SecondBranch b) else None)
+branch_step s (Some a) (Some b) = if is_none (noted_type s a) then Some (step.FirstBranch a) else (if is_none (noted_type s b) then Some (step.SecondBranch b) else None)
 
 abbrev pub step_by : SceneData → Node → NodeKind → Option Step
 step_by s x node.Seq = item_step (last_child x.children)
 step_by s x node.If = branch_step s (child x 1) (child x 2)
 step_by s x k = None
 
-abbrev pub step_of : SceneData → Option Node → Option Step
-step_of s None = None
-step_of s (Some x) = step_by s x x.kind
+abbrev pub untyped_step : SceneData → Option Node → Option Step
+untyped_step s None = None
+untyped_step s (Some x) = step_by s x x.kind
 
 abbrev pub step_words : Step → Text
 step_words (step.LastItem c) = codes "its last item has none: "
@@ -55,7 +55,7 @@ result_words core (Some m) = codes " " ++ type_words core m.result
 
 unfoldable pub lent_reason : SceneData → Node → ℕ → Text
 lent_reason s x name =
-    codes "the receiver is lent to " ++ (quoted (name_text s.core name) ++ (codes ", and its result" ++ (result_words s.core (callee s x name) ++ codes " is not sendable")))
+    codes "the receiver is lent to " ++ (quoted (name_text s.core name) ++ (codes ", and its result" ++ (result_words s.core (node_callee s x name) ++ codes " is not sendable")))
 
 abbrev pub assign_reason : Text → Text
 assign_reason name = quoted name ++ codes " holds nothing before this assignment, so there is no old value"
@@ -69,7 +69,7 @@ type_or_none core (Some ty) = type_words core ty
 
 abbrev pub branch_words : SceneData → Option ℕ → Text
 branch_words s None = []
-branch_words s (Some c) = type_or_none s.core (type_of s c)
+branch_words s (Some c) = type_or_none s.core (noted_type s c)
 
 unfoldable pub branches_reason : SceneData → Node → Text
 branches_reason s x =
@@ -98,7 +98,7 @@ step_from n (Some t) = step_to t
 -- At most `depth` steps to the part because of which node n has no type, and then that part's own reason.
 abbrev pub reason_from : SceneData → (depth : ℕ) → ℕ → Text
 reason_from s zero n = own_reason s (slice_get s.core.nodes n)
-reason_from s (suc d) n = step_text (step_of s (slice_get s.core.nodes n)) ++ reason_from s d (step_from n (step_of s (slice_get s.core.nodes n)))
+reason_from s (suc d) n = step_text (untyped_step s (slice_get s.core.nodes n)) ++ reason_from s d (step_from n (untyped_step s (slice_get s.core.nodes n)))
 
 unfoldable pub reason : SceneData → ℕ → Text
 reason s n = reason_from s (length s.core.nodes) n

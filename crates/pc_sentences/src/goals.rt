@@ -123,7 +123,7 @@ fn is_sent(method: Option<&Method>) -> bool
 
 // Whether the node sends its arguments.
 fn sends(stop: &Stop) -> bool
-    ensures { result ≡ spec.sends stop.now }
+    ensures { result ≡ spec.sends_arguments stop.now }
 {
     match &stop.node().kind {
         NodeKind::Spawn(_) => true,

@@ -388,7 +388,7 @@ fn push_method_count(
     given: usize,
     wanted: usize,
 ) -> Result<(), AllocError>
-    ensures { OnOk result (out.new.items ≡ out.old.items ++ spec.method_count name.now given wanted) }
+    ensures { OnOk result (out.new.items ≡ out.old.items ++ spec.argument_count_words name.now given wanted) }
 {
     push_quoted(alloc, out, name)?;
     push_bytes(out, b" takes ")?;
@@ -447,7 +447,7 @@ fn push_not_sent(
 }
 
 fn cap_text(cap: Option<Cap>) -> &'static [u8]
-    ensures { result.now ≡ spec.cap_text cap }
+    ensures { result.now ≡ spec.optional_cap_text cap }
 {
     match cap {
         Some(found) => cap_word(found),

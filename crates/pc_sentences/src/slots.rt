@@ -89,7 +89,7 @@ fn note_in(stop: &Stop, node: Option<u32>) -> Option<Note>
 
 // The note of a loop's body.
 fn body_note(stop: &Stop) -> Option<Note>
-    ensures { result ≡ spec.body_note stop.now }
+    ensures { result ≡ spec.loop_body_note stop.now }
 {
     note_in(stop, child(stop.node(), 1))
 }

@@ -117,15 +117,15 @@ impl<'a> Stop<'a> {
 
     /// The index of a call's receiver.
     pub fn receiver_index(&self) -> usize
-        ensures { result ≡ spec.receiver_index self.now }
+        ensures { result ≡ spec.receiver_child_index self.now }
     {
         self.node.children.len().saturating_sub(1)
     }
 
     /// The method whose parameters the arguments go to.
-    #[tactic(auto, unfolding(crate::specs::Stop::method_of))]
+    #[tactic(auto, unfolding(crate::specs::Stop::node_method))]
     pub fn method(&self) -> Option<&'a Method>
-        ensures { option_copied result ≡ spec.method_of self.now }
+        ensures { option_copied result ≡ spec.node_method self.now }
     {
         match &self.node.kind {
             NodeKind::New(method) | NodeKind::Spawn(method) => {
@@ -165,9 +165,9 @@ impl<'a> Stop<'a> {
     }
 
     /// The name of the field or the method that the node names.
-    #[tactic(auto, unfolding(crate::specs::Stop::named))]
+    #[tactic(auto, unfolding(crate::specs::Stop::named_member))]
     pub fn named(&self) -> &'a [u8]
-        ensures { result.now ≡ spec.named self.now }
+        ensures { result.now ≡ spec.named_member self.now }
     {
         name_text(self.scene.core(), name_by(&self.node.kind))
     }
@@ -184,9 +184,9 @@ impl<'a> Stop<'a> {
     }
 
     /// The name of the field with this index of its method's entity.
-    #[tactic(auto, unfolding(crate::specs::Stop::own_field))]
+    #[tactic(auto, unfolding(crate::specs::Stop::own_field_name))]
     pub fn own_field(&self, field: u32) -> &'a [u8]
-        ensures { result.now ≡ spec.own_field self.now field }
+        ensures { result.now ≡ spec.own_field_name self.now field }
     {
         let core = self.scene.core();
         match core.method_at(self.node.method) {
@@ -228,7 +228,7 @@ fn name_by(kind: &NodeKind) -> u32
 
 // The name of the field with this index of an entity.
 fn field_in<'a>(core: &'a Core, entity: &EntityDef, field: u32) -> &'a [u8]
-    ensures { result.now ≡ spec.field_in core.now (Some entity.now) field }
+    ensures { result.now ≡ spec.field_text_in core.now (Some entity.now) field }
 {
     match entity.fields.get(field as usize) {
         Some(found) => name_text(core, found.name),
@@ -238,7 +238,7 @@ fn field_in<'a>(core: &'a Core, entity: &EntityDef, field: u32) -> &'a [u8]
 
 // The same for the entity with this number.
 fn field_at(core: &Core, entity: u32, field: u32) -> &[u8]
-    ensures { result.now ≡ spec.field_in core.now (slice_get core.now.entities entity) field }
+    ensures { result.now ≡ spec.field_text_in core.now (slice_get core.now.entities entity) field }
 {
     match core.entity_at(entity) {
         Some(found) => field_in(core, found, field),

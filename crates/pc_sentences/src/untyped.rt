@@ -82,7 +82,7 @@ fn step_by(scene: &Scene, node: &Node) -> Option<Step>
 
 // The step from the node with this number.
 fn step_of(scene: &Scene, node: u32) -> Option<Step>
-    ensures { result ≡ spec.step_of scene.now (slice_get scene.now.core.nodes node) }
+    ensures { result ≡ spec.untyped_step scene.now (slice_get scene.now.core.nodes node) }
 {
     match scene.core().node_at(node) {
         Some(found) => step_by(scene, found),

@@ -28,7 +28,7 @@ parameters_pass xs ys n i x same l e h = sym (ap (λ zs. slice_get (spec.paramet
 -- ---- the methods of a trait or an interface
 
 abbrev pub method_faults : CoreData → ℕ → ℕ → Method → List DeclFault
-method_faults core e n t = conform.method_faults core e n t (conform.method_like core e t)
+method_faults core e n t = conform.conformance_faults core e n t (conform.method_like core e t)
 
 pub methods_stop : (core : CoreData) (e : ℕ) (xs : List Method) (n i : ℕ) (x : Method) (f : DeclFault) → i < length xs → x ≡ get_or xs i x → slice_get (method_faults core e n x) 0 ≡ Some f → slice_get (conform.trait_faults core e n (drop i xs)) 0 ≡ Some f
 methods_stop core e xs n i x f l g h = ap (λ ys. slice_get (conform.trait_faults core e n ys) 0) (item_first xs i x l g) ∙ stopped (method_faults core e n x) _ f h
@@ -53,14 +53,14 @@ traits_pass core e xs i b l g h = sym (ap (λ ys. slice_get (spec.list_faults co
 
 -- ---- the entities
 
-pub entities_stop : (core : CoreData) (xs ys : List EntityDef) (n i : ℕ) (x : EntityDef) (f : DeclFault) (bs : List ℕ) → ys ≡ xs → i < length ys → x ≡ get_or ys i x → bs ≡ x.provides → slice_get (spec.list_faults core n bs) 0 ≡ Some f → slice_get (spec.entity_faults core n (drop i xs)) 0 ≡ Some f
+pub entities_stop : (core : CoreData) (xs ys : List EntityDef) (n i : ℕ) (x : EntityDef) (f : DeclFault) (bs : List ℕ) → ys ≡ xs → i < length ys → x ≡ get_or ys i x → bs ≡ x.provides → slice_get (spec.list_faults core n bs) 0 ≡ Some f → slice_get (spec.core_entity_faults core n (drop i xs)) 0 ≡ Some f
 entities_stop core xs ys n i x f bs same l g own h =
-    ap (λ zs. slice_get (spec.entity_faults core n zs) 0) (from_seen xs ys i x same l g)
+    ap (λ zs. slice_get (spec.core_entity_faults core n zs) 0) (from_seen xs ys i x same l g)
     ∙ stopped (spec.list_faults core n x.provides) _ f (subst (λ cs. slice_get (spec.list_faults core n cs) 0 ≡ Some f) own h)
 
-pub entities_pass : (core : CoreData) (xs ys : List EntityDef) (n i : ℕ) (x : EntityDef) (bs : List ℕ) → ys ≡ xs → i < length ys → x ≡ get_or ys i x → bs ≡ x.provides → slice_get (spec.list_faults core n bs) 0 ≡ None → slice_get (spec.entity_faults core (n + 1) (drop (i + 1) xs)) 0 ≡ slice_get (spec.entity_faults core n (drop i xs)) 0
+pub entities_pass : (core : CoreData) (xs ys : List EntityDef) (n i : ℕ) (x : EntityDef) (bs : List ℕ) → ys ≡ xs → i < length ys → x ≡ get_or ys i x → bs ≡ x.provides → slice_get (spec.list_faults core n bs) 0 ≡ None → slice_get (spec.core_entity_faults core (n + 1) (drop (i + 1) xs)) 0 ≡ slice_get (spec.core_entity_faults core n (drop i xs)) 0
 entities_pass core xs ys n i x bs same l g own h =
-    sym (ap (λ zs. slice_get (spec.entity_faults core n zs) 0) (from_seen xs ys i x same l g)
+    sym (ap (λ zs. slice_get (spec.core_entity_faults core n zs) 0) (from_seen xs ys i x same l g)
     ∙ passed (spec.list_faults core n x.provides) _ (subst (λ cs. slice_get (spec.list_faults core n cs) 0 ≡ None) own h))
 
 -- ---- fewer parameters than the declared method

@@ -51,14 +51,14 @@ method_like core e t = do
   if same_kind y.kind t.kind then Some (m, y) else None
 
 -- The fault of entity e at method t of a trait or an interface, which has this number.
-abbrev pub method_faults : CoreData → (entity number : ℕ) → Method → Option (ℕ × Method) → List DeclFault
-method_faults core e n t None = fault.MissingMethod e n ∷ []
-method_faults core e n t (Some y) = if stands_for core t y.1 then [] else fault.Mismatch e y.0 ∷ []
+abbrev pub conformance_faults : CoreData → (entity number : ℕ) → Method → Option (ℕ × Method) → List DeclFault
+conformance_faults core e n t None = fault.MissingMethod e n ∷ []
+conformance_faults core e n t (Some y) = if stands_for core t y.1 then [] else fault.Mismatch e y.0 ∷ []
 
 -- Methods of a trait or an interface, from number n on.
 abbrev pub trait_faults : CoreData → (entity number : ℕ) → List Method → List DeclFault
 trait_faults core e n [] = []
-trait_faults core e n (t ∷ ts) = method_faults core e n t (method_like core e t) ++ trait_faults core e (n + 1) ts
+trait_faults core e n (t ∷ ts) = conformance_faults core e n t (method_like core e t) ++ trait_faults core e (n + 1) ts
 
 abbrev pub conform_faults : CoreData → ℕ → Option EntityDef → List DeclFault
 conform_faults core e None = []

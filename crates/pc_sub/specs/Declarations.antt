@@ -67,14 +67,14 @@ list_faults core e [] = []
 list_faults core e (b ∷ bs) = conform_faults core e (slice_get core.entities b) ++ list_faults core e bs
 
 -- Entities, from number e on.
-abbrev pub entity_faults : CoreData → ℕ → List EntityDef → List DeclFault
-entity_faults core e [] = []
-entity_faults core e (x ∷ xs) = list_faults core e x.provides ++ entity_faults core (e + 1) xs
+abbrev pub core_entity_faults : CoreData → ℕ → List EntityDef → List DeclFault
+core_entity_faults core e [] = []
+core_entity_faults core e (x ∷ xs) = list_faults core e x.provides ++ core_entity_faults core (e + 1) xs
 
 -- First the parameters, method by method, then the traits and interfaces, entity by entity.
-abbrev pub declaration_faults : CoreData → List DeclFault
-declaration_faults core = parameter_faults 0 core.methods ++ entity_faults core 0 core.entities
+abbrev pub core_declaration_faults : CoreData → List DeclFault
+core_declaration_faults core = parameter_faults 0 core.methods ++ core_entity_faults core 0 core.entities
 
 -- The first declaration that fails, or none.
 abbrev pub first_fault : CoreData → Option DeclFault
-first_fault core = slice_get (declaration_faults core) 0
+first_fault core = slice_get (core_declaration_faults core) 0

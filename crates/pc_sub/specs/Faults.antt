@@ -183,7 +183,7 @@ one_method core e name m k f h i =
     let lower = b.0 in
     omega (arith, same, low, lower)
 
-like_has : (core : CoreData) (e n : ℕ) (t : Method) (o : Option (ℕ × Method)) → Formed core → conform.method_like core e t ≡ o → Clean (conform.method_faults core e n t o) → HasFor core e t
+like_has : (core : CoreData) (e n : ℕ) (t : Method) (o : Option (ℕ × Method)) → Formed core → conform.method_like core e t ≡ o → Clean (conform.conformance_faults core e n t o) → HasFor core e t
 like_has core e n t None f g c = absurd (none-some (fault.MissingMethod e n) (sym c))
 like_has core e n t (Some z) f g c =
     let a = bind_some (method_named core e t.name) _ z g in
@@ -205,10 +205,10 @@ named : (core : CoreData) (e name m : ℕ) (o : Option ℕ) → Formed core → 
 named core e name m None f g h = absurd (method_missed core e name f g m (get_below core.methods m h.0 h.1) h)
 named core e name m (Some k) f g h = ap Some (one_method core e name k m f (method_found core e name k f g) h)
 
-has_like : (core : CoreData) (e n : ℕ) (t : Method) → Formed core → HasFor core e t → Clean (conform.method_faults core e n t (conform.method_like core e t))
+has_like : (core : CoreData) (e n : ℕ) (t : Method) → Formed core → HasFor core e t → Clean (conform.conformance_faults core e n t (conform.method_like core e t))
 has_like core e n t f h =
     let g : method_named core e t.name ≡ Some h.0 = named core e t.name h.0 (method_named core e t.name) f refl h.2 in
-    subst (λ o. Clean (conform.method_faults core e n t o)) (sym (named_like core e h.0 t h.1 g h.3 h.4))
+    subst (λ o. Clean (conform.conformance_faults core e n t o)) (sym (named_like core e h.0 t h.1 g h.3 h.4))
     (held (conform.stands_for core t h.1) _ (stood core t h.1 f h.5))
 
 -- ---- traits and interfaces
@@ -240,7 +240,7 @@ list_conformed core e [] f h = refl
 list_conformed core e (a ∷ bs) f h = together _ _ (conformed core e a (slice_get core.entities a) f refl (h 0 a refl)) (list_conformed core e bs f (λ i b g. h (suc i) b g))
 
 -- Entities, from number n on.
-all_conform : (core : CoreData) (n : ℕ) (xs : List EntityDef) → Formed core → Clean (spec.entity_faults core n xs) → Each (λ e x. Each (λ i b. Conforms core (n + e) b) x.provides) xs
+all_conform : (core : CoreData) (n : ℕ) (xs : List EntityDef) → Formed core → Clean (spec.core_entity_faults core n xs) → Each (λ e x. Each (λ i b. Conforms core (n + e) b) x.provides) xs
 all_conform core n [] f c e x g = absurd (none-some x g)
 all_conform core n (y ∷ ys) f c zero x g =
     let at : n ≡ n + 0 = omega arith in
@@ -250,7 +250,7 @@ all_conform core n (y ∷ ys) f c (suc e) x g =
     let at : n + 1 + e ≡ n + suc e = omega arith in
     subst (λ k. Each (λ i b. Conforms core k b) x.provides) at (all_conform core (n + 1) ys f (both _ _ c).1 e x g)
 
-conform_all : (core : CoreData) (n : ℕ) (xs : List EntityDef) → Formed core → Each (λ e x. Each (λ i b. Conforms core (n + e) b) x.provides) xs → Clean (spec.entity_faults core n xs)
+conform_all : (core : CoreData) (n : ℕ) (xs : List EntityDef) → Formed core → Each (λ e x. Each (λ i b. Conforms core (n + e) b) x.provides) xs → Clean (spec.core_entity_faults core n xs)
 conform_all core n [] f h = refl
 conform_all core n (y ∷ ys) f h =
     let at : n + 0 ≡ n = omega arith in
@@ -261,9 +261,9 @@ conform_all core n (y ∷ ys) f h =
 
 pub fits_without_fault : NoFaultWhereFit
 fits_without_fault core f = (
-  λ c. let k = both (spec.parameter_faults 0 core.methods) (spec.entity_faults core 0 core.entities) c in
+  λ c. let k = both (spec.parameter_faults 0 core.methods) (spec.core_entity_faults core 0 core.entities) c in
       record { sendable = takes_all 0 core.methods k.0; conform = λ e x g. let at : 0 + e ≡ e = omega arith in subst (λ n. Each (λ i b. Conforms core n b) x.provides) at (all_conform core 0 core.entities f k.1 e x g) },
-  λ d. together (spec.parameter_faults 0 core.methods) (spec.entity_faults core 0 core.entities) (all_take 0 core.methods d.sendable) (conform_all core 0 core.entities f (λ e x g. let at : e ≡ 0 + e = omega arith in subst (λ n. Each (λ i b. Conforms core n b) x.provides) at (d.conform e x g))),
+  λ d. together (spec.parameter_faults 0 core.methods) (spec.core_entity_faults core 0 core.entities) (all_take 0 core.methods d.sendable) (conform_all core 0 core.entities f (λ e x g. let at : e ≡ 0 + e = omega arith in subst (λ n. Each (λ i b. Conforms core n b) x.provides) at (d.conform e x g))),
 )
 
 -- If a declaration fails, the declarations do not fit.

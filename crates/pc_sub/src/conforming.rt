@@ -32,7 +32,7 @@ fn nothing_is_wrong(core: &Core, entity: u32, above: u32) -> bool
 
 // The fault of an entity at a declared method, which has this number.
 fn method_fault(core: &Core, entity: u32, number: u32, wanted: &Method) -> Option<DeclFault>
-    ensures { result ≡ slice_get (spec.method_faults core.now entity number wanted.now (spec.method_like core.now entity wanted.now)) 0 }
+    ensures { result ≡ slice_get (spec.conformance_faults core.now entity number wanted.now (spec.method_like core.now entity wanted.now)) 0 }
 {
     let missing = DeclFault::MissingMethod {
         entity,

@@ -21,7 +21,7 @@ fn list_fault(core: &Core, entity: u32, traits: &[u32]) -> Option<DeclFault>
 
 // The first fault of all entities at the traits and interfaces of their `is` lists.
 pub(crate) fn entity_fault(core: &Core) -> Option<DeclFault>
-    ensures { result ≡ slice_get (spec.entity_faults core.now 0 core.now.entities) 0 }
+    ensures { result ≡ slice_get (spec.core_entity_faults core.now 0 core.now.entities) 0 }
 {
     core.formed();
     let mut number = 0;

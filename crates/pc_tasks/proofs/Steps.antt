@@ -14,7 +14,7 @@ use Rattle.pc_semantics.specs.Configurations.{Configuration, with_objects, with_
 use Rattle.pc_semantics.specs.Around.{Move, Stuck, Overflows, Goes, Writes, Makes, Spawns, Enters, Sends, Leaves, with_tasks}
 use Rattle.pc_semantics.specs.Tasks.{task_move}
 use Rattle.pc_semantics.specs.Step.{around, made, run_task, run_frames, step_of, step}
-use Rattle.pc_tasks.specs.Inside.{IsInside, Inside, ended, first_move}
+use Rattle.pc_tasks.specs.Inside.{IsInside, StaysInside, ended, first_move}
 
 -- Nothing changes if the objects and the frames are unchanged.
 unmoved : (c : Configuration) (i : ℕ) (a : Actor) (f : Frame) (fs : List Frame) → slice_get c.actors i ≡ Some a → a.frames ≡ f ∷ fs → with_frames (with_objects c c.objects) i a (f ∷ fs) ≡ c
@@ -44,7 +44,7 @@ run_first core c i a f fs [] e h = absurd h
 run_first core c i a f fs (t ∷ ts) e h = ap (λ xs. made c i a fs (task_move core (around c i) (with_tasks f (drop 1 xs)) t)) (sym e)
 
 -- The step of an actor whose innermost frame has a task that stays inside it.
-pub inside_step : (core : CoreData) (c : Configuration) (i : ℕ) (a : Actor) (f g : Frame) (fs : List Frame) (o : Outcome) (objects : ObjectMap) → slice_get c.actors i ≡ Some a → a.frames ≡ f ∷ fs → IsInside (slice_get f.tasks 0) → Inside core c.objects f o objects g → step core c i ≡ (o, with_frames (with_objects c objects) i a (g ∷ fs))
+pub inside_step : (core : CoreData) (c : Configuration) (i : ℕ) (a : Actor) (f g : Frame) (fs : List Frame) (o : Outcome) (objects : ObjectMap) → slice_get c.actors i ≡ Some a → a.frames ≡ f ∷ fs → IsInside (slice_get f.tasks 0) → StaysInside core c.objects f o objects g → step core c i ≡ (o, with_frames (with_objects c objects) i a (g ∷ fs))
 inside_step core c i a f g fs o objects here e h s =
     ap (step_of core c i) here ∙ ap (run_frames core c i a) e
     ∙ run_first core c i a f fs f.tasks refl h

@@ -17,7 +17,7 @@ use Rattle.pc_core.specs.Lookup.{field_name, field_named}
 use Rattle.pc_core.specs.declared.declarations.EntityDef.{EntityDef}
 use Rattle.pc_semantics.specs.declared.frames.Frame.{Frame}
 use Rattle.pc_semantics.specs.Around.{with_stack, with_top, pop}
-use Rattle.pc_semantics.specs.Configurations.{fields_in}
+use Rattle.pc_semantics.specs.Configurations.{number_of_fields}
 use Rattle.pc_semantics.specs.Fields.{put_value, put_field, put_of, put_into}
 use Rattle.pc_semantics.specs.declared.ahead.Ahead.TheVariants as ahead
 use Rattle.pc_semantics.specs.Ahead.{by_move}
@@ -26,7 +26,7 @@ use Rattle.pc_tasks.specs.Inside.{seeing}
 
 -- ---- a place for the field
 
-place_in : (core : CoreData) (o : Object) (name i : ℕ) (x : Option EntityDef) → length o.fields ≡ fields_in x → (x >>= (λ e. place_of field_name name e.fields 0)) ≡ Some i → i < length o.fields
+place_in : (core : CoreData) (o : Object) (name i : ℕ) (x : Option EntityDef) → length o.fields ≡ number_of_fields x → (x >>= (λ e. place_of field_name name e.fields 0)) ≡ Some i → i < length o.fields
 place_in core o name i None count e = absurd (none-some i e)
 place_in core o name i (Some x) count e =
     let r = place_found field_name name x.fields 0 i e in

@@ -5,11 +5,11 @@ use Rattle.pc_heap.specs.Object.{Object}
 use Rattle.pc_heap.specs.Objects.{ObjectMap}
 use Rattle.pc_heap.specs.declared.value.Address.{Address}
 use Rattle.pc_core.specs.CoreData.{CoreData}
-use Rattle.pc_semantics.specs.Configurations.{fields_in}
+use Rattle.pc_semantics.specs.Configurations.{number_of_fields}
 
 -- The object has a place for each field of its entity.
 abbrev pub HasFields : CoreData → Object → Type 0
-HasFields core o = length o.fields ≡ fields_in (slice_get core.entities o.entity)
+HasFields core o = length o.fields ≡ number_of_fields (slice_get core.entities o.entity)
 
 -- Every object has a place for each field of its entity.
 abbrev pub Fielded : CoreData → ObjectMap → Type 0

@@ -54,6 +54,6 @@ seeing objects = amid objects 0 0
 
 -- The first task of frame f concerns only the frame and the objects, whichever actor does it. It ends with this
 -- outcome, these objects and this frame.
-abbrev pub Inside : CoreData → ObjectMap → Frame → Outcome → ObjectMap → Frame → Type 0
-Inside core objects f o objects' f' =
+abbrev pub StaysInside : CoreData → ObjectMap → Frame → Outcome → ObjectMap → Frame → Type 0
+StaysInside core objects f o objects' f' =
     (i k : ℕ) → ended objects f (first_move core (amid objects i k) f (slice_get f.tasks 0)) ≡ Some (o, objects', f')

@@ -241,7 +241,7 @@ fn store(core: &Core, frame: &Frame, number: u32) -> Ahead
 
 // The value of an operator, if it has one.
 fn given(value: Option<Value>) -> Ahead
-    ensures { (f : Frame) → result ≡ by_move (operators.gives f value) }
+    ensures { (f : Frame) → result ≡ by_move (operators.push_or_lack f value) }
 {
     match value {
         Some(_) => Ahead::Task,

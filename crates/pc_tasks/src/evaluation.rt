@@ -85,7 +85,7 @@ fn first_then(
 // The items of a sequence, one after another: every value but the last is dropped.
 fn items_first(frame: &mut Frame, children: &SharedList<u32>) -> Result<Outcome, AllocError>
     requires { 0 < length frame.old.tasks }
-    ensures ok { IfOk result (λ o. within frame.old (Goes (doing (relieved frame.old) (spec.items children.now))) ≡ Some (o, frame.new)) }
+    ensures ok { IfOk result (λ o. within frame.old (Goes (doing (relieved frame.old) (spec.item_tasks children.now))) ≡ Some (o, frame.new)) }
     ensures err { OnErr result (frame.new ≡ frame.old) }
 {
     frame.tasks.go_on_with_items(children)?;

@@ -1,6 +1,6 @@
 //! The first task of a frame.
 ghost use Rattle.std.specs.Prelude.{◌≡◌, ◌↔◌, IsTrue, IfOk, OnErr, Some, slice_get};
-ghost use Rattle.pc_tasks.specs.Inside.{IsInside, Inside, seeing, first_move, ended};
+ghost use Rattle.pc_tasks.specs.Inside.{IsInside, StaysInside, seeing, first_move, ended};
 
 use crate::apply::apply;
 use crate::choices::{branch, discard, go_round, test};
@@ -46,7 +46,7 @@ pub fn run_inside(
     frame: &mut Frame,
 ) -> Result<Outcome, AllocError>
     requires { IsInside (slice_get frame.old.tasks 0) }
-    ensures ok { IfOk result (λ o. Inside core.now heap.old.objects frame.old o heap.new.objects frame.new) }
+    ensures ok { IfOk result (λ o. StaysInside core.now heap.old.objects frame.old o heap.new.objects frame.new) }
     ensures err { OnErr result ((frame.new ≡ frame.old) × (heap.new.objects ≡ heap.old.objects)) }
     ensures room { heap.new.room ≡ heap.old.room }
 {

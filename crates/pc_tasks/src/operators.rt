@@ -24,13 +24,13 @@ pub enum Applied {
 
 // A quotient or remainder by 0 is 0.
 fn quotient(left: u64, right: u64) -> u64
-    ensures { result ≡ spec.over right (left / right) }
+    ensures { result ≡ spec.unless_by_zero right (left / right) }
 {
     if right == 0 { 0 } else { left / right }
 }
 
 fn remainder(left: u64, right: u64) -> u64
-    ensures { result ≡ spec.over right (left % right) }
+    ensures { result ≡ spec.unless_by_zero right (left % right) }
 {
     if right == 0 { 0 } else { left % right }
 }
@@ -90,7 +90,7 @@ pub fn is_too_long(left: &Text, right: &Text) -> bool
 
 // Both texts joined.
 fn joined(alloc: Global, left: &Text, right: &Text) -> Result<Applied, AllocError>
-    ensures { IfOk result (λ r. (f : Frame) → applied_to f r ≡ spec.joined f (left.now ++ right.now)) }
+    ensures { IfOk result (λ r. (f : Frame) → applied_to f r ≡ spec.joined_text f (left.now ++ right.now)) }
 {
     if is_too_long(left, right) {
         Ok(Applied::TooLong)
@@ -125,7 +125,7 @@ fn of_texts(alloc: Global, op: Op, left: &Text, right: &Text) -> Result<Applied,
 
 // A value, if there is one.
 fn given(value: Option<Value>) -> Applied
-    ensures { (f : Frame) → applied_to f result ≡ spec.gives f value }
+    ensures { (f : Frame) → applied_to f result ≡ spec.push_or_lack f value }
 {
     match value {
         Some(value) => Applied::Gives(value),

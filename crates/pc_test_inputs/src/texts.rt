@@ -1,7 +1,7 @@
 //! The tokens and the tree of a text.
 ghost use Rattle.std.specs.Prelude.{IfOk};
 ghost use Rattle.pc_lists.specs.Places.{Ascends};
-ghost use Rattle.pc_elab.specs.Cores.{Spelled};
+ghost use Rattle.pc_elab.specs.Cores.{IsSpelledFile};
 ghost use Rattle.pc_expr.specs.Gives.{EndsWithEnd};
 ghost use Rattle.pc_text_order.specs.Laws.{starts};
 ghost use Rattle.pc_tree.specs.View.{file_view};
@@ -27,7 +27,7 @@ pub fn tokens_of(alloc: Global, text: &[u8]) -> Result<List<Token>, LexFault>
 
 /// The tree of a text. If it has no tokens, the answer is that memory ran out.
 pub fn tree_of(alloc: Global, text: &[u8]) -> Result<File, ParseFault>
-    ensures { IfOk result (λ tree. Spelled (file_view tree)) }
+    ensures { IfOk result (λ tree. IsSpelledFile (file_view tree)) }
 {
     let Ok(tokens) = tokens_of(alloc, text) else {
         return Err(ParseFault::Memory);

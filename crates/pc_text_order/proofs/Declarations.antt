@@ -1,13 +1,13 @@
 -- The places of an entity's declarations are starts of tokens that spell it.
 use Rattle.std.proofs.Common.{List, [], ◌∷◌, ◌++◌, map, Option, Some, None, inl, inr}
 use Rattle.pc_tree.specs.Tree as t
-use Rattle.pc_tree.specs.declared.names.Name.{Name}
-use Rattle.pc_tree.specs.declared.names.TypeRef.{TypeRef}
+use Rattle.pc_tree.specs.declared.written_names.Name.{Name}
+use Rattle.pc_tree.specs.declared.written_names.TypeRef.{TypeRef}
 use Rattle.pc_tree.specs.declared.file.ParamDef.{ParamDef}
 use Rattle.pc_tree.specs.declared.kinds.EntityKind.{EntityKind}
 use Rattle.pc_token.specs.declared.kinds.Token.{Token}
 use Rattle.pc_grammar.specs.SpellsFile.{SpellsReturns, SpellsParam, SpellsMoreParams, SpellsParamList, SpellsParams, SpellsField, SpellsFields, SpellsMethod, SpellsMethods, SpellsMoreNames, SpellsNames, SpellsAlone, SpellsProvides, SpellsEntity}
-use Rattle.pc_names.specs.Laws.{start_of, result_places, field_places, param_places, method_places, places}
+use Rattle.pc_names.specs.Laws.{name_start, result_places, field_places, param_places, method_places, declared_places}
 use Rattle.pc_text_order.specs.Laws.{DeclarationsAscend}
 use Rattle.pc_text_order.proofs.Among.{Among, nothing, put, after, both, past, before, moved, among_ascends}
 use Rattle.pc_text_order.proofs.Files.{file_in}
@@ -15,26 +15,26 @@ use Rattle.pc_text_order.proofs.Bodies.{type_in}
 
 -- ---- what comes after `is`
 
-more_names_in : (ms : List Name) (ts : List Token) → SpellsMoreNames ms ts → Among (map start_of ms) ts
+more_names_in : (ms : List Name) (ts : List Token) → SpellsMoreNames ms ts → Among (map name_start ms) ts
 more_names_in [] ts h = nothing
 more_names_in (m ∷ ms) ts h = moved h.3 (after (put h.5.1 (more_names_in ms h.2 h.6)))
 
-names_in : (ms : List Name) (ts : List Token) → SpellsNames ms ts → Among (map start_of ms) ts
+names_in : (ms : List Name) (ts : List Token) → SpellsNames ms ts → Among (map name_start ms) ts
 names_in [] ts h = nothing
 names_in (m ∷ ms) ts h = moved h.2 (put h.3.1 (more_names_in ms h.1 h.4))
 
-alone_in : (m : Name) (ms : List Name) (ts : List Token) → SpellsAlone (m ∷ ms) ts → Among (map start_of (m ∷ ms)) ts
+alone_in : (m : Name) (ms : List Name) (ts : List Token) → SpellsAlone (m ∷ ms) ts → Among (map name_start (m ∷ ms)) ts
 alone_in m [] ts h = moved h.1 (put h.2.1 nothing)
 alone_in m (n ∷ ms) ts h = absurd h
 
-provides_in : (ms : List Name) (ts : List Token) → SpellsProvides ms ts → Among (map start_of ms) ts
+provides_in : (ms : List Name) (ts : List Token) → SpellsProvides ms ts → Among (map name_start ms) ts
 provides_in [] ts h = nothing
 provides_in (m ∷ ms) ts (x, a, is, word, inl h) = moved is (after (alone_in m ms a h))
 provides_in (m ∷ ms) ts (x, a, is, word, inr h) = moved is (after (moved h.3 (after (before (h.1 ∷ []) (names_in (m ∷ ms) h.2 h.5)))))
 
 -- ---- fields
 
-field_in : (f : t.Field) (ts : List Token) → SpellsField f ts → Among (start_of f.name ∷ start_of f.ty.name ∷ []) ts
+field_in : (f : t.Field) (ts : List Token) → SpellsField f ts → Among (name_start f.name ∷ name_start f.ty.name ∷ []) ts
 field_in f ts h = moved h.6 (after (put h.8.1 (after (before _ (type_in f.ty h.3 h.10)))))
 
 fields_in : (fs : List t.Field) (ts : List Token) → SpellsFields fs ts → Among (field_places fs) ts
@@ -43,7 +43,7 @@ fields_in (f ∷ fs) ts h = moved h.2 (both (field_in f h.0 h.3) (fields_in fs h
 
 -- ---- methods
 
-param_in : (p : ParamDef) (ts : List Token) → SpellsParam p ts → Among (start_of p.name ∷ start_of p.ty.name ∷ []) ts
+param_in : (p : ParamDef) (ts : List Token) → SpellsParam p ts → Among (name_start p.name ∷ name_start p.ty.name ∷ []) ts
 param_in p ts h = moved h.3 (put h.4.1 (after (type_in p.ty h.2 h.6)))
 
 more_params_in : (ps : List ParamDef) (ts : List Token) → SpellsMoreParams ps ts → Among (param_places ps) ts
@@ -61,7 +61,7 @@ returns_in : (r : Option TypeRef) (ts : List Token) → SpellsReturns r ts → A
 returns_in None ts h = nothing
 returns_in (Some r) ts h = moved h.2 (after (moved h.4.3 (put h.4.4.1 nothing)))
 
-method_in : (k : EntityKind) (m : t.Method) (ts : List Token) → SpellsMethod k m ts → Among (start_of m.name ∷ (param_places m.params ++ result_places m.result)) ts
+method_in : (k : EntityKind) (m : t.Method) (ts : List Token) → SpellsMethod k m ts → Among (name_start m.name ∷ (param_places m.params ++ result_places m.result)) ts
 method_in k m ts h = moved h.7 (after (past h.2 (put h.10.1 (both (params_in m.params h.3 h.11) (before _ (returns_in m.result h.4 h.12))))))
 
 methods_in : (k : EntityKind) (ms : List t.Method) (ts : List Token) → SpellsMethods k ms ts → Among (method_places ms) ts
@@ -70,9 +70,9 @@ methods_in k (m ∷ ms) ts h = moved h.2 (both (method_in k m h.0 h.3) (methods_
 
 -- ---- entities
 
-pub entity_in : (e : t.Entity) (ts : List Token) → SpellsEntity e ts → Among (places e) ts
+pub entity_in : (e : t.Entity) (ts : List Token) → SpellsEntity e ts → Among (declared_places e) ts
 entity_in e ts h =
     moved h.7 (after (past h.2 (put h.10.1 (both (provides_in e.provides h.3 h.11) (past h.4 (both (fields_in e.fields h.5 h.13) (methods_in e.kind e.methods h.6 h.14)))))))
 
 pub declarations_ascend : DeclarationsAscend
-declarations_ascend f ts h a i e at = among_ascends (file_in e (places e) (entity_in e) f i ts at h) a
+declarations_ascend f ts h a i e at = among_ascends (file_in e (declared_places e) (entity_in e) f i ts at h) a

@@ -31,4 +31,4 @@ BodiesAscend =
 
 -- For each entity: the places of its declarations.
 abbrev pub DeclarationsAscend : Type 0
-DeclarationsAscend = (f : t.File) (ts : List Token) → SpellsFile f ts → Ascends (starts ts) → Each (λ i e. Ascends (names.places e)) f.entities
+DeclarationsAscend = (f : t.File) (ts : List Token) → SpellsFile f ts → Ascends (starts ts) → Each (λ i e. Ascends (names.declared_places e)) f.entities

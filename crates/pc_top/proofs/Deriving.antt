@@ -4,7 +4,7 @@ use Rattle.pc_core.specs.CoreData.{CoreData}
 use Rattle.pc_core.specs.Formed.{Formed}
 use Rattle.pc_ann.specs.declared.annotation.Ann.{Ann}
 use Rattle.pc_deriv.specs.Faults.{IsText}
-use Rattle.pc_deriv.specs.Limits.{slot_limit, node_limit}
+use Rattle.pc_deriv.specs.Limits.{derivation_slot_limit, derivation_node_limit}
 use Rattle.pc_deriv.specs.Text.{deriv_text}
 use Rattle.pc_deriv.specs.declared.version.Version.TheVariants as version
 use Rattle.pc_core_relation.proofs.Files.{made_cores_stand}
@@ -87,7 +87,8 @@ accepted_core_safe formed safe {a = a} h =
     safe a.source.core a.ann (source_formed formed s.0).0 s.1
 
 -- A small core has small annotations.
-pub small_notes : (core : CoreData) (ann : Ann) → IsSmall core → Valid core ann → (length ann.slots ≤ slot_limit) × (length ann.notes ≤ node_limit)
+pub small_notes : (core : CoreData) (ann : Ann) → IsSmall core → Valid core ann
+    → (length ann.slots ≤ derivation_slot_limit) × (length ann.notes ≤ derivation_node_limit)
 small_notes core ann small v =
     let few = small.0 in
     let nodes = small.1 in

@@ -2,10 +2,10 @@
 use Rattle.std.proofs.Common.{◌≡◌, ◌<◌, List, length, Ok, Err, refl, subst}
 use Rattle.std.specs.Prelude.{Result}
 use Rattle.pc_core.specs.CoreData.{CoreData}
-use Rattle.pc_elab.specs.Cores.{IsFirstFault, Spelled}
+use Rattle.pc_elab.specs.Cores.{IsFirstFault, IsSpelledFile}
 use Rattle.pc_file_spec.specs.Cores.{IsElabFault}
 use Rattle.pc_grammar.specs.SpellsFile.{SpellsFile}
-use Rattle.pc_names.specs.Names.{OfFile, IsNameFault}
+use Rattle.pc_names.specs.Names.{IsNotMemory, IsNameFault}
 use Rattle.pc_names.specs.declared.fault.NameFault.{NameFault}
 use Rattle.pc_names.specs.declared.fault.NameFault.TheVariants as names
 use Rattle.pc_text_order.specs.Laws.{TokensAscend}
@@ -40,14 +40,14 @@ pub tree_goes : {f : t.File} (name bytes : Text) (shown ts : List Token) → sho
 tree_goes {f = f} name bytes shown ts e h = subst (λ (xs : List Token). Parsing name bytes xs (Ok f)) e h
 
 -- It is spelled by tokens in the order of the text.
-pub tree_spelled : (name bytes : Text) (ts shown : List Token) (f : t.File) → TokensAscend → Lexing name bytes (Ok ts) → shown ≡ ts → Parsing name bytes shown (Ok f) → Spelled f
+pub tree_spelled : (name bytes : Text) (ts shown : List Token) (f : t.File) → TokensAscend → Lexing name bytes (Ok ts) → shown ≡ ts → Parsing name bytes shown (Ok f) → IsSpelledFile f
 tree_spelled name bytes ts shown f law (lexed l) e (parsed p) = (ts, subst (SpellsFile f) e p.0, law bytes ts l.0)
 
 -- a fault of its names, and one of its members
 pub names_stop : (name bytes : Text) (file : t.File) (f : NameFault) (s : Stop) → IsNameFault file f → IsNameStop name bytes f s → StageStops (Elaborating name bytes file) s
 names_stop name bytes file f s r h = name_stops (Elaborating name bytes file) name bytes f s (λ o. misnamed f o r) h
 
-pub member_fault : (file : t.File) (f : NameFault) → OfFile f → IsFirstFault file f → IsElabFault file f
+pub member_fault : (file : t.File) (f : NameFault) → IsNotMemory f → IsFirstFault file f → IsElabFault file f
 member_fault file (names.Double s) o r = r
 member_fault file (names.Unknown s) o r = r
 member_fault file names.NoMain o r = r

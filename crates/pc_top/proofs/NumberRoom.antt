@@ -8,7 +8,7 @@ use Rattle.pc_args.specs.Asked.{Asked}
 use Rattle.pc_args.specs.Numbers.{Reads}
 use Rattle.pc_io.specs.Change.{Change}
 use Rattle.pc_refusals.specs.Accepting.{AcceptedStage}
-use Rattle.pc_refusals.specs.Inner.Answering.{AnswerStops, AnswersText, Ends}
+use Rattle.pc_refusals.specs.Inner.Answering.{AnswerStops, AnswersText, EndsCommand}
 use Rattle.pc_refusals.specs.Lines.{usage_line}
 use Rattle.pc_refusals.specs.Named.{AllTold, Files, Named, NoneFailed, named}
 use Rattle.pc_refusals.specs.Source.{source_limit}
@@ -92,7 +92,7 @@ module _ (Is : ℕ → Type 0) (Last : ℕ → Accepted → Verdict → Type 0) 
         answers_by (OfAccepted (Last read.number) (named files source)) Whole Failed Failed (λ v l. spelled read.number is_number l) (λ m f. f) answer
         (part_answers source_limit (AcceptedStage source) (Last read.number) Failed (named files source) (λ n. ⊥) read.accepted (λ n f. absurd f) given.1 answer a)
 
-    pub number_ends : (out : Change) (result : Result (Unit {0}) Stop) → Ends (Last read.number read.accepted) (λ n. ⊥) out result → Ends Whole Failed out result
+    pub number_ends : (out : Change) (result : Result (Unit {0}) Stop) → EndsCommand (Last read.number read.accepted) (λ n. ⊥) out result → EndsCommand Whole Failed out result
     number_ends out result e =
         ends_by (OfAccepted (Last read.number) (named files source)) Whole Failed Failed (λ v l. spelled read.number is_number l) (λ m f. f) out result
         (part_ends source_limit (AcceptedStage source) (Last read.number) Failed (named files source) (λ n. ⊥) read.accepted (λ n f. absurd f) given.1 out result e)

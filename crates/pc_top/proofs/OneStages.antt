@@ -18,7 +18,7 @@ use Rattle.pc_sub.specs.declared.faults.DeclFault.{DeclFault}
 use Rattle.pc_lists.specs.Texts.{Text}
 use Rattle.pc_refusals.specs.Accepting.{AcceptedStage, Typing}
 use Rattle.pc_refusals.specs.Accepting.Typing.{typed, declared, no_rule, unset}
-use Rattle.pc_refusals.specs.After.{IsOne}
+use Rattle.pc_refusals.specs.After.{HasOneEnd}
 use Rattle.pc_refusals.specs.CoreFaults.{decl_offset, decl_text}
 use Rattle.pc_refusals.specs.Derivation.{Deriving, DerivationStage, Judging, judge_line, text_status, text_line, derivation_limit}
 use Rattle.pc_refusals.specs.Derivation.Deriving.{reads, garbled}
@@ -57,7 +57,7 @@ module _ (laws : Laws) where
   method_same core a b n m s t e = same_Some s.method t.method (sym s.is_method ∙ (ap (slice_get core.methods) e ∙ t.is_method))
 
   module _ (name : Text) (s : Source) (is : Formed s.core) where
-    one_typing : IsOne (Typing name s)
+    one_typing : HasOneEnd (Typing name s)
     one_typing _ _ (typed a v) (typed b w) = ap (λ (x : Ann). Ok (record { source = s; ann = x })) (laws.valid s.core a b is v w)
     one_typing _ _ (typed a v) (declared f e) = absurd (laws.refusing.failing s.core f is e (a, v))
     one_typing _ _ (typed a v) (no_rule b n h) = absurd (laws.refusing.ruleless s.core b n is h (a, v))
@@ -81,21 +81,21 @@ module _ (laws : Laws) where
   pub formed_of : {name : Text} {r : Reading} {s : Source} → SourceStage name r (Ok s) → Formed s.core
   formed_of h = (source_formed laws.refusing.formed h).0
 
-  pub one_accepted : (name : Text) (r : Reading) → IsOne (AcceptedStage name r)
+  pub one_accepted : (name : Text) (r : Reading) → HasOneEnd (AcceptedStage name r)
   one_accepted name r = after_is_one (SourceStage name r) (Typing name) (one_source laws.source name r) (λ s h. one_typing name s (formed_of h))
 
   -- ---- a derivation
 
-  one_deriving : (name bytes : Text) → IsOne (Deriving name bytes)
+  one_deriving : (name bytes : Text) → HasOneEnd (Deriving name bytes)
   one_deriving name bytes _ _ (reads {ann = a} t) (reads {ann = b} u) = ap (λ (x : Ann). Ok x) (laws.annotation bytes a b t u)
   one_deriving name bytes _ _ (reads {ann = a} t) (garbled f h) = absurd (laws.apart bytes a f t h)
   one_deriving name bytes _ _ (garbled f h) (reads {ann = a} t) = absurd (laws.apart bytes a f t h)
   one_deriving name bytes _ _ (garbled f h) (garbled g i) = ap (λ (x : DerivFault). Err (refused (text_status x) (text_line name x))) (laws.text_fault bytes f g h i)
 
-  pub one_derivation : (name : Text) (r : Reading) → IsOne (DerivationStage name r)
+  pub one_derivation : (name : Text) (r : Reading) → HasOneEnd (DerivationStage name r)
   one_derivation name r = after_is_one (Length derivation_limit name r) (Deriving name) (one_length derivation_limit name r) (λ bytes l. one_deriving name bytes)
 
-  pub one_judging : (source_name name : Text) (s : Source) (ann : Ann) → Formed s.core → IsOne (Judging source_name name s ann)
+  pub one_judging : (source_name name : Text) (s : Source) (ann : Ann) → Formed s.core → HasOneEnd (Judging source_name name s ann)
   one_judging source_name name s ann is _ _ (holds v) (holds w) = refl
   one_judging source_name name s ann is _ _ (holds v) (fails f h) = absurd (laws.not_valid s.core ann f is h v)
   one_judging source_name name s ann is _ _ (fails f h) (holds v) = absurd (laws.not_valid s.core ann f is h v)
@@ -103,7 +103,7 @@ module _ (laws : Laws) where
 
   -- ---- a schedule
 
-  one_scheduling : (name bytes : Text) → IsOne (Scheduling name bytes)
+  one_scheduling : (name bytes : Text) → HasOneEnd (Scheduling name bytes)
   one_scheduling name bytes _ _ (scheduled {turns = t} h) (scheduled {turns = u} k) = ap (λ (x : List Turn). Ok x) (laws.turns bytes t u h.0 k.0)
   one_scheduling name bytes _ _ (scheduled {turns = t} h) (bad_word at k) = absurd (laws.not_both bytes t (BadWord at) h k)
   one_scheduling name bytes _ _ (scheduled {turns = t} h) (too_many at k) = absurd (laws.not_both bytes t (TooMany at) h k)
@@ -116,5 +116,5 @@ module _ (laws : Laws) where
   one_scheduling name bytes _ _ (too_many at h) (too_many p k) =
       ap (λ (x : ℕ). Err (refused 8 (offset_line name bytes x (codes "too many steps")))) (many_same at p (laws.word bytes (TooMany at) (TooMany p) h k))
 
-  pub one_schedule : (name : Text) (r : Reading) → IsOne (ScheduleStage name r)
+  pub one_schedule : (name : Text) (r : Reading) → HasOneEnd (ScheduleStage name r)
   one_schedule name r = after_is_one (Length schedule_limit name r) (Scheduling name) (one_length schedule_limit name r) (λ bytes l. one_scheduling name bytes)

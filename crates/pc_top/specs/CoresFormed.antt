@@ -2,12 +2,12 @@
 use Rattle.std.specs.Prelude.{ℕ, ◌≤◌, List, length}
 use Rattle.pc_core.specs.CoreData.{CoreData}
 use Rattle.pc_core.specs.Formed.{Formed}
-use Rattle.pc_deriv.specs.Limits.{slot_limit, node_limit}
+use Rattle.pc_deriv.specs.Limits.{derivation_slot_limit, derivation_node_limit}
 use Rattle.pc_top.specs.CoreOf.{CoreOf}
 
 -- The core is small enough for its annotations to have a text.
 abbrev pub IsSmall : CoreData → Type 0
-IsSmall core = (length core.slots ≤ slot_limit) × (length core.nodes ≤ node_limit)
+IsSmall core = (length core.slots ≤ derivation_slot_limit) × (length core.nodes ≤ derivation_node_limit)
 
 -- The core of a source fits together, and is small enough for its annotations to have a text.
 abbrev pub CoresAreFormed : Type 0

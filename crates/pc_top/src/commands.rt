@@ -3,7 +3,7 @@ ghost use Rattle.std.specs.Prelude.{◌≡◌, ◌≤◌, Some};
 ghost use Rattle.pc_lists.specs.Texts.{Text};
 ghost use Rattle.pc_args.specs.Asked.{asked_by};
 ghost use Rattle.pc_io.specs.Change.{change};
-ghost use Rattle.pc_refusals.specs.Inner.Answering.{Ends};
+ghost use Rattle.pc_refusals.specs.Inner.Answering.{EndsCommand};
 ghost use Rattle.pc_refusals.specs.Named.{files_change};
 ghost use Rattle.pc_top.specs.Commands.{FailedOf, IsVerdictOf};
 ghost use Rattle.pc_top.specs.Inner.Asking.{AsksSo};
@@ -60,7 +60,7 @@ pub fn run_command<F: Files, O: Sink, R: Referee>(
     ensures same { (n : Text) → F.bytes files.new n ≡ F.bytes files.old n }
     ensures out_later { O.faults out.old ≤ O.faults out.new }
     ensures ends { let files = files_change (F.bytes files.old) (F.faults files.old) (F.faults files.new) (F.taken files.new) in
-        Ends (IsVerdictOf files (Some (asked_by command.entry))) (FailedOf files (Some (asked_by command.entry)))
+        EndsCommand (IsVerdictOf files (Some (asked_by command.entry))) (FailedOf files (Some (asked_by command.entry)))
         (change (O.written out.old) (O.written out.new) (O.faults out.old) (O.faults out.new)) result }
     ensures asks { AsksSo (F.bytes files.old) (Some (asked_by command.entry)) (R.asked referee.old) (R.asked referee.new) result }
 {

@@ -1,6 +1,6 @@
 //! The source's stages: its length, its tokens, its tree and its core.
 ghost use Rattle.std.specs.Prelude.{◌≡◌, ◌≤◌, ℕ, List as Sequence, length};
-ghost use Rattle.pc_elab.specs.Cores.{Spelled};
+ghost use Rattle.pc_elab.specs.Cores.{IsSpelledFile};
 ghost use Rattle.pc_lex.specs.Limits.{bytes_limit};
 ghost use Rattle.pc_tree.specs.View.{file_view};
 ghost use Rattle.pc_refusals.specs.Inner.Stages.{PartEnds, StageEnds};
@@ -57,7 +57,7 @@ fn read_core(alloc: Global, name: &str, bytes: &[u8]) -> Result<Core, Stop>
 
 // The core of the source with this name, these bytes and this tree.
 fn elaborate_tree(alloc: Global, name: &str, bytes: &[u8], file: &File) -> Result<Core, Stop>
-    requires { Spelled (file_view file.now) }
+    requires { IsSpelledFile (file_view file.now) }
     ensures { StageEnds (Elaborating name.now bytes.now (file_view file.now)) result }
 {
     let names = match collect(alloc, file) {

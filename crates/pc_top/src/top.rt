@@ -3,7 +3,7 @@ ghost use Rattle.std.specs.Prelude.{◌≡◌, ◌≤◌};
 ghost use Rattle.pc_lists.specs.Texts.{Text};
 ghost use Rattle.pc_refusals.specs.Answer.{Answer};
 ghost use Rattle.pc_refusals.specs.Complete.{Completes};
-ghost use Rattle.pc_refusals.specs.Inner.Answering.{Ends};
+ghost use Rattle.pc_refusals.specs.Inner.Answering.{EndsCommand};
 ghost use Rattle.pc_refusals.specs.Named.{files_change};
 ghost use Rattle.pc_refusals.specs.Verdict.{IsAccepting};
 ghost use Rattle.pc_top.specs.Asked.{Accepts, FailedIn, IsMadeIsolated, IsMadeSafe, IsVerdict, HasNoDerivation};
@@ -127,7 +127,7 @@ fn run_words<F: Files, O: Sink, R: Referee>(
     ensures same { (n : Text) → F.bytes files.new n ≡ F.bytes files.old n }
     ensures out_later { O.faults out.old ≤ O.faults out.new }
     ensures ends { let files = files_change (F.bytes files.old) (F.faults files.old) (F.faults files.new) (F.taken files.new) in
-        Ends (IsVerdict files (texts words.now)) (FailedIn files (texts words.now))
+        EndsCommand (IsVerdict files (texts words.now)) (FailedIn files (texts words.now))
         (change (O.written out.old) (O.written out.new) (O.faults out.old) (O.faults out.new)) result }
     ensures asks { AsksSo (F.bytes files.old) (command_of (texts words.now)) (R.asked referee.old) (R.asked referee.new) result }
 {

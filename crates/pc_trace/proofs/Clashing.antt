@@ -6,7 +6,7 @@ use Rattle.std.proofs.lemmas.Bool.Decides.{leb_tells}
 use Rattle.pc_clocks.specs.Seats.{number}
 use Rattle.pc_trace.specs.declared.touch.Touch.{Touch}
 use Rattle.pc_lists.proofs.Gets.{get_within}
-use Rattle.pc_trace.specs.Clashes.{Clash, Known, Unknown, KnownBetween, KnownUpTo, LatestUnknown, Found, FirstUnknown}
+use Rattle.pc_trace.specs.Clashes.{Clash, IsKnownTo, Unknown, KnownBetween, KnownUpTo, LatestUnknown, FoundOfAccess, FirstUnknown}
 
 pub none_counted : (clock : List ℕ) (a : ℕ) → slice_get clock a ≡ None → number clock a ≡ 0
 none_counted [] a e = refl
@@ -14,7 +14,7 @@ none_counted (n ∷ ns) zero e = absurd (none-some n (sym e))
 none_counted (n ∷ ns) (suc a) e = none_counted ns a e
 
 -- What clashes and is not unknown is known.
-known_else : (q p : Touch) → (Unknown q p → ⊥) → Clash q p → Known q p
+known_else : (q p : Touch) → (Unknown q p → ⊥) → Clash q p → IsKnownTo q p
 known_else q p never c = elim (leb_tells (number q.clock q.actor) (number p.clock q.actor)) [ inl s ↦ s.1 | inr s ↦ absurd (never (c, s.1)) ]
 
 module _ (touches : List Touch) (at : ℕ) (p : Touch) where
@@ -69,17 +69,17 @@ module _ (touches : List Touch) (at : ℕ) (p : Touch) (is : slice_get touches a
 
 -- ---- by what was found
 
-module _ (touches : List Touch) (at : ℕ) (within : at < length touches) (o : Option ℕ) (found : Found touches at o) where
+module _ (touches : List Touch) (at : ℕ) (within : at < length touches) (o : Option ℕ) (found : FoundOfAccess touches at o) where
   -- Nothing was.
   pub known_next : o ≡ None → KnownUpTo touches at → KnownUpTo touches (at + 1)
   known_next none known =
       let p = get_within touches at within in
-      let none_found : Found touches at None = subst (Found touches at) none found in
+      let none_found : FoundOfAccess touches at None = subst (FoundOfAccess touches at) none found in
       up_to_next touches at p.0 p.1 known (none_found p.0 p.1)
 
   module _ (m : ℕ) (is : o ≡ Some m) where
     latest : (p : Touch) → slice_get touches at ≡ Some p → LatestUnknown touches at p m
-    latest = let some_found : Found touches at (Some m) = subst (Found touches at) is found in some_found
+    latest = let some_found : FoundOfAccess touches at (Some m) = subst (FoundOfAccess touches at) is found in some_found
 
     pub found_below : m < length touches
     found_below = let p = get_within touches at within in below _ _ _ (latest p.0 p.1).below within

@@ -8,8 +8,8 @@ use Rattle.pc_lists.proofs.Gets.{get_below, get_within, get_front, get_behind, g
 use Rattle.pc_clocks.specs.Seats.{number}
 use Rattle.pc_trace.specs.declared.lasts.Spot.{Spot}
 use Rattle.pc_trace.specs.declared.touch.Touch.{Touch}
-use Rattle.pc_trace.specs.Clashes.{Clash, Known, Unknown, KnownBetween, LatestUnknown, Found}
-use Rattle.pc_trace.specs.Covers.{spot_of, Replaces, Stands, Covers, Rises, NoneUnknown, LatestKnownOf, LatestOf, KeptOf}
+use Rattle.pc_trace.specs.Clashes.{Clash, IsKnownTo, Unknown, KnownBetween, LatestUnknown, FoundOfAccess}
+use Rattle.pc_trace.specs.Covers.{spot_of, Replaces, StandsForAccess, Covers, Rises, NoneUnknown, LatestKnownOf, LatestOf, KeptOf}
 use Rattle.pc_trace.specs.Lasts.{RowList, row_of}
 use Rattle.pc_trace.specs.Rows.{further, Looked, KeptOrNot}
 
@@ -214,7 +214,7 @@ module _ (touches : List Touch) (rises : Rises touches) (at : ℕ) (rows : RowLi
         | inr r ↦ record { place = s.place; other = s.other; later = s.later; has = in_row; is = s.is; unknown = replaced_unknown m s.place q s.other s.later e s.is s.address s.field r u }
       ]
 
-  known_else : (q : Touch) → (Unknown q p → ⊥) → Clash q p → Known q p
+  known_else : (q : Touch) → (Unknown q p → ⊥) → Clash q p → IsKnownTo q p
   known_else q never c = elim (leb_tells (number q.clock q.actor) (number p.clock q.actor)) [ inl s ↦ s.1 | inr s ↦ absurd (never (c, s.1)) ]
 
   pub all_known : NoneUnknown touches row (length row) p → KnownBetween touches 0 at p
@@ -283,7 +283,7 @@ module _ (touches : List Touch) (rises : Rises touches) (at : ℕ) (rows : RowLi
     address_of : (q : Touch) → spot_of q ≡ spot_of p → p.address ≡ q.address
     address_of q e = sym (ap (λ (n : ℕ). record { maker = n; serial = q.address.serial }) (ap (λ (z : Spot). z.maker) e) ∙ ap (λ (n : ℕ). record { maker = p.address.maker; serial = n }) (ap (λ (z : Spot). z.serial) e))
 
-    own_stands : (m : ℕ) (q : Touch) → m < at → slice_get touches m ≡ Some q → spot_of q ≡ spot_of p → Stands touches rows m q → Stands touches next m q
+    own_stands : (m : ℕ) (q : Touch) → m < at → slice_get touches m ≡ Some q → spot_of q ≡ spot_of p → StandsForAccess touches rows m q → StandsForAccess touches next m q
     own_stands m q b e spot s =
         let in_row : Has row s.place = subst (λ (z : Spot). Has (row_of rows z) s.place) spot s.has in
         elim (h.kept in_row.0 s.place s.other (get_below row in_row.0 s.place in_row.1) in_row.1 s.is) [
@@ -329,7 +329,7 @@ module _ (touches : List Touch) (rises : Rises touches) (at : ℕ) (rows : RowLi
               | inr t ↦ (r.0 ∙ t.0, joined r.1 t.1)
             ]
 
-    other_stands : (m : ℕ) (q : Touch) → spot_of q ≢ spot_of p → Stands touches rows m q → Stands touches next m q
+    other_stands : (m : ℕ) (q : Touch) → spot_of q ≢ spot_of p → StandsForAccess touches rows m q → StandsForAccess touches next m q
     other_stands m q n s = record {
       place = s.place;
       other = s.other;
@@ -341,7 +341,7 @@ module _ (touches : List Touch) (rises : Rises touches) (at : ℕ) (rows : RowLi
       replaces = s.replaces;
     }
 
-    self_stands : (m : ℕ) (q : Touch) → m ≡ at → slice_get touches m ≡ Some q → Stands touches next m q
+    self_stands : (m : ℕ) (q : Touch) → m ≡ at → slice_get touches m ≡ Some q → StandsForAccess touches next m q
     self_stands m q same e =
         let p_is : p ≡ q = same_Some p q (sym here ∙ ap (slice_get touches) (sym same) ∙ e) in
         record {
@@ -405,7 +405,8 @@ module _ (touches : List Touch) (at : ℕ) (within : at < length touches) (rows 
     same_row : row_of rows spot ≡ row_of rows (spot_of p)
     same_row = ap (row_of rows) spot_is
 
-    pub found_is : (l : List ℕ) → l ≡ row_of rows spot → (result : Option ℕ) → LatestOf touches l (length l) p result → Found touches at result
+    pub found_is : (l : List ℕ) → l ≡ row_of rows spot → (result : Option ℕ) → LatestOf touches l (length l) p result
+        → FoundOfAccess touches at result
     found_is l is None h = λ r e. subst (KnownBetween touches 0 at) (same_Some p r (sym here ∙ e)) (all_known touches rises at rows covers p here (subst (λ (x : List ℕ). NoneUnknown touches x (length x) p) (is ∙ same_row) h))
     found_is l is (Some best) h = λ r e. subst (λ (z : Touch). LatestUnknown touches at z best) (same_Some p r (sym here ∙ e)) (latest_known touches rises at rows covers p here best (subst (λ (x : List ℕ). LatestKnownOf touches x (length x) p best) (is ∙ same_row) h))
 

@@ -13,13 +13,13 @@ use Rattle.pc_semantics.specs.declared.ahead.Ahead.TheVariants as ahead
 use Rattle.pc_semantics.specs.Ahead.{ahead_of}
 use Rattle.pc_clocks.specs.declared.seat.Seat.{Seat}
 use Rattle.pc_clocks.specs.Seats.{number, clock_in, clock_of, Advanced, ChangedAt}
-use Rattle.pc_events.specs.Before.{at_place, Event, is_take, receiver_by, receiver_of, taken_before, waiting_of, waiting}
+use Rattle.pc_events.specs.Before.{at_place, Event, is_take, receiver_by, receiver_of, taken_before, waiting_of, waiting_for}
 use Rattle.pc_events.proofs.Boxes.{Boxes, none_behind}
 use Rattle.pc_events.specs.Counting.{Live, Counts, AtOrBefore, total, PastOf, PostOf}
 use Rattle.pc_events.proofs.Events.{one_actor}
 use Rattle.pc_events.proofs.Totals.{Moving, moving, taken_own, taken_other, taken_none, actors_by, actors_rise}
 use Rattle.pc_events.proofs.Pasts.{Taken, counts_same, counts_none, counts_event, own_past, own_post, past_kept, post_kept}
-use Rattle.pc_trace.specs.Turns.{Acts, Receives, Posts, Born, Follows}
+use Rattle.pc_trace.specs.Turns.{Acts, Receives, PostsMessage, Born, FollowsEvent}
 use Rattle.pc_trace.specs.Keeps.{LetterKeeps, SeatKeeps, Keeps}
 
 -- The kept clocks after an event, and the one of its actor.
@@ -89,7 +89,8 @@ module _ (core : CoreData) (list : List ℕ) (k i : ℕ) (live : Live core list 
         subst (λ (m : ℕ). LetterKeeps core list (suc k) a (m + n) l) (sym same) (letter_kept a (taken_before core list k a + n) l (waited a s h n l e) (h.letter n l e))
 
     -- The seat of another actor whose mailbox stays as it is.
-    other_seat : (a : ℕ) (s : Seat) → a ≢ i → waiting next a ≡ waiting here a → SeatKeeps core list k a s → SeatKeeps core list (suc k) a s
+    other_seat : (a : ℕ) (s : Seat) → a ≢ i → waiting_for next a ≡ waiting_for here a → SeatKeeps core list k a s
+        → SeatKeeps core list (suc k) a s
     other_seat a s n same h = record {
       width = less_more _ _ _ h.width more;
       past = past_kept core list k a (λ e. n (one_actor core list k a i e ev)) (number s.clock) h.past;
@@ -98,7 +99,7 @@ module _ (core : CoreData) (list : List ℕ) (k i : ℕ) (live : Live core list 
     }
 
     -- The actor's own seat, with its new clock.
-    own_seat : (s : Seat) → length s.clock ≡ length here.actors → Counts core list (suc k) (AtOrBefore core list k) (number s.clock) → length s.letters ≡ waiting next i
+    own_seat : (s : Seat) → length s.clock ≡ length here.actors → Counts core list (suc k) (AtOrBefore core list k) (number s.clock) → length s.letters ≡ waiting_for next i
         → ((n : ℕ) (l : List ℕ) → slice_get s.letters n ≡ Some l → LetterKeeps core list (suc k) i (taken_before core list (suc k) i + n) l) → SeatKeeps core list (suc k) i s
     own_seat s width clock waits letter = record {
       width = subst (λ (n : ℕ). n ≤ length next.actors) (sym width) more;
@@ -136,7 +137,7 @@ module _ (core : CoreData) (list : List ℕ) (k i : ℕ) (live : Live core list 
   pub record Mid (a : ℕ) (m : Seat) : Type 0 where
     pub width : length m.clock ≤ length next.actors
     pub past : Counts core list (suc k) (PastOf core list (suc k) a) (number m.clock)
-    pub waits : length m.letters ≡ waiting here a
+    pub waits : length m.letters ≡ waiting_for here a
     pub letter : (n : ℕ) (l : List ℕ) → slice_get m.letters n ≡ Some l → LetterKeeps core list (suc k) a (taken_before core list (suc k) a + n) l
 
   module _ (old : List Seat) (keeps : Keeps core list k old) where
@@ -184,7 +185,7 @@ module _ (core : CoreData) (list : List ℕ) (k i : ℕ) (live : Live core list 
             | inr s ↦ other_mid a m s.1 (keeps.seat a m (sym (acts.others a s.1) ∙ e))
           ]
 
-      mid_seat : (a : ℕ) (m : Seat) → Mid a m → waiting next a ≡ waiting here a → SeatKeeps core list (suc k) a m
+      mid_seat : (a : ℕ) (m : Seat) → Mid a m → waiting_for next a ≡ waiting_for here a → SeatKeeps core list (suc k) a m
       mid_seat a m h same = record { width = h.width; past = h.past; waits = h.waits ∙ sym same; letter = h.letter }
 
       mid_count : length mid ≡ length here.actors
@@ -192,7 +193,7 @@ module _ (core : CoreData) (list : List ℕ) (k i : ℕ) (live : Live core list 
 
       -- ---- a task
 
-      task_behind : (length next.actors ≡ length here.actors) → ((a : ℕ) → waiting next a ≡ waiting here a) → Behind core list k i mid
+      task_behind : (length next.actors ≡ length here.actors) → ((a : ℕ) → waiting_for next a ≡ waiting_for here a) → Behind core list k i mid
       task_behind count same = record {
         keeps = record { count = mid_count ∙ sym count; seat = λ a m e. mid_seat a m (each_mid a m e) (same a) };
         width = mid_width;
@@ -201,7 +202,7 @@ module _ (core : CoreData) (list : List ℕ) (k i : ℕ) (live : Live core list 
 
       -- ---- a message
 
-      module _ (new : List Seat) (r : ℕ) (to : receiver_of core here i ≡ Some r) (count : length next.actors ≡ length here.actors) (b : r < length here.actors) (one : waiting next r ≡ suc (waiting here r)) (rest : (a : ℕ) → a ≢ r → waiting next a ≡ waiting here a) (posts : Posts i r mid new) where
+      module _ (new : List Seat) (r : ℕ) (to : receiver_of core here i ≡ Some r) (count : length next.actors ≡ length here.actors) (b : r < length here.actors) (one : waiting_for next r ≡ suc (waiting_for here r)) (rest : (a : ℕ) → a ≢ r → waiting_for next a ≡ waiting_for here a) (posts : PostsMessage i r mid new) where
         put : Pair mid new r (λ s t. (t.clock ≡ s.clock) × (t.letters ≡ s.letters ++ clock_of mid i ∷ []))
         put = pair mid new r _ (subst (λ (n : ℕ). r < n) (sym mid_count) b) posts
 
@@ -254,7 +255,7 @@ module _ (core : CoreData) (list : List ℕ) (k i : ℕ) (live : Live core list 
 
       -- ---- a new actor
 
-      module _ (new : List Seat) (to : receiver_of core here i ≡ Some (length here.actors)) (count : length next.actors ≡ suc (length here.actors)) (one : waiting next (length here.actors) ≡ 1) (rest : (a : ℕ) → a ≢ length here.actors → waiting next a ≡ waiting here a) (born : Born i mid new) where
+      module _ (new : List Seat) (to : receiver_of core here i ≡ Some (length here.actors)) (count : length next.actors ≡ suc (length here.actors)) (one : waiting_for next (length here.actors) ≡ 1) (rest : (a : ℕ) → a ≢ length here.actors → waiting_for next a ≡ waiting_for here a) (born : Born i mid new) where
         r : ℕ
         r = length here.actors
 
@@ -270,7 +271,7 @@ module _ (core : CoreData) (list : List ℕ) (k i : ℕ) (live : Live core list 
             outside : (n m : ℕ) → n < m → m ≤ n → ⊥
             outside n m p q = omega (arith, p, q)
 
-        nobody_waits : waiting here (length here.actors) ≡ 0
+        nobody_waits : waiting_for here (length here.actors) ≡ 0
         nobody_waits = ap waiting_of (none_behind here.actors (length here.actors) (no_less (length here.actors)))
           where
             no_less : (n : ℕ) → n ≤ n
@@ -321,7 +322,7 @@ module _ (core : CoreData) (list : List ℕ) (k i : ℕ) (live : Live core list 
 
     -- ---- a message that is taken
 
-    module _ (new : List Seat) (is : kind ≡ ahead.Take) (count : length next.actors ≡ length here.actors) (one : waiting here i ≡ suc (waiting next i)) (rest : (a : ℕ) → a ≢ i → waiting next a ≡ waiting here a) (receives : Receives (length here.actors) i old new) where
+    module _ (new : List Seat) (is : kind ≡ ahead.Take) (count : length next.actors ≡ length here.actors) (one : waiting_for here i ≡ suc (waiting_for next i)) (rest : (a : ℕ) → a ≢ i → waiting_for next a ≡ waiting_for here a) (receives : Receives (length here.actors) i old new) where
       got : Pair old new i (λ s t. IfSome (slice_get s.letters 0) (λ l. Advanced (length here.actors) i s.clock l t.clock) × (t.letters ≡ drop 1 s.letters))
       got = pair old new i _ there receives
 
@@ -332,8 +333,8 @@ module _ (core : CoreData) (list : List ℕ) (k i : ℕ) (live : Live core list 
       some_letter [] n e = absurd (omega (arith, e))
       some_letter (l ∷ ls) n e = (l, refl, omega (arith, e))
 
-      letter : (l : List ℕ) × (slice_get got.0.letters 0 ≡ Some l) × (length (drop 1 got.0.letters) ≡ waiting next i)
-      letter = some_letter got.0.letters (waiting next i) (got_keeps.waits ∙ one)
+      letter : (l : List ℕ) × (slice_get got.0.letters 0 ≡ Some l) × (length (drop 1 got.0.letters) ≡ waiting_for next i)
+      letter = some_letter got.0.letters (waiting_for next i) (got_keeps.waits ∙ one)
 
       got_advanced : Advanced (length here.actors) i got.0.clock letter.0 got.1.clock
       got_advanced = subst (λ (o : Option (List ℕ)). IfSome o (λ l. Advanced (length here.actors) i got.0.clock l got.1.clock)) letter.1 got.4.0
@@ -378,7 +379,7 @@ module _ (core : CoreData) (list : List ℕ) (k i : ℕ) (live : Live core list 
     takes_none : (h : Ahead) → is_take h ≡ false → kind ≡ h → (a : ℕ) → taken_before core list (suc k) a ≡ taken_before core list k a
     takes_none h e is a = taken_none core list k i a moves (ap is_take is ∙ e)
 
-    behind_by : (h : Ahead) → kind ≡ h → Boxes here next i h → (new : List Seat) → Follows h (length here.actors) i old new → Behind core list k i new
+    behind_by : (h : Ahead) → kind ≡ h → Boxes here next i h → (new : List Seat) → FollowsEvent h (length here.actors) i old new → Behind core list k i new
     behind_by ahead.Take is b new f = take_behind new is b.0 b.1 b.2 f
     behind_by ahead.Task is b new f = task_behind new (not_take ahead.Task refl is) (takes_none ahead.Task refl is) f b.0 b.1
     behind_by (ahead.Send a) is b new f =
@@ -390,5 +391,5 @@ module _ (core : CoreData) (list : List ℕ) (k i : ℕ) (live : Live core list 
     behind_by ahead.TooLong is b new f = absurd b
 
     -- What follows an event keeps what the clocks count.
-    pub behind_event : (new : List Seat) → Follows (ahead_of core here i) (length here.actors) i old new → Behind core list k i new
+    pub behind_event : (new : List Seat) → FollowsEvent (ahead_of core here i) (length here.actors) i old new → Behind core list k i new
     behind_event new f = behind_by kind refl moves.boxes new f

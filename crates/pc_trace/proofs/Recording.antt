@@ -16,7 +16,7 @@ use Rattle.pc_semantics.specs.declared.ahead.Ahead.TheVariants as ahead
 use Rattle.pc_semantics.specs.Ahead.{ahead_of}
 use Rattle.pc_clocks.specs.declared.seat.Seat.{Seat}
 use Rattle.pc_clocks.specs.Seats.{number}
-use Rattle.pc_events.specs.Before.{at_place, Event, waiting}
+use Rattle.pc_events.specs.Before.{at_place, Event, waiting_for}
 use Rattle.pc_events.proofs.Boxes.{Boxes}
 use Rattle.pc_events.specs.Counting.{Counts, AtOrBefore, index, is_event}
 use Rattle.pc_events.proofs.Events.{one_actor}
@@ -70,7 +70,7 @@ module _ (core : CoreData) (list : List ℕ) (n : ℕ) (few : n < list_limit) (i
       let s = own_seat in
       let h = keeps.seat i s.0 s.1 in
       let b : Boxes here (at_place core list (suc n)) i ahead.Take = subst (λ (k : Ahead). Boxes here (at_place core list (suc n)) i k) is (moving core list n i ev).boxes in
-      let l = get_within s.0.letters 0 (some_below (length s.0.letters) (waiting (at_place core list (suc n)) i) (h.waits ∙ b.1)) in
+      let l = get_within s.0.letters 0 (some_below (length s.0.letters) (waiting_for (at_place core list (suc n)) i) (h.waits ∙ b.1)) in
       let k = h.letter 0 l.0 l.1 in
       subst (λ (o : Option Seat). IsSomeAnd o (λ s. IsSomeAnd (slice_get s.letters 0) (λ l. (length l ≤ length here.actors) × (number l i + 1 < 2 ^ 64)))) (sym s.1)
       (subst (λ (o : Option (List ℕ)). IsSomeAnd o (λ l. (length l ≤ length here.actors) × (number l i + 1 < 2 ^ 64))) (sym l.1) (k.width, small_number (number l.0) _ k.post))

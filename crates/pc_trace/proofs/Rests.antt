@@ -8,7 +8,7 @@ use Rattle.pc_semantics.specs.Configurations.{Configuration, main_create, start_
 use Rattle.pc_semantics.specs.Runs.{outcomes}
 use Rattle.pc_clocks.specs.declared.seat.Seat.{Seat}
 use Rattle.pc_clocks.specs.Seats.{number}
-use Rattle.pc_events.specs.Before.{at_place, Event, taken_before, waiting}
+use Rattle.pc_events.specs.Before.{at_place, Event, taken_before, waiting_for}
 use Rattle.pc_events.specs.Counting.{Counts, PastOf, PostOf}
 use Rattle.pc_events.proofs.Totals.{resting}
 use Rattle.pc_events.proofs.Pasts.{counts_none, past_kept, post_kept}
@@ -26,7 +26,7 @@ none_below e l = omega (arith, l)
 -- A seat at the start.
 record First (c : Configuration) (a : ℕ) (s : Seat) : Type 0 where
   clock : s.clock ≡ []
-  waits : length s.letters ≡ waiting c a
+  waits : length s.letters ≡ waiting_for c a
   letters : (n : ℕ) (l : List ℕ) → slice_get s.letters n ≡ Some l → l ≡ []
 
 abbrev no_letters : List (List ℕ)
@@ -108,7 +108,7 @@ keeps_rested core list k seats e h = record { count = h.count ∙ sym (ap (λ (c
         record {
           width = wide (length s.clock) o.width;
           past = past_kept core list k a (no_event a) (number s.clock) o.past;
-          waits = o.waits ∙ ap (λ (c : Configuration). waiting c a) (sym r.same);
+          waits = o.waits ∙ ap (λ (c : Configuration). waiting_for c a) (sym r.same);
           letter = λ n l i.
               let x = o.letter n l i in
               subst (λ (m : ℕ). LetterKeeps core list (suc k) a (m + n) l) (sym (r.counts a)) (record {

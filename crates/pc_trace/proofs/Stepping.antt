@@ -29,7 +29,7 @@ use Rattle.pc_events.specs.Counting.{Live}
 use Rattle.pc_events.proofs.Outcomes.{turn}
 use Rattle.pc_events.proofs.Totals.{moving, resting}
 use Rattle.pc_trace.specs.declared.touch.Touch.{Touch}
-use Rattle.pc_trace.specs.Turns.{Follows, Ready}
+use Rattle.pc_trace.specs.Turns.{FollowsEvent, Ready}
 use Rattle.pc_trace.specs.Keeps.{Keeps, first_seats}
 use Rattle.pc_trace.specs.Noted.{Noted}
 use Rattle.pc_trace.specs.Reached.{Reached, noted_with}
@@ -150,9 +150,9 @@ module _ (core : CoreData) (list : List ℕ) (n : ℕ) (c : Configuration) (seat
       pub moved_ready : Ready (ahead_of core c i) (length c.actors) i seats
       moved_ready = subst (λ (x : Configuration). Ready (ahead_of core x i) (length x.actors) i seats) (sym r.here) (ready core list n few_places i event seats r.keeps)
 
-      module _ (next : List Seat) (follows : Follows (ahead_of core c i) (length c.actors) i seats next) where
+      module _ (next : List Seat) (follows : FollowsEvent (ahead_of core c i) (length c.actors) i seats next) where
         behind : Behind core list n i next
-        behind = behind_event core list n i r.live event seats r.keeps next (subst (λ (x : Configuration). Follows (ahead_of core x i) (length x.actors) i seats next) r.here follows)
+        behind = behind_event core list n i r.live event seats r.keeps next (subst (λ (x : Configuration). FollowsEvent (ahead_of core x i) (length x.actors) i seats next) r.here follows)
 
         touched : access core here i ≡ access core c i
         touched = ap (λ (x : Configuration). access core x i) (sym r.here)

@@ -15,7 +15,7 @@ use Rattle.pc_clocks.specs.Seats.{clock_of}
 use Rattle.pc_trace.specs.declared.touch.Touch.{Touch}
 use Rattle.pc_trace.specs.declared.fault.TraceFault.{TraceFault}
 use Rattle.pc_trace.specs.declared.fault.TraceFault.TheVariants as fault
-use Rattle.pc_trace.specs.Turns.{Follows, Ready, Says, Room}
+use Rattle.pc_trace.specs.Turns.{FollowsEvent, Ready, Says, Room}
 use Rattle.pc_trace.specs.Reached.{Reached, noted_with}
 use Rattle.pc_machine.specs.Limits.{list_limit}
 use Rattle.pc_trace.specs.Traces.{TraceStops}
@@ -53,11 +53,11 @@ module _ (core : CoreData) (list : List ℕ) (n : ℕ) (c : Configuration) (seat
             subst (λ (x : ℕ). Ready kind x (get_or list n 0) seats) (sym count_is)
             (subst (λ (x : Ahead). Ready x (length c.actors) (get_or list n 0) seats) (sym kind_is) (moved_ready core list n c seats touches r within few (get_or list n 0) is d (as_outcome Moved moves)))
 
-        pub turn_moves : (u : Unit {0}) → Room kind count place (Ok u) → (next : List Seat) → Follows kind count (get_or list n 0) seats next → (a : Option Access) → a ≡ access core c (get_or list n 0) → (more : List Touch)
+        pub turn_moves : (u : Unit {0}) → Room kind count place (Ok u) → (next : List Seat) → FollowsEvent kind count (get_or list n 0) seats next → (a : Option Access) → a ≡ access core c (get_or list n 0) → (more : List Touch)
             → more ≡ noted_with a place (get_or list n 0) (clock_of next (get_or list n 0)) touches → Reached core list (n + 1) d next more
         turn_moves u room next follows a a_is more made =
             moved_on core list n c seats touches r within few (get_or list n 0) is d (as_outcome Moved moves) next
-            (subst (λ (x : ℕ). Follows (ahead_of core c (get_or list n 0)) x (get_or list n 0) seats next) count_is (subst (λ (x : Ahead). Follows x count (get_or list n 0) seats next) kind_is follows))
+            (subst (λ (x : ℕ). FollowsEvent (ahead_of core c (get_or list n 0)) x (get_or list n 0) seats next) count_is (subst (λ (x : Ahead). FollowsEvent x count (get_or list n 0) seats next) kind_is follows))
             (λ s. subst (λ (x : ℕ). x < 64) count_is (room (kind_is ∙ s))) place at more (made ∙ ap (λ (x : Option Access). noted_with x place (get_or list n 0) (clock_of next (get_or list n 0)) touches) a_is)
 
 false_true : false ≡ true → ⊥

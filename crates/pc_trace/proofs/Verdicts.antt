@@ -15,7 +15,7 @@ use Rattle.pc_events.proofs.Events.{one_actor, index_event, clock_is}
 use Rattle.pc_trace.specs.declared.touch.Touch.{Touch}
 use Rattle.pc_trace.specs.declared.touch.Verdict.{Verdict}
 use Rattle.pc_trace.specs.declared.touch.Verdict.TheVariants as verdict
-use Rattle.pc_trace.specs.Clashes.{Clash, Known, Unknown, Judged}
+use Rattle.pc_trace.specs.Clashes.{Clash, IsKnownTo, Unknown, JudgedAccesses}
 use Rattle.pc_trace.specs.Noted.{NotedAt, Noted}
 use Rattle.pc_trace.specs.Traces.{AllTouches, VerdictIs}
 
@@ -23,7 +23,7 @@ use Rattle.pc_trace.specs.Traces.{AllTouches, VerdictIs}
 
 module _ (core : CoreData) (list : List ℕ) (q p : ℕ) (t u : Touch) (one : NotedAt core list q t) (other : NotedAt core list p u) where
   -- What a later access's clock counts is before it.
-  known_before : q < p → Known t u → Before core list q p
+  known_before : q < p → IsKnownTo t u → Before core list q p
   known_before l known =
       elim (other.counts.outside t.actor q one.event (later q p l) (up_to _ _ _ (one.counts.inside t.actor q one.event (itself q) (inl refl)) known)) [
         | inl e ↦ absurd (not_same q p l e)
@@ -135,13 +135,13 @@ module _ (core : CoreData) (list : List ℕ) (touches : List Touch) (noted : Not
   no_less n = omega arith
 
   -- Two events that conflict were both noted, and the earlier one is before the later one if its access is known.
-  ordered_if : (q p : ℕ) → q < p → (c : Conflict core list q p) → ((k m : ℕ) (t u : Touch) → At q k t → At p m u → Clash t u → Known t u) → Before core list q p
+  ordered_if : (q p : ℕ) → q < p → (c : Conflict core list q p) → ((k m : ℕ) (t u : Touch) → At q k t → At p m u → Clash t u → IsKnownTo t u) → Before core list q p
   ordered_if q p l c known =
       let a = at_event q c.i c.one c.first c.accesses in
       let b = at_event p c.j c.other c.second c.accesses_too in
       known_before core list q p a.1 b.1 a.2.right b.2.right l (known a.0 b.0 a.1 b.1 a.2 b.2 (conflict_clash core list q p a.1 b.1 a.2.right b.2.right c))
 
-  pub verdict_is : (v : Verdict) → Judged touches v → VerdictIs core list v
+  pub verdict_is : (v : Verdict) → JudgedAccesses touches v → VerdictIs core list v
   verdict_is verdict.Ordered h = λ q p l c. ordered_if q p l c (λ k m t u a b clash. h m u (get_below touches m u b.is) b.is k t (no_less k) (in_order q p k m t u a b l) a.is clash)
   verdict_is (verdict.Conflict first second) h =
       let q = at_index h.from h.other h.is_too in
@@ -164,7 +164,7 @@ module _ (core : CoreData) (list : List ℕ) (touches : List Touch) (noted : Not
         λ r b m c.
             ordered_if r p.0 m c (λ k n t u x y clash.
             let here : u ≡ h.one = same_access p.0 n h.at u h.one y p.1 in
-            subst (Known t) (sym here) (h.latest.later k t (in_order q.0 r h.from k h.other t q.1 x b) (in_order r p.0 k h.at t h.one x p.1 m) x.is (subst (Clash t) here clash))),
+            subst (IsKnownTo t) (sym here) (h.latest.later k t (in_order q.0 r h.from k h.other t q.1 x b) (in_order r p.0 k h.at t h.one x p.1 m) x.is (subst (Clash t) here clash))),
       )
     where
       -- At one place there is one access.

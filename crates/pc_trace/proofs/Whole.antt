@@ -22,7 +22,7 @@ use Rattle.pc_trace.specs.declared.touch.Verdict.{Verdict}
 use Rattle.pc_trace.specs.declared.touch.Verdict.TheVariants.{Ordered}
 use Rattle.pc_trace.specs.declared.fault.TraceFault.{TraceFault}
 use Rattle.pc_trace.specs.declared.fault.TraceFault.TheVariants as fault
-use Rattle.pc_trace.specs.Clashes.{Judged}
+use Rattle.pc_trace.specs.Clashes.{JudgedAccesses}
 use Rattle.pc_trace.specs.Covers.{Rises}
 use Rattle.pc_trace.specs.Noted.{Noted}
 use Rattle.pc_trace.specs.Traces.{RanOn, AllTouches, VerdictIs, TraceStops}
@@ -95,8 +95,9 @@ module _ (core : CoreData) (list : List ℕ) (touches : List Touch) (noted : Not
 
   -- ---- what is reported
 
-  pub told : (l : List Touch) → l ≡ touches → (v : Verdict) → Judged l v → RanOn core list → RanOn core list × AllTouches core list touches × VerdictIs core list v
-  told l is v judged ran = (ran, all_touches core list touches noted, verdict_is core list touches noted v (subst (λ (x : List Touch). Judged x v) is judged))
+  pub told : (l : List Touch) → l ≡ touches → (v : Verdict) → JudgedAccesses l v → RanOn core list → RanOn core list × AllTouches core list touches × VerdictIs core list v
+  told l is v judged ran =
+      (ran, all_touches core list touches noted, verdict_is core list touches noted v (subst (λ (x : List Touch). JudgedAccesses x v) is judged))
 
   pub told_safe : Safe core → RanOn core list → RanOn core list × AllTouches core list touches × VerdictIs core list Ordered
   told_safe safe ran = (ran, all_touches core list touches noted, λ q p l c. earlier_comes_before core safe list q p l c)

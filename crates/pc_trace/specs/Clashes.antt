@@ -13,15 +13,15 @@ pub record Clash (q p : Touch) : Type 0 where
   pub writes : (q.write ≡ true) ⊎ (p.write ≡ true)
 
 -- The clock of p counts q.
-abbrev pub Known : Touch → Touch → Type 0
-Known q p = number q.clock q.actor ≤ number p.clock q.actor
+abbrev pub IsKnownTo : Touch → Touch → Type 0
+IsKnownTo q p = number q.clock q.actor ≤ number p.clock q.actor
 
 abbrev pub Unknown : Touch → Touch → Type 0
 Unknown q p = Clash q p × (number p.clock q.actor < number q.clock q.actor)
 
 -- The clock of p counts all of these accesses that clash with p, from one place on and before another.
 abbrev pub KnownBetween : List Touch → (from to : ℕ) → Touch → Type 0
-KnownBetween touches from to p = (m : ℕ) (q : Touch) → from ≤ m → m < to → slice_get touches m ≡ Some q → Clash q p → Known q p
+KnownBetween touches from to p = (m : ℕ) (q : Touch) → from ≤ m → m < to → slice_get touches m ≡ Some q → Clash q p → IsKnownTo q p
 
 -- Each access before this place counts all earlier ones that clash with it.
 abbrev pub KnownUpTo : List Touch → ℕ → Type 0
@@ -36,9 +36,9 @@ pub record LatestUnknown (touches : List Touch) (to : ℕ) (p : Touch) (m : ℕ)
   pub later : KnownBetween touches (suc m) to p
 
 -- What is found about the access at a place.
-abbrev pub Found : List Touch → ℕ → Option ℕ → Type 0
-Found touches at None = (p : Touch) → slice_get touches at ≡ Some p → KnownBetween touches 0 at p
-Found touches at (Some m) = (p : Touch) → slice_get touches at ≡ Some p → LatestUnknown touches at p m
+abbrev pub FoundOfAccess : List Touch → ℕ → Option ℕ → Type 0
+FoundOfAccess touches at None = (p : Touch) → slice_get touches at ≡ Some p → KnownBetween touches 0 at p
+FoundOfAccess touches at (Some m) = (p : Touch) → slice_get touches at ≡ Some p → LatestUnknown touches at p m
 
 -- The first access that does not count one it clashes with, and the latest of those.
 pub record FirstUnknown (touches : List Touch) (first second : ℕ) : Type 0 where
@@ -53,6 +53,6 @@ pub record FirstUnknown (touches : List Touch) (first second : ℕ) : Type 0 whe
   pub latest : LatestUnknown touches at one from
   pub earlier : KnownUpTo touches at
 
-abbrev pub Judged : List Touch → Verdict → Type 0
-Judged touches Ordered = KnownUpTo touches (length touches)
-Judged touches (Conflict first second) = FirstUnknown touches first second
+abbrev pub JudgedAccesses : List Touch → Verdict → Type 0
+JudgedAccesses touches Ordered = KnownUpTo touches (length touches)
+JudgedAccesses touches (Conflict first second) = FirstUnknown touches first second

@@ -16,7 +16,7 @@ abbrev pub Replaces : Touch → Touch → Type 0
 Replaces later earlier = (later.actor ≡ earlier.actor) × ((later.write ≡ true) ⊎ (earlier.write ≡ false))
 
 -- One of the places kept for its field represents access q at place m.
-pub record Stands (touches : List Touch) (rows : RowList) (m : ℕ) (q : Touch) : Type 0 where
+pub record StandsForAccess (touches : List Touch) (rows : RowList) (m : ℕ) (q : Touch) : Type 0 where
   pub place : ℕ
   pub other : Touch
   pub later : m ≤ place
@@ -29,7 +29,7 @@ pub record Stands (touches : List Touch) (rows : RowList) (m : ℕ) (q : Touch) 
 -- This holds for all accesses before a place, and no later place is kept.
 pub record Covers (touches : List Touch) (at : ℕ) (rows : RowList) : Type 0 where
   pub below : (s : Spot) (m : ℕ) → Has (row_of rows s) m → m < at
-  pub covered : (m : ℕ) (q : Touch) → m < at → slice_get touches m ≡ Some q → Stands touches rows m q
+  pub covered : (m : ℕ) (q : Touch) → m < at → slice_get touches m ≡ Some q → StandsForAccess touches rows m q
 
 -- Of two accesses of one actor, the later one's clock counts more of its events.
 abbrev pub Rises : List Touch → Type 0

@@ -3,7 +3,7 @@ use Rattle.std.specs.Prelude.{◌≡◌, ◌≤◌, ℕ, zero, suc, ◌+◌, Lis
 use Rattle.pc_core.specs.CoreData.{CoreData}
 use Rattle.pc_clocks.specs.declared.seat.Seat.{Seat}
 use Rattle.pc_clocks.specs.Seats.{number}
-use Rattle.pc_events.specs.Before.{at_place, taken_before, waiting}
+use Rattle.pc_events.specs.Before.{at_place, taken_before, waiting_for}
 use Rattle.pc_events.specs.Counting.{Counts, PastOf, PostOf}
 
 -- The clock of message n of the mailbox of actor a, at place k.
@@ -16,7 +16,7 @@ pub record LetterKeeps (core : CoreData) (list : List ℕ) (k a n : ℕ) (l : Li
 pub record SeatKeeps (core : CoreData) (list : List ℕ) (k a : ℕ) (s : Seat) : Type 0 where
   pub width : length s.clock ≤ length (at_place core list k).actors
   pub past : Counts core list k (PastOf core list k a) (number s.clock)
-  pub waits : length s.letters ≡ waiting (at_place core list k) a
+  pub waits : length s.letters ≡ waiting_for (at_place core list k) a
   pub letter : (n : ℕ) (l : List ℕ) → slice_get s.letters n ≡ Some l → LetterKeeps core list k a (taken_before core list k a + n) l
 
 pub record Keeps (core : CoreData) (list : List ℕ) (k : ℕ) (seats : List Seat) : Type 0 where

@@ -70,8 +70,8 @@ pub record RanOn (core : CoreData) (list : List ℕ) : Type 0 where
   pub goes_on : end_of (outcomes core list) ≡ None
   pub few : length (after core list).actors ≤ actor_limit
 
-abbrev pub IsTrace : CoreData → List ℕ → Trace → Type 0
-IsTrace core list t = RanOn core list × AllTouches core list t.touches × VerdictIs core list t.verdict
+abbrev pub IsTraceOfRun : CoreData → List ℕ → Trace → Type 0
+IsTraceOfRun core list t = RanOn core list × AllTouches core list t.touches × VerdictIs core list t.verdict
 
 -- The step at this place makes an actor, and there are as many actors as there may be.
 pub record TooManyAt (core : CoreData) (list : List ℕ) (n : ℕ) : Type 0 where

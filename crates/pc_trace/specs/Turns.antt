@@ -20,20 +20,20 @@ abbrev pub Receives : (count actor : ℕ) → List Seat → List Seat → Type 0
 Receives count actor old new = ChangedAt old new actor (λ s t. IfSome (slice_get s.letters 0) (λ l. Advanced count actor s.clock l t.clock) × (t.letters ≡ drop 1 s.letters))
 
 -- A message with its clock is put into a mailbox.
-abbrev pub Posts : (sender receiver : ℕ) → List Seat → List Seat → Type 0
-Posts sender receiver old new = ChangedAt old new receiver (λ s t. (t.clock ≡ s.clock) × (t.letters ≡ s.letters ++ clock_of old sender ∷ []))
+abbrev pub PostsMessage : (sender receiver : ℕ) → List Seat → List Seat → Type 0
+PostsMessage sender receiver old new = ChangedAt old new receiver (λ s t. (t.clock ≡ s.clock) × (t.letters ≡ s.letters ++ clock_of old sender ∷ []))
 
 -- A new actor is added, with a message that has its maker's clock.
 abbrev pub Born : ℕ → List Seat → List Seat → Type 0
 Born maker old new = new ≡ old ++ record { clock = []; letters = clock_of old maker ∷ [] } ∷ []
 
 -- After an event of this kind.
-abbrev pub Follows : Ahead → (count actor : ℕ) → List Seat → List Seat → Type 0
-Follows ahead.Take count actor old new = Receives count actor old new
-Follows ahead.Task count actor old new = Acts count actor old new
-Follows (ahead.Send receiver) count actor old new = (mid : List Seat) × Acts count actor old mid × Posts actor receiver mid new
-Follows ahead.Spawn count actor old new = (mid : List Seat) × Acts count actor old mid × Born actor mid new
-Follows x count actor old new = Unit {0}
+abbrev pub FollowsEvent : Ahead → (count actor : ℕ) → List Seat → List Seat → Type 0
+FollowsEvent ahead.Take count actor old new = Receives count actor old new
+FollowsEvent ahead.Task count actor old new = Acts count actor old new
+FollowsEvent (ahead.Send receiver) count actor old new = (mid : List Seat) × Acts count actor old mid × PostsMessage actor receiver mid new
+FollowsEvent ahead.Spawn count actor old new = (mid : List Seat) × Acts count actor old mid × Born actor mid new
+FollowsEvent x count actor old new = Unit {0}
 
 -- What an event of this kind requires, among this number of actors: the actor, whose clock has no number that is too
 -- large; the message that it takes, with such a clock too; and the receiver of a message.

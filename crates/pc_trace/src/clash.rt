@@ -1,7 +1,7 @@
 //! Conflicts between the accesses that are reported.
 ghost use Rattle.std.specs.Prelude.{◌≡◌, ◌+◌, ◌<◌, ◌^◌, Decides, IfOk, OnOk, length};
 ghost use Rattle.pc_clocks.specs.Seats.{number};
-ghost use Rattle.pc_trace.specs.Clashes.{Found, Judged, Unknown};
+ghost use Rattle.pc_trace.specs.Clashes.{FoundOfAccess, JudgedAccesses, Unknown};
 ghost use Rattle.pc_trace.specs.Covers.{Covers, Rises};
 
 use crate::lasts::{Lasts, field_spot};
@@ -42,7 +42,7 @@ fn look(
     requires few { length touches.now < 2 ^ 32 }
     requires rises { Rises touches.now }
     requires covers { Covers touches.now at lasts.old }
-    ensures found { IfOk result (Found touches.now at) }
+    ensures found { IfOk result (FoundOfAccess touches.now at) }
     ensures covers { OnOk result (Covers touches.now (at + 1) lasts.new) }
 {
     let access = &touches[at];
@@ -59,7 +59,7 @@ fn look(
 pub fn judged(alloc: Global, touches: &[Touch]) -> Result<Verdict, AllocError>
     requires few { length touches.now < 2 ^ 32 }
     requires rises { Rises touches.now }
-    ensures { IfOk result (Judged touches.now) }
+    ensures { IfOk result (JudgedAccesses touches.now) }
 {
     let mut lasts = Lasts::new(alloc);
     for at in 0..touches.len() {

@@ -1,7 +1,7 @@
 //! What an event does to the clocks that are kept.
 ghost use Rattle.std.specs.Prelude.{OnOk};
 ghost use Rattle.pc_semantics.specs.declared.ahead.Ahead.TheVariants as kind;
-ghost use Rattle.pc_trace.specs.Turns.{Follows, Ready};
+ghost use Rattle.pc_trace.specs.Turns.{FollowsEvent, Ready};
 
 use pc_clocks::Seats;
 use pc_semantics::Ahead;
@@ -16,7 +16,7 @@ fn act_and_send(
     actor: usize,
 ) -> Result<(), AllocError>
     requires { Ready (kind.Send receiver) count actor seats.old }
-    ensures { OnOk result (Follows (kind.Send receiver) count actor seats.old seats.new) }
+    ensures { OnOk result (FollowsEvent (kind.Send receiver) count actor seats.old seats.new) }
 {
     seats.act(count, actor)?;
     seats.send(alloc, actor, receiver as usize)
@@ -30,7 +30,7 @@ fn act_and_spawn(
     actor: usize,
 ) -> Result<(), AllocError>
     requires { Ready kind.Spawn count actor seats.old }
-    ensures { OnOk result (Follows kind.Spawn count actor seats.old seats.new) }
+    ensures { OnOk result (FollowsEvent kind.Spawn count actor seats.old seats.new) }
 {
     seats.act(count, actor)?;
     seats.spawn(alloc, actor)
@@ -45,7 +45,7 @@ pub fn follow(
     actor: usize,
 ) -> Result<(), AllocError>
     requires { Ready ahead count actor seats.old }
-    ensures { OnOk result (Follows ahead count actor seats.old seats.new) }
+    ensures { OnOk result (FollowsEvent ahead count actor seats.old seats.new) }
 {
     match ahead {
         Ahead::Take => seats.receive(count, actor),

@@ -3,7 +3,7 @@ ghost use Rattle.std.specs.Prelude.{◌≤◌, MatchResult, length};
 ghost use Rattle.pc_semantics.specs.Safety.{Safe};
 ghost use Rattle.pc_trace.specs.declared.touch.Verdict.TheVariants.{Ordered};
 ghost use Rattle.pc_machine.specs.Limits.{list_limit};
-ghost use Rattle.pc_trace.specs.Traces.{AcceptedStops, AllTouches, IsTrace, RanOn, TraceStops, VerdictIs};
+ghost use Rattle.pc_trace.specs.Traces.{AcceptedStops, AllTouches, IsTraceOfRun, RanOn, TraceStops, VerdictIs};
 
 use crate::clash::judged;
 use crate::fault::{AcceptedFault, TraceFault};
@@ -22,7 +22,7 @@ use std::alloc::Global;
 /// - `Memory` if memory ran out.
 pub fn trace(alloc: Global, core: &Core, list: &[u32]) -> Result<Trace, TraceFault>
     requires { length list.now ≤ list_limit }
-    ensures { MatchResult result (IsTrace core.now list.now) (TraceStops core.now list.now) }
+    ensures { MatchResult result (IsTraceOfRun core.now list.now) (TraceStops core.now list.now) }
 {
     let touches = recorded(alloc, core, list)?;
     let verdict = judged(alloc, touches.as_slice())?;

@@ -7,8 +7,8 @@ use Rattle.pc_caps.specs.declared.capability.Cap.{Cap}
 use Rattle.pc_tree.specs.Tree as t
 use Rattle.pc_tree.specs.View.{expr_view, item_view, suffix_view, arm_view, seq_view, exprs_view, suffixes_view, arms_view, items_view, other_view}
 use Rattle.pc_tree.specs.declared.kinds.Op.{Op}
-use Rattle.pc_tree.specs.declared.names.Name.{Name}
-use Rattle.pc_tree.specs.declared.names.TypeRef.{TypeRef}
+use Rattle.pc_tree.specs.declared.written_names.Name.{Name}
+use Rattle.pc_tree.specs.declared.written_names.TypeRef.{TypeRef}
 use Rattle.pc_tree.specs.declared.expression.Expr.{Expr, the_lemmas}
 use Rattle.pc_tree.specs.declared.expression.Expr.TheVariants as e
 use Rattle.pc_tree.specs.declared.expression.Item.{Item}

@@ -1,6 +1,6 @@
 //! Trees of expressions and sequences.
 use crate::kinds::Op;
-use crate::names::{Name, TypeRef};
+use crate::written_names::{Name, TypeRef};
 use pc_caps::{Cap, List, SharedList, Span};
 
 /// A sequence: one or more items, of which the last gives the value.

@@ -1,7 +1,7 @@
 //! Trees of files: entities, fields, methods.
 use crate::expression::{Expr, Seq};
 use crate::kinds::{EntityKind, MethodWord};
-use crate::names::{Name, TypeRef};
+use crate::written_names::{Name, TypeRef};
 use pc_caps::{Cap, List};
 
 /// The tree of a whole source text.

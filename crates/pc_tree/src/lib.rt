@@ -10,7 +10,7 @@ mod built_in;
 mod expression;
 mod file;
 mod kinds;
-mod names;
+mod written_names;
 mod spans;
 
 pub use built_in::{
@@ -19,5 +19,5 @@ pub use built_in::{
 pub use expression::{Arm, Expr, Item, Seq, Suffix};
 pub use file::{Entity, FieldDef, File, MethodDef, ParamDef};
 pub use kinds::{EntityKind, MethodWord, Op};
-pub use names::{Name, TypeRef};
+pub use written_names::{Name, TypeRef};
 pub use spans::{join, span_of};

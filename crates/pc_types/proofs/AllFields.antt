@@ -9,7 +9,7 @@ use Rattle.pc_core.specs.CoreData.{CoreData}
 use Rattle.pc_masks.specs.declared.mask.Mask.{Mask}
 use Rattle.pc_ann.specs.declared.annotation.Ann.{Ann}
 use Rattle.pc_masks.specs.MaskLaws.{first_bits}
-use Rattle.pc_semantics.specs.Around.{entity_of}
+use Rattle.pc_semantics.specs.Around.{value_entity}
 use Rattle.pc_rules.specs.Parts.{fields_in, field_count, all_fields}
 use Rattle.pc_types.proofs.Types.{Finished}
 use Rattle.pc_types.proofs.Tasks.{Within}
@@ -22,7 +22,7 @@ within_sixty_four : (i n m k : ℕ) → i < n → n ≡ m → k ≡ m → m ≤ 
 within_sixty_four i n m k l e g few = (omega (arith, l, e, g), omega (arith, l, e, few))
 
 -- What has values in all fields of its entity is finished.
-pub all_set : (core : CoreData) (ann : Ann) (needs : Needs core ann) (objects : ObjectMap) (count : ℕ) (set : Mask) (d : ℕ) (v : Value) → ObjectsOk core objects count → HasFields objects set v → entity_of objects v ≡ Some d → Within (all_fields core d) set → Finished objects v
+pub all_set : (core : CoreData) (ann : Ann) (needs : Needs core ann) (objects : ObjectMap) (count : ℕ) (set : Mask) (d : ℕ) (v : Value) → ObjectsOk core objects count → HasFields objects set v → value_entity objects v ≡ Some d → Within (all_fields core d) set → Finished objects v
 all_set core ann needs objects count set d (At a) ok k is w =
     let x = (ok.each a k.0 k.1).0 in
     let same : k.0.entity ≡ d = same_Some k.0.entity d (sym (class_is objects a k.0 k.1) ∙ is) in

@@ -21,7 +21,8 @@ use Rattle.pc_ann.specs.declared.annotation.Rule.TheVariants as rule
 use Rattle.pc_semantics.specs.declared.frames.Frame.{Frame}
 use Rattle.pc_semantics.specs.declared.frames.Task.TheVariants as task
 use Rattle.pc_semantics.specs.Around.{Around, Move, Overflows, Goes, with_stack, pushed}
-use Rattle.pc_semantics.specs.Operators.{gives, of_numbers, of_truths, joined, of_texts, with_number, with_truth, with_text, binary, negated, same_truth, same_value, compared}
+use Rattle.pc_semantics.specs.Operators.{push_or_lack, of_numbers, of_truths, joined_text, of_texts, with_second_number, with_truth, with_text, binary, negated}
+use Rattle.pc_semantics.specs.Operators.{same_truth, same_value, compared}
 use Rattle.pc_caps.specs.Limits.{text_limit}
 use Rattle.pc_semantics.specs.Choices.{apply_task}
 use Rattle.pc_rules.specs.Parts.{reads_as, through, type_of, one_child}
@@ -77,7 +78,7 @@ texts_give g op.Eq a b h = (_, refl)
 texts_give g op.Ne a b h = (_, refl)
 texts_give g o a b h = absurd (false_true h)
 
-add_gives : (g : Frame) (o : Op) (a b : List ℕ) → is_add o ≡ true → of_texts g o a b ≡ joined g (a ++ b)
+add_gives : (g : Frame) (o : Op) (a b : List ℕ) → is_add o ≡ true → of_texts g o a b ≡ joined_text g (a ++ b)
 add_gives g op.Add a b h = refl
 add_gives g o a b h = absurd (false_true h)
 
@@ -154,10 +155,10 @@ module _ (core : CoreData) (ann : Ann) (needs : Needs core ann) (around : Around
       is_two : w ≡ Text two
 
     module _ (o : Op) (v w : Value) where
-      by_numbers : (b : Numbers v w) → Holds (gives (with_stack f rest) (of_numbers o b.one b.two)) → Holds (binary (with_stack f rest) o v w)
-      by_numbers b k = subst (λ (x : Value). Holds (binary (with_stack f rest) o x w)) (sym b.is_one) (subst (λ (x : Value). Holds (with_number (with_stack f rest) o b.one x)) (sym b.is_two) k)
+      by_numbers : (b : Numbers v w) → Holds (push_or_lack (with_stack f rest) (of_numbers o b.one b.two)) → Holds (binary (with_stack f rest) o v w)
+      by_numbers b k = subst (λ (x : Value). Holds (binary (with_stack f rest) o x w)) (sym b.is_one) (subst (λ (x : Value). Holds (with_second_number (with_stack f rest) o b.one x)) (sym b.is_two) k)
 
-      by_truths : (b : Truths v w) → Holds (gives (with_stack f rest) (of_truths o b.one b.two)) → Holds (binary (with_stack f rest) o v w)
+      by_truths : (b : Truths v w) → Holds (push_or_lack (with_stack f rest) (of_truths o b.one b.two)) → Holds (binary (with_stack f rest) o v w)
       by_truths b k = subst (λ (x : Value). Holds (binary (with_stack f rest) o x w)) (sym b.is_one) (subst (λ (x : Value). Holds (with_truth (with_stack f rest) o b.one x)) (sym b.is_two) k)
 
       by_texts : (b : Texts v w) → Holds (of_texts (with_stack f rest) o b.one b.two) → Holds (binary (with_stack f rest) o v w)
@@ -189,19 +190,19 @@ module _ (core : CoreData) (ann : Ann) (needs : Needs core ann) (around : Around
         arith_ok a h s =
             let b = numbers h in
             let g = arithmetic_gives o b.one b.two a in
-            by_numbers b (subst (λ (x : Option Value). Holds (gives (with_stack f rest) x)) (sym g.1) (number_ok g.0 s))
+            by_numbers b (subst (λ (x : Option Value). Holds (push_or_lack (with_stack f rest) x)) (sym g.1) (number_ok g.0 s))
 
         compare_ok : is_comparison o ≡ true → both_read_as 1 vs ≡ true → Says e.note (Some (2, form.Val)) e.behind → Holds (binary (with_stack f rest) o v w)
         compare_ok a h s =
             let b = numbers h in
             let g = comparison_gives o b.one b.two a in
-            by_numbers b (subst (λ (x : Option Value). Holds (gives (with_stack f rest) x)) (sym g.1) (truth_ok g.0 s))
+            by_numbers b (subst (λ (x : Option Value). Holds (push_or_lack (with_stack f rest) x)) (sym g.1) (truth_ok g.0 s))
 
         xor_ok : is_xor o ≡ true → both_read_as 2 vs ≡ true → Says e.note (Some (2, form.Val)) e.behind → Holds (binary (with_stack f rest) o v w)
         xor_ok a h s =
             let b = truths h in
             let g = xor_gives o b.one b.two a in
-            by_truths b (subst (λ (x : Option Value). Holds (gives (with_stack f rest) x)) (sym g.1) (truth_ok g.0 s))
+            by_truths b (subst (λ (x : Option Value). Holds (push_or_lack (with_stack f rest) x)) (sym g.1) (truth_ok g.0 s))
 
         join_ok : is_add o ≡ true → both_read_as 3 vs ≡ true → Says e.note (Some (3, form.Val)) e.behind → Holds (binary (with_stack f rest) o v w)
         join_ok a h s =
@@ -212,13 +213,13 @@ module _ (core : CoreData) (ann : Ann) (needs : Needs core ann) (around : Around
         equal_numbers a h s =
             let b = numbers h in
             let g = equality_gives o b.one b.two a in
-            by_numbers b (subst (λ (x : Option Value). Holds (gives (with_stack f rest) x)) (sym g.1) (truth_ok g.0 s))
+            by_numbers b (subst (λ (x : Option Value). Holds (push_or_lack (with_stack f rest) x)) (sym g.1) (truth_ok g.0 s))
 
         equal_truths : is_equality o ≡ true → both_read_as 2 vs ≡ true → Says e.note (Some (2, form.Val)) e.behind → Holds (binary (with_stack f rest) o v w)
         equal_truths a h s =
             let b = truths h in
             let g = truths_give o b.one b.two a in
-            by_truths b (subst (λ (x : Option Value). Holds (gives (with_stack f rest) x)) (sym g.1) (truth_ok g.0 s))
+            by_truths b (subst (λ (x : Option Value). Holds (push_or_lack (with_stack f rest) x)) (sym g.1) (truth_ok g.0 s))
 
         equal_texts : is_equality o ≡ true → both_read_as 3 vs ≡ true → Says e.note (Some (2, form.Val)) e.behind → Holds (binary (with_stack f rest) o v w)
         equal_texts a h s =

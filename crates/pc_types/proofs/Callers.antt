@@ -27,7 +27,7 @@ use Rattle.pc_core.specs.MethodKinds.{constructor_kind, word_kind}
 use Rattle.pc_masks.specs.declared.mask.Mask.{Mask}
 use Rattle.pc_ann.specs.declared.annotation.Note.{Note}
 use Rattle.pc_ann.specs.declared.annotation.Ann.{Ann}
-use Rattle.pc_masks.specs.Masks.{IsIn, empty}
+use Rattle.pc_masks.specs.Masks.{IsInMask, empty}
 use Rattle.pc_masks.specs.MaskLaws.{first_bits}
 use Rattle.pc_semantics.specs.declared.frames.Frame.{Frame}
 use Rattle.pc_semantics.specs.Configurations.{blank_object}
@@ -54,8 +54,8 @@ use Rattle.pc_types.proofs.Running.{fewer_slots, fewer_set, frame_in}
 pub left_within : (o : Option Masks) (b c : Masks) (live set l s : Mask) → o ≡ Some b → o ≡ Some c → live ≡ c.0 → set ≡ c.1 → Within b.0 l → Within b.1 s → Within live l × Within set s
 left_within o b c live set l s e g is_live is_set wl ws =
     let same : b ≡ c = same_Some b c (sym e ∙ g) in (
-      λ i h. wl i (subst (λ (p : Masks). IsIn p.0 i) (sym same) (subst (λ (p : Mask). IsIn p i) is_live h)),
-      λ i h. ws i (subst (λ (p : Masks). IsIn p.1 i) (sym same) (subst (λ (p : Mask). IsIn p i) is_set h)),
+      λ i h. wl i (subst (λ (p : Masks). IsInMask p.0 i) (sym same) (subst (λ (p : Mask). IsInMask p i) is_live h)),
+      λ i h. ws i (subst (λ (p : Masks). IsInMask p.1 i) (sym same) (subst (λ (p : Mask). IsInMask p i) is_set h)),
     )
 
 -- ---- methods
@@ -112,10 +112,10 @@ not_print core ann needs m f k at is other zero = other (sym is ∙ ap (λ (g : 
 
 -- ---- an object that begins
 
-no_bit : (i : ℕ) → IsIn empty i → ⊥
+no_bit : (i : ℕ) → IsInMask empty i → ⊥
 no_bit i h = let p = ((first_bits 0 i).0 h).0 in absurd (omega (arith, p))
 
-pub nothing_set : (core : CoreData) (f : Method) (i : ℕ) → constructs f.kind ≡ true → IsIn (start_set core f) i → ⊥
+pub nothing_set : (core : CoreData) (f : Method) (i : ℕ) → constructs f.kind ≡ true → IsInMask (start_set core f) i → ⊥
 nothing_set core f i c h = no_bit i (rw c at h)
 
 -- The object of a class or an actor, as `this` of a constructor that begins.

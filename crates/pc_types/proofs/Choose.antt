@@ -15,7 +15,7 @@ use Rattle.pc_semantics.specs.declared.frames.Task.{Task}
 use Rattle.pc_semantics.specs.declared.frames.Task.TheVariants as task
 use Rattle.pc_semantics.specs.Around.{Around, Move, Goes, with_stack, pushed, with_top, none}
 use Rattle.pc_semantics.specs.Tasks.{at_node}
-use Rattle.pc_semantics.specs.Choices.{truth, right_side, test_and, test_or, test_task, branch, branch_task, turn, loop_task}
+use Rattle.pc_semantics.specs.Choices.{truth, right_side, test_and, test_or, test_task, branch, branch_task, loop_turn, loop_task}
 use Rattle.pc_valid.specs.Words.{Ty}
 use Rattle.pc_rules.specs.Fields.{is_this}
 use Rattle.pc_lists.proofs.Bools.{false_true}
@@ -105,7 +105,7 @@ module _ (core : CoreData) (ann : Ann) (needs : Needs core ann) (around : Around
         push_ok core ann needs around f fs r e.node e.note e.below t.rest none e.ended e.live e.set t.ok
         (subst (λ (o : Option Ty). OfSome core around.objects o none) (sym e.ty) typed) (λ h. absurd (other h))
 
-    turn_by : (b : Bool) (t : TopTruth e.below) → MoveOk core ann around fs (turn n (e.condition ∷ e.body ∷ []) b (with_stack f t.rest))
+    turn_by : (b : Bool) (t : TopTruth e.below) → MoveOk core ann around fs (loop_turn n (e.condition ∷ e.body ∷ []) b (with_stack f t.rest))
     turn_by true t = goes_on e.below t.rest e.body (task.Discard ∷ task.Eval n ∷ f.tasks) t.ok e.turn
     turn_by false t = ended_ok t (no_children e.node.kind (needs.formed.nodes n e.node e.is_node).arity)
 
@@ -113,8 +113,8 @@ module _ (core : CoreData) (ann : Ann) (needs : Needs core ann) (around : Around
     loop_ok =
         let t = top_truth e.below e.top in
         subst (λ (o : Option Node). MoveOk core ann around fs (at_node o (λ x. loop_task f n x.children))) (sym e.is_node)
-        (by_truth e.below (turn n e.node.children) t
-        (subst (λ (cs : List ℕ). MoveOk core ann around fs (turn n cs t.value (with_stack f t.rest))) (sym e.children) (turn_by t.value t)))
+        (by_truth e.below (loop_turn n e.node.children) t
+        (subst (λ (cs : List ℕ). MoveOk core ann around fs (loop_turn n cs t.value (with_stack f t.rest))) (sym e.children) (turn_by t.value t)))
 
   discard_ok : DiscardOk r.held.wants (λ g. TasksOk core ann f.method f.tasks r.held.live r.held.set g) → MoveOk core ann around fs (with_top f f.stack (λ v g. Goes g))
   discard_ok e =

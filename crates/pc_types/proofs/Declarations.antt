@@ -15,7 +15,7 @@ use Rattle.pc_core.specs.CoreData.{CoreData}
 use Rattle.pc_lists.specs.Places.{Has}
 use Rattle.pc_core.specs.Lookup.{own_methods, field_name, method_name, method_named, IsMethod}
 use Rattle.pc_lists.specs.Lookup.{place_of}
-use Rattle.pc_core.specs.Entities.{IsAbstract, Names, Leads, one, more}
+use Rattle.pc_core.specs.Entities.{IsAbstract, Provides, Leads, one, more}
 use Rattle.pc_core.specs.Members.{method_among, method_found, method_missed}
 use Rattle.pc_lists.proofs.Bools.{false_true}
 use Rattle.pc_lists.proofs.Options.{bind_some}
@@ -40,7 +40,7 @@ chain_on core a b c (inr l) (inl e) = inr (subst (Leads core a) e l)
 chain_on core a b c (inr l) (inr r) = inr (lead_on core a b c l r)
 
 -- A chain leads to a trait or an interface.
-named_trait : (core : CoreData) (a b : ℕ) → Formed core → Names core a b → IsAbstract core b
+named_trait : (core : CoreData) (a b : ℕ) → Formed core → Provides core a b → IsAbstract core b
 named_trait core a b formed n = (formed.entities a n.0 n.1).provides n.2.0 b n.2.1
 
 ends_in_trait : (core : CoreData) (a b : ℕ) → Formed core → Leads core a b → IsAbstract core b

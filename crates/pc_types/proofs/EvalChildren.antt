@@ -11,14 +11,14 @@ use Rattle.pc_lists.proofs.Options.{bind_some, kept, bind_is}
 use Rattle.pc_masks.specs.declared.mask.Mask.{Mask}
 use Rattle.pc_ann.specs.declared.annotation.Note.{Note}
 use Rattle.pc_ann.specs.declared.annotation.Ann.{Ann}
-use Rattle.pc_masks.specs.Masks.{IsIn}
+use Rattle.pc_masks.specs.Masks.{IsInMask}
 use Rattle.pc_masks.specs.MaskLaws.{without_number_bits}
 use Rattle.pc_semantics.specs.declared.frames.Task.{Task}
 use Rattle.pc_semantics.specs.declared.frames.Task.TheVariants as task
 use Rattle.pc_semantics.specs.Children.{evaluations}
-use Rattle.pc_semantics.specs.Evaluation.{items}
+use Rattle.pc_semantics.specs.Evaluation.{item_tasks}
 use Rattle.pc_rules.specs.Parts.{starts, through, type_of, last_child}
-use Rattle.pc_valid.specs.Words.{Ty, Masks, before, after}
+use Rattle.pc_valid.specs.Words.{Ty, Masks, before, masks_after}
 use Rattle.pc_rules.specs.Control.{without_definition, without_item, without_items}
 use Rattle.pc_rules.proofs.Threads.{starts_so}
 use Rattle.pc_types.proofs.Types.{Lower, Want}
@@ -29,7 +29,7 @@ use Rattle.pc_types.proofs.Basic.{within_same, within_trans, same_lower}
 -- ---- masks
 
 pub within_is : (a b : Mask) → a ≡ b → Within a b
-within_is a b e i h = subst (λ (m : Mask). IsIn m i) e h
+within_is a b e i h = subst (λ (m : Mask). IsInMask m i) e h
 
 -- What is live after a sequence is live after its last item.
 definition_less : (k : NodeKind) (l : Mask) → Within (without_definition k l) l
@@ -51,12 +51,12 @@ pub record First (ann : Ann) (c : ℕ) (cs : List ℕ) (m n : Masks) : Type 0 wh
   pub note : Note
   pub is_note : slice_get ann.notes c ≡ Some note
   pub starts : before note ≡ m
-  pub rest : through ann cs (after note) ≡ Some n
+  pub rest : through ann cs (masks_after note) ≡ Some n
 
 pub first_of_them : (ann : Ann) (c : ℕ) (cs : List ℕ) (m n : Masks) → through ann (c ∷ cs) m ≡ Some n → First ann c cs m n
 first_of_them ann c cs m n e =
     let a = bind_some (slice_get ann.notes c) _ n e in
-    let k = kept (starts a.0 m) (through ann cs (after a.0)) n a.2 in
+    let k = kept (starts a.0 m) (through ann cs (masks_after a.0)) n a.2 in
     record { note = a.0; is_note = a.1; starts = starts_so a.0 m k.0; rest = k.1 }
 
 -- The type of a node with a note.
@@ -109,17 +109,17 @@ module _ (core : CoreData) (ann : Ann) (m : ℕ) where
       let f = first_of_them ann c cs n k e in
       inl (whole_ok c f.note n.0 n.1 g (λ l s g2. TasksOk core ann m (evaluations cs ++ ts) l s g2) (children 0 c refl) f.is_note
       (within_is f.note.live_before n.0 (ap (λ (q : Masks). q.0) f.starts)) (within_is f.note.set_before n.1 (ap (λ (q : Masks). q.1) f.starts))
-      (evaluations_ok cs ts (after f.note) k (want_of core ann c ∷ g) (λ i d h. children (suc i) d h) f.rest next))
+      (evaluations_ok cs ts (masks_after f.note) k (want_of core ann c ∷ g) (λ i d h. children (suc i) d h) f.rest next))
 
   -- The items of a sequence: the value of the last one is left.
   pub items_ok : (cs : List ℕ) (ts : List Task) (n k : Masks) (g : List Want) (last : ℕ) (u : Note) (live set : Mask) (goal : Want) → Each (λ i c. IsChild core m c) cs → through ann cs n ≡ Some k
       → last_child cs ≡ Some last → slice_get ann.notes last ≡ Some u → Within live k.0 → Within set k.1 → Lower core u.ty goal.ty → (goal.own ≡ true → ⊥)
-      → TasksOk core ann m ts live set (goal ∷ g) → TasksOk core ann m (items cs ++ ts) n.0 n.1 g
+      → TasksOk core ann m ts live set (goal ∷ g) → TasksOk core ann m (item_tasks cs ++ ts) n.0 n.1 g
   items_ok [] ts n k g last u live set goal children e il at ll sl fits own next = absurd (none-some last il)
   items_ok (c ∷ []) ts n k g last u live set goal children e il at ll sl fits own next =
       let f = first_of_them ann c [] n k e in
       let is : u ≡ f.note = same_Some u f.note (sym at ∙ ap (slice_get ann.notes) (sym (same_Some c last il)) ∙ f.is_note) in
-      let end : k ≡ after f.note = same_Some k (after f.note) (sym f.rest) in
+      let end : k ≡ masks_after f.note = same_Some k (masks_after f.note) (sym f.rest) in
       inl (child_ok c f.note n.0 n.1 g (λ l s g2. TasksOk core ann m ts l s g2) (children 0 c refl) f.is_note
       (within_is f.note.live_before n.0 (ap (λ (q : Masks). q.0) f.starts)) (within_is f.note.set_before n.1 (ap (λ (q : Masks). q.1) f.starts))
       live set goal (within_trans live k.0 f.note.live_after ll (within_is k.0 f.note.live_after (ap (λ (q : Masks). q.0) end))) (within_trans set k.1 f.note.set_after sl (within_is k.1 f.note.set_after (ap (λ (q : Masks). q.1) end)))
@@ -127,11 +127,11 @@ module _ (core : CoreData) (ann : Ann) (m : ℕ) where
   items_ok (c ∷ d ∷ cs) ts n k g last u live set goal children e il at ll sl fits own next =
       let f = first_of_them ann c (d ∷ cs) n k e in
       let more : last_child (d ∷ cs) ≡ Some last = sym (last_next c d cs) ∙ il in
-      inl (whole_ok c f.note n.0 n.1 g (λ l s g2. TasksOk core ann m (task.Discard ∷ items (d ∷ cs) ++ ts) l s g2) (children 0 c refl) f.is_note
+      inl (whole_ok c f.note n.0 n.1 g (λ l s g2. TasksOk core ann m (task.Discard ∷ item_tasks (d ∷ cs) ++ ts) l s g2) (children 0 c refl) f.is_note
       (within_is f.note.live_before n.0 (ap (λ (q : Masks). q.0) f.starts)) (within_is f.note.set_before n.1 (ap (λ (q : Masks). q.1) f.starts))
       (record {
         top = want_of core ann c;
         below = g;
         stack = refl;
-        next = items_ok (d ∷ cs) ts (after f.note) k g last u live set goal (λ i x h. children (suc i) x h) f.rest more at ll sl fits own next;
+        next = items_ok (d ∷ cs) ts (masks_after f.note) k g last u live set goal (λ i x h. children (suc i) x h) f.rest more at ll sl fits own next;
       }))

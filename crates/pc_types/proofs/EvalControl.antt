@@ -26,11 +26,11 @@ use Rattle.pc_semantics.specs.declared.frames.Task.{Task}
 use Rattle.pc_semantics.specs.declared.frames.Task.TheVariants as task
 use Rattle.pc_semantics.specs.Around.{Around, Goes, doing}
 use Rattle.pc_semantics.specs.Children.{evaluations}
-use Rattle.pc_semantics.specs.Evaluation.{children_first, first_then, items}
+use Rattle.pc_semantics.specs.Evaluation.{children_first, first_then, item_tasks}
 use Rattle.pc_rules.specs.Parts.{readable, lower, all_fields, through, type_of}
-use Rattle.pc_valid.specs.Words.{Ty, Masks, before, after}
+use Rattle.pc_valid.specs.Words.{Ty, Masks, before, masks_after}
 use Rattle.pc_rules.specs.Fields.{is_this}
-use Rattle.pc_rules.specs.Control.{joined, gives, result_ok}
+use Rattle.pc_rules.specs.Control.{joined, gives_result, result_ok}
 use Rattle.pc_rules.proofs.ByNumber.{body_says}
 use Rattle.pc_rules.specs.Rules.{said_by}
 use Rattle.pc_rules.proofs.Agreeing.{same_mask}
@@ -83,7 +83,7 @@ module _ (core : CoreData) (ann : Ann) (needs : Needs core ann) where
   truth_lower v p = (inl p.0, λ h. below_sees v.1 form.Box p.1 refl)
 
   -- What a function's body gives is below its result.
-  gives_lower : (t : Ty) (o : Option Ty) → gives core t o ≡ true → Lower core o (Some t)
+  gives_lower : (t : Ty) (o : Option Ty) → gives_result core t o ≡ true → Lower core o (Some t)
   gives_lower t None e = absurd (false_true e)
   gives_lower t (Some v) e = lower_type v t e
 
@@ -124,7 +124,7 @@ module _ (core : CoreData) (ann : Ann) (needs : Needs core ann) (around : Around
     returns_ok q u =
         let is : q.own ≡ r.held.own = same_Some q.own r.held.own (sym q.is_own ∙ ap (slice_get core.methods) own ∙ r.held.is_own) in
         let ty : q.note.ty ≡ type_of ann q.child = sym (type_is ann q.child q.note q.is_note) in
-        let end : u.note.set_after ≡ t.set_after = ap (λ (m : Masks). m.1) (same_Some (after u.note) q.behind u.rest) ∙ q.set in
+        let end : u.note.set_after ≡ t.set_after = ap (λ (m : Masks). m.1) (same_Some (masks_after u.note) q.behind u.rest) ∙ q.set in
         let body : r.held.own.body ≡ Some n = is_body core ann needs n x r.held.own at kind (ap (slice_get core.methods) own ∙ r.held.is_own) in
         record {
           own = r.held.own;
@@ -174,7 +174,7 @@ module _ (core : CoreData) (ann : Ann) (needs : Needs core ann) (around : Around
     -- A first child from the masks of the note, whose value is taken for less.
     head_ok : (c : ℕ) (behind : Masks) (ts : List Task) (goal : Want) → IsChild core f.method c → (u : First ann c [] (before e.note) behind) → Lower core u.note.ty goal.ty → (goal.own ≡ true → ⊥) → TasksOk core ann f.method ts behind.0 behind.1 (goal ∷ r.held.wants) → EvalOk core ann f.method r.held.live r.held.set r.held.wants c (λ l s g. TasksOk core ann f.method ts l s g)
     head_ok c behind ts goal child u fits own next =
-        let end : behind ≡ after u.note = sym (same_Some (after u.note) behind u.rest) in
+        let end : behind ≡ masks_after u.note = sym (same_Some (masks_after u.note) behind u.rest) in
         child_ok core ann f.method c u.note r.held.live r.held.set r.held.wants (λ l s g. TasksOk core ann f.method ts l s g) child u.is_note
         (within_trans u.note.live_before e.note.live_before r.held.live (within_is u.note.live_before e.note.live_before (ap (λ (m : Masks). m.0) u.starts)) e.live)
         (within_trans u.note.set_before e.note.set_before r.held.set (within_is u.note.set_before e.note.set_before (ap (λ (m : Masks). m.1) u.starts)) e.set)
@@ -184,7 +184,7 @@ module _ (core : CoreData) (ann : Ann) (needs : Needs core ann) (around : Around
     tail_ok : (c : ℕ) (from behind : Masks) (below : List Want) → IsChild core f.method c → (u : First ann c [] from behind) → Within e.follows.live behind.0 → Within e.follows.set behind.1 → Lower core u.note.ty e.follows.goal.ty → (e.follows.goal.own ≡ true → ⊥) → TasksOk core ann f.method f.tasks e.follows.live e.follows.set (e.follows.goal ∷ below)
         → EvalOk core ann f.method from.0 from.1 below c (λ l s g. TasksOk core ann f.method f.tasks l s g)
     tail_ok c from behind below child u wl ws fits own next =
-        let end : behind ≡ after u.note = sym (same_Some (after u.note) behind u.rest) in
+        let end : behind ≡ masks_after u.note = sym (same_Some (masks_after u.note) behind u.rest) in
         child_ok core ann f.method c u.note from.0 from.1 below (λ l s g. TasksOk core ann f.method f.tasks l s g) child u.is_note
         (within_is u.note.live_before from.0 (ap (λ (m : Masks). m.0) u.starts)) (within_is u.note.set_before from.1 (ap (λ (m : Masks). m.1) u.starts))
         e.follows.live e.follows.set e.follows.goal
@@ -273,7 +273,7 @@ module _ (core : CoreData) (ann : Ann) (needs : Needs core ann) (around : Around
         let c = condition_is (type_of ann q.condition) q.is_condition in
         let u = first_of_them ann q.condition [] (before e.note) q.behind q.is_behind in
         let b = first_of_them ann q.body [] q.behind q.behind_body q.is_body in
-        let end : q.behind_body ≡ after b.note = sym (same_Some (after b.note) q.behind_body b.rest) in
+        let end : q.behind_body ≡ masks_after b.note = sym (same_Some (masks_after b.note) q.behind_body b.rest) in
         let live : Within e.note.live_before b.note.live_after = within_trans e.note.live_before q.behind_body.0 b.note.live_after ((within_bits e.note.live_before q.behind_body.0).0 q.keeps_live) (within_is q.behind_body.0 b.note.live_after (ap (λ (m : Masks). m.0) end)) in
         let set : Within e.note.set_before b.note.set_after = within_trans e.note.set_before q.behind_body.1 b.note.set_after (within_is e.note.set_before q.behind_body.1 (sym (same_mask q.behind_body.1 e.note.set_before q.keeps_set))) (within_is q.behind_body.1 b.note.set_after (ap (λ (m : Masks). m.1) end)) in
         let again : EvalOk core ann f.method b.note.live_after b.note.set_after r.held.wants n (λ l s g. TasksOk core ann f.method f.tasks l s g) = record {
@@ -309,7 +309,8 @@ module _ (core : CoreData) (ann : Ann) (needs : Needs core ann) (around : Around
 
     -- ---- sequences and recover
 
-    pub seq_ok : SeqRule core ann e.node e.note → (e.follows.goal.own ≡ true → ⊥) → MoveOk core ann around fs (Goes (doing f (items e.node.children)))
+    pub seq_ok : SeqRule core ann e.node e.note → (e.follows.goal.own ≡ true → ⊥)
+        → MoveOk core ann around fs (Goes (doing f (item_tasks e.node.children)))
     seq_ok q own =
         let o = e.follows in
         let all = items_ok core ann f.method e.node.children f.tasks (before e.note) q.behind r.held.wants q.last q.note o.live o.set o.goal children_here q.is_behind q.is_last q.is_note
@@ -317,7 +318,8 @@ module _ (core : CoreData) (ann : Ann) (needs : Needs core ann) (around : Around
         (within_trans o.set e.note.set_after q.behind.1 o.set_left (within_is e.note.set_after q.behind.1 q.says.set))
         (subst (λ (v : Option Ty). Lower core v o.goal.ty) q.says.ty o.fits) own o.next
         in
-        tasks_ok core ann needs around f fs r (items e.node.children ++ f.tasks) (from_note e.note (items e.node.children ++ f.tasks) e.live e.set all)
+        tasks_ok core ann needs around f fs r (item_tasks e.node.children ++ f.tasks)
+            (from_note e.note (item_tasks e.node.children ++ f.tasks) e.live e.set all)
 
     pub recover_ok : (k : Option Cap) → RecoverRule core ann e.node e.note k → (e.follows.goal.own ≡ true → ⊥) → MoveOk core ann around fs (first_then f e.node.children [])
     recover_ok k q own =

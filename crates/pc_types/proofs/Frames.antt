@@ -15,10 +15,10 @@ use Rattle.pc_core.specs.declared.declarations.MethodKind.TheVariants as method
 use Rattle.pc_core.specs.CoreData.{CoreData}
 use Rattle.pc_masks.specs.declared.mask.Mask.{Mask}
 use Rattle.pc_ann.specs.declared.annotation.Ann.{Ann}
-use Rattle.pc_masks.specs.Masks.{IsIn}
+use Rattle.pc_masks.specs.Masks.{IsInMask}
 use Rattle.pc_semantics.specs.declared.frames.Frame.{Frame}
 use Rattle.pc_semantics.specs.Configurations.{own_address}
-use Rattle.pc_semantics.specs.Around.{entity_of}
+use Rattle.pc_semantics.specs.Around.{value_entity}
 use Rattle.pc_rules.specs.Parts.{constructs}
 use Rattle.pc_valid.specs.Words.{Ty}
 use Rattle.pc_types.proofs.Types.{sees, Finished, OfKind, OfType, held_in, Lower, Want, wanted, StackOk}
@@ -28,13 +28,13 @@ use Rattle.pc_types.proofs.Tasks.{TasksOk}
 
 -- The fields of this mask have values.
 abbrev pub HasFields : ObjectMap → Mask → Value → Type 0
-HasFields objects set (At a) = (o : Object) × (get objects a ≡ Some o) × ((i : ℕ) → IsIn set i → (v : Value) × (slice_get o.fields i ≡ Some (Some v)))
+HasFields objects set (At a) = (o : Object) × (get objects a ≡ Some o) × ((i : ℕ) → IsInMask set i → (v : Value) × (slice_get o.fields i ≡ Some (Some v)))
 HasFields objects set v = ⊥
 
 -- `this` in a frame of method x: a value of the method's entity. In a constructor these fields have values, and otherwise all
 -- have, unless the receiver is a `tag`.
 pub record ThisOk (core : CoreData) (objects : ObjectMap) (x : Method) (set : Mask) (v : Value) : Type 0 where
-  pub is_entity : entity_of objects v ≡ Some x.entity
+  pub is_entity : value_entity objects v ≡ Some x.entity
   pub kind : OfKind core x.entity v
   pub finished : constructs x.kind ≡ false → sees (plain x.receiver) ≡ true → Finished objects v
   pub fields : constructs x.kind ≡ true → HasFields objects set v
@@ -44,7 +44,7 @@ pub record ThisOk (core : CoreData) (objects : ObjectMap) (x : Method) (set : Ma
 -- Each live slot but that of `this` has a value of its type.
 abbrev pub SlotsOk : CoreData → Ann → ObjectMap → Method → Mask → List (Option Value) → Type 0
 SlotsOk core ann objects x live slots =
-    (i : ℕ) → 0 < i → IsIn live i
+    (i : ℕ) → 0 < i → IsInMask live i
     → (v : Value) × (t : ℕ × Cap) × (slice_get slots i ≡ Some (Some v)) × (slice_get ann.slots (x.first_slot + i) ≡ Some t)
     × OfType core objects (held_in t) v
 

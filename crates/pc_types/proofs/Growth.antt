@@ -19,7 +19,7 @@ use Rattle.pc_semantics.specs.declared.actors.Actor.{Actor}
 use Rattle.pc_semantics.specs.declared.frames.Frame.{Frame}
 use Rattle.pc_semantics.specs.declared.mailbox.Message.{Message}
 use Rattle.pc_semantics.specs.Configurations.{own_address}
-use Rattle.pc_semantics.specs.Around.{entity_of}
+use Rattle.pc_semantics.specs.Around.{value_entity}
 use Rattle.pc_valid.specs.Words.{Ty}
 use Rattle.pc_types.proofs.Types.{Finished, OfType, OfSome, ArgumentsOk, param_type, held_in, Want, wanted, StackOk}
 use Rattle.pc_types.proofs.Frames.{HasFields, ThisOk, SlotsOk, Held, FrameOk, LastOk, WaitOk, FramesOk}
@@ -56,7 +56,7 @@ module _ (old new : ObjectMap) (x : Extends old new) where
       let p = x.each a o.0 o.1 in
       class_is new a p.0 p.1 ∙ ap Some (p.2.entity ∙ o.2)
 
-  pub entity_kept : (v : Value) (d : ℕ) → entity_of old v ≡ Some d → entity_of new v ≡ Some d
+  pub entity_kept : (v : Value) (d : ℕ) → value_entity old v ≡ Some d → value_entity new v ≡ Some d
   entity_kept (Num n) d e = e
   entity_kept (Truth b) d e = e
   entity_kept (Text t) d e = e

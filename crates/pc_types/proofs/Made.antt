@@ -25,7 +25,7 @@ use Rattle.pc_semantics.specs.declared.mailbox.Message.{Message}
 use Rattle.pc_semantics.specs.declared.outcome.Lack.{Lack}
 use Rattle.pc_semantics.specs.declared.outcome.Outcome.{Outcome}
 use Rattle.pc_semantics.specs.declared.outcome.Outcome.TheVariants.{Lacks}
-use Rattle.pc_semantics.specs.Configurations.{Configuration, with_objects, with_actor, with_frames, own_address, blank_object, fields_in}
+use Rattle.pc_semantics.specs.Configurations.{Configuration, with_objects, with_actor, with_frames, own_address, blank_object, number_of_fields}
 use Rattle.pc_semantics.specs.Around.{Move, Stuck, Overflows, Goes, Writes, Makes, Spawns, Enters, Sends, Leaves}
 use Rattle.pc_semantics.specs.Step.{delivered, left, made, around}
 use Rattle.pc_types.proofs.Types.{OfType}
@@ -99,8 +99,8 @@ module _ (core : CoreData) where
     entity = x;
     is_entity = is;
     placed = placed;
-    room = length-replicate (fields_in (slice_get core.entities e)) None ∙ ap fields_in is;
-    fields = λ i f v at has. absurd (no_value (fields_in (slice_get core.entities e)) i v has);
+    room = length-replicate (number_of_fields (slice_get core.entities e)) None ∙ ap number_of_fields is;
+    fields = λ i f v at has. absurd (no_value (number_of_fields (slice_get core.entities e)) i v has);
   }
 
   -- One object more, at a free address.

@@ -21,8 +21,8 @@ use Rattle.pc_core.specs.Lookup.{field_named}
 use Rattle.pc_lists.proofs.Options.{bind_some, kept}
 use Rattle.pc_masks.specs.declared.mask.Mask.{Mask}
 use Rattle.pc_ann.specs.declared.annotation.Ann.{Ann}
-use Rattle.pc_masks.specs.Masks.{IsIn}
-use Rattle.pc_semantics.specs.Around.{entity_of}
+use Rattle.pc_masks.specs.Masks.{IsInMask}
+use Rattle.pc_semantics.specs.Around.{value_entity}
 use Rattle.pc_rules.specs.Parts.{constructs, last_child}
 use Rattle.pc_valid.specs.Words.{Ty}
 use Rattle.pc_rules.specs.Fields.{field_of, is_this, lacks_fields}
@@ -85,10 +85,10 @@ pub record Origin (core : CoreData) (objects : ObjectMap) (d name i : ℕ) (g : 
   pub room : i < length object.fields
 
 module _ (core : CoreData) (ann : Ann) (needs : Needs core ann) (objects : ObjectMap) (count : ℕ) (ok : ObjectsOk core objects count) where
-  pub origin_of : (d name i : ℕ) (g : FieldInfo) (v : Value) → FieldAt core d name i g → OfKind core d v → entity_of objects v ≡ Some d → Origin core objects d name i g v
+  pub origin_of : (d name i : ℕ) (g : FieldInfo) (v : Value) → FieldAt core d name i g → OfKind core d v → value_entity objects v ≡ Some d → Origin core objects d name i g v
   origin_of d name i g v p kind is =
       let a = is_address core ann needs objects d p.entity v kind is p.is_entity (has_fields core ann needs d name i g p) in
-      let o = object_of objects a.0 d (ap (entity_of objects) (sym a.1) ∙ is) in
+      let o = object_of objects a.0 d (ap (value_entity objects) (sym a.1) ∙ is) in
       let fits = (ok.each a.0 o.0 o.1).0 in
       let same : p.entity ≡ fits.entity = same_Some p.entity fits.entity (sym p.is_entity ∙ ap (slice_get core.entities) (sym o.2) ∙ fits.is_entity) in
       let field : slice_get fits.entity.fields i ≡ Some g = ap (λ (x : EntityDef). slice_get x.fields i) (sym same) ∙ p.is_field in
@@ -124,7 +124,7 @@ module _ (core : CoreData) (ann : Ann) (needs : Needs core ann) (objects : Objec
       (w.0, ap (λ (x : Object). slice_get x.fields i) (sym same) ∙ w.1)
 
 -- A field that is set has a value.
-pub set_value : (core : CoreData) (objects : ObjectMap) (d name i : ℕ) (g : FieldInfo) (v : Value) (set : Mask) (o : Origin core objects d name i g v) → HasFields objects set v → IsIn set i → (w : Value) × (slice_get o.object.fields i ≡ Some (Some w))
+pub set_value : (core : CoreData) (objects : ObjectMap) (d name i : ℕ) (g : FieldInfo) (v : Value) (set : Mask) (o : Origin core objects d name i g v) → HasFields objects set v → IsInMask set i → (w : Value) × (slice_get o.object.fields i ≡ Some (Some w))
 set_value core objects d name i g v set o has_them b =
     let k : HasFields objects set (At o.address) = subst (HasFields objects set) o.is has_them in
     let same : k.0 ≡ o.object = same_Some k.0 o.object (sym k.1 ∙ o.stands) in

@@ -26,11 +26,11 @@ use Rattle.pc_ann.specs.declared.annotation.Note.{Note}
 use Rattle.pc_ann.specs.declared.annotation.Ann.{Ann}
 use Rattle.pc_ann.specs.declared.annotation.Rule.{Rule}
 use Rattle.pc_ann.specs.declared.annotation.Rule.TheVariants as rule
-use Rattle.pc_masks.specs.Masks.{IsIn, has, with_number}
+use Rattle.pc_masks.specs.Masks.{IsInMask, has, with_number}
 use Rattle.pc_masks.specs.MaskLaws.{with_number_bits}
 use Rattle.pc_semantics.specs.declared.frames.Frame.{Frame}
 use Rattle.pc_semantics.specs.declared.frames.Task.TheVariants as task
-use Rattle.pc_semantics.specs.Around.{Around, Move, Writes, with_stack, pushed, or_none}
+use Rattle.pc_semantics.specs.Around.{Around, Move, Writes, with_stack, pushed, value_or_none}
 use Rattle.pc_semantics.specs.Fields.{put_value, put_field, put_of, put_into, put_task}
 use Rattle.pc_rules.specs.Parts.{says_of, goes_to, through, type_of, last_child, constructs}
 use Rattle.pc_valid.specs.Words.{Ty, Masks, before, place}
@@ -189,10 +189,10 @@ module _ (core : CoreData) (ann : Ann) (needs : Needs core ann) (around : Around
     (plain : (name : ℕ) → e.node.kind ≡ nodes.SetField name → (q : PutRule core ann e.node e.note e.behind name) (v w z : Value) (rest : List Value) (o : Origin core around.objects q.origin_ty.0 name q.index q.field v) → f.stack ≡ v ∷ w ∷ rest → StackOk core around.objects r.held.this e.below rest
     → slice_get o.object.fields q.index ≡ Some (Some z) → OfType core around.objects (typed.field_type q.field) w → OfType core around.objects (q.field.entity, q.old) z → Holds (Writes o.address q.index w (pushed (with_stack f rest) z)))
     (own : (name : ℕ) → e.node.kind ≡ nodes.SetField name → (q : OwnPutRule core ann e.node e.note e.behind name) (v w : Value) (old : Option Value) (rest : List Value) (o : Origin core around.objects r.held.own.entity name q.index q.field v) → v ≡ r.held.this → f.stack ≡ v ∷ w ∷ rest → StackOk core around.objects r.held.this e.below rest
-    → slice_get o.object.fields q.index ≡ Some old → HasFields around.objects r.held.set v → OfType core around.objects (typed.field_type q.field) w → Holds (Writes o.address q.index w (pushed (with_stack f rest) (or_none old))))
+    → slice_get o.object.fields q.index ≡ Some old → HasFields around.objects r.held.set v → OfType core around.objects (typed.field_type q.field) w → Holds (Writes o.address q.index w (pushed (with_stack f rest) (value_or_none old))))
   where
     -- What is done if the object has the field.
-    writes_ok : (g : Frame) (d name i : ℕ) (x : FieldInfo) (v w : Value) (old : Option Value) (o : Origin core around.objects d name i x v) → slice_get o.object.fields i ≡ Some old → Holds (Writes o.address i w (pushed g (or_none old))) → Holds (put_into core around name v w g)
+    writes_ok : (g : Frame) (d name i : ℕ) (x : FieldInfo) (v w : Value) (old : Option Value) (o : Origin core around.objects d name i x v) → slice_get o.object.fields i ≡ Some old → Holds (Writes o.address i w (pushed g (value_or_none old))) → Holds (put_into core around name v w g)
     writes_ok g d name i x v w old o is k =
         subst (λ (u : Value). Holds (put_into core around name u w g)) (sym o.is)
         (subst (λ (p : Option Object). Holds (put_of core g name o.address w p)) (sym o.stands)
@@ -253,7 +253,7 @@ module _ (core : CoreData) (ann : Ann) (needs : Needs core ann) (around : Around
     put_kind k is h q = absurd (false_true h)
 
 -- The old value of an own field that is set.
-pub own_old_there : (core : CoreData) (objects : ObjectMap) (d name i : ℕ) (x : FieldInfo) (v : Value) (set : Mask) (old : Option Value) (o : Origin core objects d name i x v) → slice_get o.object.fields i ≡ Some old → HasFields objects set v → IsIn set i → (z : Value) × (old ≡ Some z) × (slice_get o.object.fields i ≡ Some (Some z))
+pub own_old_there : (core : CoreData) (objects : ObjectMap) (d name i : ℕ) (x : FieldInfo) (v : Value) (set : Mask) (old : Option Value) (o : Origin core objects d name i x v) → slice_get o.object.fields i ≡ Some old → HasFields objects set v → IsInMask set i → (z : Value) × (old ≡ Some z) × (slice_get o.object.fields i ≡ Some (Some z))
 own_old_there core objects d name i x v set old o is has_them bit =
     let was = set_value core objects d name i x v set o has_them bit in
     (was.0, same_Some old (Some was.0) (sym is ∙ was.1), was.1)
@@ -269,8 +269,8 @@ module _ (core : CoreData) (ann : Ann) (needs : Needs core ann) (around : Around
     extends : Extends around.objects new
     extends = write_extends around.objects o.address i w o.object o.stands
 
-    write_ok : (old : Option Value) (rest : List Value) → Within e.note.live_after r.held.live → ThisOk core new r.held.own e.follows.set r.held.this → StackOk core around.objects r.held.this e.below rest → OfSome core around.objects e.note.ty (or_none old) → (is_this e.node.kind ≡ true → ⊥)
-        → MoveOk core ann around fs (Writes o.address i w (pushed (with_stack f rest) (or_none old)))
+    write_ok : (old : Option Value) (rest : List Value) → Within e.note.live_after r.held.live → ThisOk core new r.held.own e.follows.set r.held.this → StackOk core around.objects r.held.this e.below rest → OfSome core around.objects e.note.ty (value_or_none old) → (is_this e.node.kind ≡ true → ⊥)
+        → MoveOk core ann around fs (Writes o.address i w (pushed (with_stack f rest) (value_or_none old)))
     write_ok old rest live this_ok ok has_type other = record {
       object = o.object;
       stands = o.stands;
@@ -279,9 +279,9 @@ module _ (core : CoreData) (ann : Ann) (needs : Needs core ann) (around : Around
       field = x;
       is_field = o.is_field;
       fits = fits;
-      frames = go_in core ann needs around f fs r new e.follows.live e.follows.set (e.follows.goal ∷ e.below) f.slots (or_none old ∷ rest) f.tasks refl refl this_ok
+      frames = go_in core ann needs around f fs r new e.follows.live e.follows.set (e.follows.goal ∷ e.below) f.slots (value_or_none old ∷ rest) f.tasks refl refl this_ok
           (slots_kept around.objects new extends core ann r.held.own e.follows.live f.slots (fewer_slots core ann around.objects r.held.own r.held.live e.follows.live f.slots (within_trans e.follows.live e.note.live_after r.held.live e.follows.live_left live) r.held.slots_ok))
-          (stack_kept around.objects new extends core r.held.this (e.follows.goal ∷ e.below) (or_none old ∷ rest) ((some_lower core ann needs around.objects e.note.ty e.follows.goal.ty (or_none old) e.follows.fits has_type, λ h. absurd (other (e.follows.this h))), ok))
+          (stack_kept around.objects new extends core r.held.this (e.follows.goal ∷ e.below) (value_or_none old ∷ rest) ((some_lower core ann needs around.objects e.note.ty e.follows.goal.ty (value_or_none old) e.follows.fits has_type, λ h. absurd (other (e.follows.this h))), ok))
           e.follows.next (wait_kept around.objects new extends core ann around.actor f.method r.held.this fs r.wait);
     }
 
@@ -297,7 +297,7 @@ module _ (core : CoreData) (ann : Ann) (needs : Needs core ann) (around : Around
           λ j b.
               elim (eqb_tells j i) [
                 | inl p ↦ (w, ap (slice_get (slice_set o.object.fields i (Some w))) p.1 ∙ get_set_same o.object.fields i (Some w) o.room)
-                | inr p ↦ let was : IsIn r.held.set j = elim ((with_number_bits r.held.set i j).0 (less j b)) [ inl here ↦ absurd (p.1 here.0) | inr was ↦ was ] in
+                | inr p ↦ let was : IsInMask r.held.set j = elim ((with_number_bits r.held.set i j).0 (less j b)) [ inl here ↦ absurd (p.1 here.0) | inr was ↦ was ] in
                     let y = k.2 j was in
                     (y.0, get_set_other o.object.fields i (Some w) j p.1 ∙ ap (λ (z : Object). slice_get z.fields j) (sym same) ∙ y.1)
               ],
@@ -305,7 +305,7 @@ module _ (core : CoreData) (ann : Ann) (needs : Needs core ann) (around : Around
         subst (HasFields new set) (sym o.is) at
 
   -- One number more in both masks.
-  more_set : (i j : ℕ) → IsIn (with_number e.behind.1 i) j → IsIn (with_number r.held.set i) j
+  more_set : (i j : ℕ) → IsInMask (with_number e.behind.1 i) j → IsInMask (with_number r.held.set i) j
   more_set i j b = (with_number_bits r.held.set i j).1 (elim ((with_number_bits e.behind.1 i j).0 b) [ inl new ↦ inl new | inr old ↦ inr (e.set j old) ])
 
   plain_ok : (name : ℕ) → e.node.kind ≡ nodes.SetField name → (q : PutRule core ann e.node e.note e.behind name) (v w z : Value) (rest : List Value) (o : Origin core around.objects q.origin_ty.0 name q.index q.field v) → StackOk core around.objects r.held.this e.below rest
@@ -317,17 +317,17 @@ module _ (core : CoreData) (ann : Ann) (needs : Needs core ann) (around : Around
       ok (subst (λ (y : Option Ty). OfSome core around.objects y z) (sym q.says.ty) old) (λ h. false_true (ap is_this (sym is) ∙ h))
 
   -- The old value of an own field, if it is set.
-  pub own_old_ok : (d name i : ℕ) (x : FieldInfo) (v : Value) (old : Option Value) (ty : Option Ty) (o : Origin core around.objects d name i x v) → slice_get o.object.fields i ≡ Some old → HasFields around.objects r.held.set v → OldOwn i x e.behind.1 ty → OfSome core around.objects ty (or_none old)
-  own_old_ok d name i x v old ty o is has_them (inl none) = subst (λ (y : Option Ty). OfSome core around.objects y (or_none old)) (sym none) tt
+  pub own_old_ok : (d name i : ℕ) (x : FieldInfo) (v : Value) (old : Option Value) (ty : Option Ty) (o : Origin core around.objects d name i x v) → slice_get o.object.fields i ≡ Some old → HasFields around.objects r.held.set v → OldOwn i x e.behind.1 ty → OfSome core around.objects ty (value_or_none old)
+  own_old_ok d name i x v old ty o is has_them (inl none) = subst (λ (y : Option Ty). OfSome core around.objects y (value_or_none old)) (sym none) tt
   own_old_ok d name i x v old ty o is has_them (inr set) =
       let was = own_old_there core around.objects d name i x v r.held.set old o is has_them (e.set i set.0) in
       let typed : OfType core around.objects (x.entity, set.1) was.0 = of_lower core ann needs around.objects (typed.field_type x) (x.entity, set.1) was.0 (inl refl, taken_plain form.Ref x.cap set.1 set.2) (o.fits.fields i x was.0 o.is_field was.2) in
-      subst (λ (y : Option Ty). OfSome core around.objects y (or_none old)) (sym set.3) (subst (λ (y : Option Value). OfType core around.objects (x.entity, set.1) (or_none y)) (sym was.1) typed)
+      subst (λ (y : Option Ty). OfSome core around.objects y (value_or_none old)) (sym set.3) (subst (λ (y : Option Value). OfType core around.objects (x.entity, set.1) (value_or_none y)) (sym was.1) typed)
 
   own_ok : (name : ℕ) → e.node.kind ≡ nodes.SetField name → (q : OwnPutRule core ann e.node e.note e.behind name) (v w : Value) (old : Option Value) (rest : List Value) (o : Origin core around.objects r.held.own.entity name q.index q.field v) → v ≡ r.held.this → StackOk core around.objects r.held.this e.below rest
-      → slice_get o.object.fields q.index ≡ Some old → HasFields around.objects r.held.set v → OfType core around.objects (typed.field_type q.field) w → MoveOk core ann around fs (Writes o.address q.index w (pushed (with_stack f rest) (or_none old)))
+      → slice_get o.object.fields q.index ≡ Some old → HasFields around.objects r.held.set v → OfType core around.objects (typed.field_type q.field) w → MoveOk core ann around fs (Writes o.address q.index w (pushed (with_stack f rest) (value_or_none old)))
   own_ok name is q v w old rest o this ok there has_them fits =
-      let more : Within e.follows.set (with_number r.held.set q.index) = λ j b. more_set q.index j (subst (λ (m : Mask). IsIn m j) q.says.set (e.follows.set_left j b)) in
+      let more : Within e.follows.set (with_number r.held.set q.index) = λ j b. more_set q.index j (subst (λ (m : Mask). IsInMask m j) q.says.set (e.follows.set_left j b)) in
       let kept_this : ThisOk core (new r.held.own.entity name q.index q.field v w o fits) r.held.own r.held.set r.held.this = this_kept around.objects (new r.held.own.entity name q.index q.field v w o fits) (extends r.held.own.entity name q.index q.field v w o fits) core r.held.own r.held.set r.held.this r.held.this_ok in
       let set_this : ThisOk core (new r.held.own.entity name q.index q.field v w o fits) r.held.own e.follows.set r.held.this = record {
         is_entity = kept_this.is_entity;
@@ -336,7 +336,7 @@ module _ (core : CoreData) (ann : Ann) (needs : Needs core ann) (around : Around
         fields = λ h. subst (λ (u : Value). HasFields (new r.held.own.entity name q.index q.field v w o fits) e.follows.set u) this (own_set_ok r.held.own.entity name q.index q.field v w o fits e.follows.set more has_them);
       } in
       write_ok r.held.own.entity name q.index q.field v w o fits old rest (subst (λ (m : Mask). Within m r.held.live) (sym q.says.live) e.live) set_this ok
-      (subst (λ (y : Option Ty). OfSome core around.objects y (or_none old)) (sym q.says.ty) (own_old_ok r.held.own.entity name q.index q.field v old q.old o there has_them q.is_old)) (λ h. false_true (ap is_this (sym is) ∙ h))
+      (subst (λ (y : Option Ty). OfSome core around.objects y (value_or_none old)) (sym q.says.ty) (own_old_ok r.held.own.entity name q.index q.field v old q.old o there has_them q.is_old)) (λ h. false_true (ap is_this (sym is) ∙ h))
 
   puts : MoveOk core ann around fs (put_task core around f e.node.kind)
   puts =

@@ -14,7 +14,7 @@ use Rattle.pc_ann.specs.declared.annotation.Ann.{Ann}
 use Rattle.pc_semantics.specs.declared.frames.Frame.{Frame}
 use Rattle.pc_semantics.specs.declared.frames.Task.TheVariants as task
 use Rattle.pc_semantics.specs.Configurations.{own_address}
-use Rattle.pc_semantics.specs.Around.{Around, entity_of}
+use Rattle.pc_semantics.specs.Around.{Around, value_entity}
 use Rattle.pc_semantics.specs.Step.{left}
 use Rattle.pc_semantics.specs.Calls.{leave}
 use Rattle.pc_rules.specs.Parts.{constructs}
@@ -77,13 +77,13 @@ module _ (core : CoreData) (ann : Ann) (needs : Needs core ann) (around : Around
       let is : e.own ≡ r.held.own = same_Some e.own r.held.own (sym e.is_own ∙ r.held.is_own) in
       all_set core ann needs around.objects around.actors r.held.set e.own.entity r.held.this r.objects
       (r.held.this_ok.fields (ap (λ (x : Method). constructs x.kind) (sym is) ∙ c))
-      (subst (λ (x : Method). entity_of around.objects r.held.this ≡ Some x.entity) (sym is) r.held.this_ok.is_entity) (e.fields c)
+      (subst (λ (x : Method). value_entity around.objects r.held.this ≡ Some x.entity) (sym is) r.held.this_ok.is_entity) (e.fields c)
 
   pub built_typed : e.own.kind ≡ method.New → OfType core around.objects e.own.result r.held.this
   built_typed is =
       let own : e.own ≡ r.held.own = same_Some e.own r.held.own (sym e.is_own ∙ r.held.is_own) in
       let fits : ResultFits method.New e.own = subst (λ (k : MethodKind). ResultFits k e.own) is (needs.formed.methods f.method e.own e.is_own).result_fits in
-      let kept = subst (λ (x : Method). (entity_of around.objects r.held.this ≡ Some x.entity) × OfKind core x.entity r.held.this) (sym own) (r.held.this_ok.is_entity, r.held.this_ok.kind) in
+      let kept = subst (λ (x : Method). (value_entity around.objects r.held.this ≡ Some x.entity) × OfKind core x.entity r.held.this) (sym own) (r.held.this_ok.is_entity, r.held.this_ok.kind) in
       record { entity = e.own.entity; is_entity = kept.0; below = inl (sym fits.1); kind = kept.1; finished = λ s. built (ap constructs is) }
 
   leave_ok : (k : MethodKind) → e.own.kind ≡ k → MoveOk core ann around fs (leave f k)

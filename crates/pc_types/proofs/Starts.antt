@@ -30,7 +30,8 @@ use Rattle.pc_ann.specs.declared.annotation.Ann.{Ann}
 use Rattle.pc_lists.proofs.Bools.{false_true}
 use Rattle.pc_rules.specs.Checks.{Checks}
 use Rattle.pc_semantics.specs.declared.actors.Actor.{Actor}
-use Rattle.pc_semantics.specs.Configurations.{own_address, entity_named, main_create, fields_in, blank_object, environment, environment_address, start_of, start}
+use Rattle.pc_semantics.specs.Configurations.{own_address, number_of_entity, main_create, number_of_fields, blank_object, environment, environment_address}
+use Rattle.pc_semantics.specs.Configurations.{start_of, start}
 use Rattle.pc_types.proofs.Types.{Finished, OfType, ArgumentsOk}
 use Rattle.pc_types.proofs.Typed.{field_type, ObjectOk, PlaceOk, ObjectsOk, ActorOk, WellTyped}
 use Rattle.pc_types.proofs.Needs.{Needs}
@@ -66,7 +67,7 @@ module _ (core : CoreData) (formed : Formed core) where
   pub main_found : main_create core ≡ Some (formed.main.entity, formed.main.number)
   main_found =
       let m = formed.main in
-      let named : entity_named core (codes "Main") ≡ Some m.entity = position_is (codes "Main") (map (λ x. x.name) core.entities) m.entity formed.entity_names (get_map (λ x. x.name) core.entities m.entity m.main m.is_entity ∙ ap Some m.name) in
+      let named : number_of_entity core (codes "Main") ≡ Some m.entity = position_is (codes "Main") (map (λ x. x.name) core.entities) m.entity formed.entity_names (get_map (λ x. x.name) core.entities m.entity m.main m.is_entity ∙ ap Some m.name) in
       let word : position (bytes_eq (codes "create")) core.names ≡ Some m.create.name = position_is (codes "create") core.names m.create.name formed.names m.method_name in
       let number : method_named core m.entity m.create.name ≡ Some m.number = found_is core m.entity m.create.name m.number m.main formed m.is_entity (m.create, m.is_method, m.own, refl) (method_named core m.entity m.create.name) refl in
       rw (named, word, number) refl
@@ -77,7 +78,7 @@ module _ (core : CoreData) (formed : Formed core) where
 
   -- The environment, with its field.
   pub env_is : environment core ≡ record { entity = 4; fields = Some (At (own_address 0)) ∷ [] }
-  env_is = ap (λ (x : Option EntityDef). with_field (new_object 4 (fields_in x)) 0 (At (own_address 0))) formed.built_in.env
+  env_is = ap (λ (x : Option EntityDef). with_field (new_object 4 (number_of_fields x)) 0 (At (own_address 0))) formed.built_in.env
 
 -- ---- the objects
 
@@ -121,7 +122,7 @@ module _ (core : CoreData) (ann : Ann) (formed : Formed core) (valid : Checks co
   -- It has no fields.
   stream_finished : Finished (with_stream core) (At (own_address 0))
   stream_finished =
-      let none : blank_object core 5 ≡ new_object 5 0 = ap (λ (x : Option EntityDef). new_object 5 (fields_in x)) formed.built_in.stream in
+      let none : blank_object core 5 ≡ new_object 5 0 = ap (λ (x : Option EntityDef). new_object 5 (number_of_fields x)) formed.built_in.stream in
       (blank_object core 5, get_here empty (own_address 0) (blank_object core 5), λ i l. let m : i < 0 = subst (λ (o : Object). i < length o.fields) none l in absurd (omega (arith, m)))
 
   -- ---- the environment

@@ -21,11 +21,11 @@ use Rattle.pc_ann.specs.declared.annotation.Note.{Note}
 use Rattle.pc_ann.specs.declared.annotation.Ann.{Ann}
 use Rattle.pc_ann.specs.declared.annotation.Rule.{Rule}
 use Rattle.pc_ann.specs.declared.annotation.Rule.TheVariants as rule
-use Rattle.pc_masks.specs.Masks.{IsIn, has, with_number}
+use Rattle.pc_masks.specs.Masks.{IsInMask, has, with_number}
 use Rattle.pc_masks.specs.MaskLaws.{with_number_bits}
 use Rattle.pc_semantics.specs.declared.frames.Frame.{Frame}
 use Rattle.pc_semantics.specs.declared.frames.Task.TheVariants as task
-use Rattle.pc_semantics.specs.Around.{Around, with_stack, or_none}
+use Rattle.pc_semantics.specs.Around.{Around, with_stack, value_or_none}
 use Rattle.pc_semantics.specs.Fields.{held, store, store_task}
 use Rattle.pc_rules.specs.Parts.{goes_to, reachable, through, type_of, one_child}
 use Rattle.pc_valid.specs.Words.{Ty, Masks, before}
@@ -132,21 +132,21 @@ module _ (core : CoreData) (ann : Ann) (needs : Needs core ann) (around : Around
         subst (λ (k : ℕ). s < k) (sym r.held.room) (subst (λ (x : Method). s < x.slots) is names.1.2)
 
     -- The old value is of the type that the note states.
-    pub old_ok : OfSome core around.objects q.old (or_none (held (slice_get f.slots s)))
+    pub old_ok : OfSome core around.objects q.old (value_or_none (held (slice_get f.slots s)))
     old_ok = elim q.is_old [
-      | inl none ↦ subst (λ (o : Option Ty). OfSome core around.objects o (or_none (held (slice_get f.slots s)))) (sym none) tt
+      | inl none ↦ subst (λ (o : Option Ty). OfSome core around.objects o (value_or_none (held (slice_get f.slots s)))) (sym none) tt
       | inr there ↦ let y = r.held.slots_ok s names.0 (e.live s there.0) in
           let is : y.1 ≡ q.slot.1 = same_Some y.1 q.slot.1 (sym y.3 ∙ slot_type) in
           let typed : OfType core around.objects (q.slot.1.0, unalias q.slot.1.1) y.0 = of_lower core ann needs around.objects (held_in q.slot.1) (q.slot.1.0, unalias q.slot.1.1) y.0 (taken_lower core q.slot.1) (subst (λ (p : ℕ × Cap). OfType core around.objects (held_in p) y.0) is y.4) in
-          subst (λ (o : Option Ty). OfSome core around.objects o (or_none (held (slice_get f.slots s)))) (sym there.1)
-          (subst (λ (o : Option (Option Value)). OfType core around.objects (q.slot.1.0, unalias q.slot.1.1) (or_none (held o))) (sym y.2) typed)
+          subst (λ (o : Option Ty). OfSome core around.objects o (value_or_none (held (slice_get f.slots s)))) (sym there.1)
+          (subst (λ (o : Option (Option Value)). OfType core around.objects (q.slot.1.0, unalias q.slot.1.1) (value_or_none (held o))) (sym y.2) typed)
     ]
 
     -- The slot holds the value, and the other slots are unchanged.
     stored_ok : (v : Value) → OfType core around.objects (held_in q.slot.1) v → (live : Mask) → Within live (with_number e.behind.0 s) → SlotsOk core ann around.objects r.held.own live (slice_set f.slots s (Some v))
     stored_ok v typed live w i l b = elim (eqb_tells i s) [
       | inl p ↦ (v, q.slot.1, ap (slice_get (slice_set f.slots s (Some v))) p.1 ∙ get_set_same f.slots s (Some v) room, ap (λ (k : ℕ). slice_get ann.slots (r.held.own.first_slot + k)) p.1 ∙ slot_type, typed)
-      | inr p ↦ let was : IsIn e.behind.0 i = elim ((with_number_bits e.behind.0 s i).0 (w i b)) [ inl new ↦ absurd (p.1 new.0) | inr old ↦ old ] in
+      | inr p ↦ let was : IsInMask e.behind.0 i = elim ((with_number_bits e.behind.0 s i).0 (w i b)) [ inl new ↦ absurd (p.1 new.0) | inr old ↦ old ] in
           let y = r.held.slots_ok i l (e.live i was) in
           (y.0, y.1, get_set_other f.slots s (Some v) i p.1 ∙ y.2, y.3, y.4)
     ]
@@ -155,11 +155,11 @@ module _ (core : CoreData) (ann : Ann) (needs : Needs core ann) (around : Around
     slot_ok k is other v rest has ok =
         let o = e.follows in
         let typed : OfType core around.objects (held_in q.slot.1) v = of_lower core ann needs around.objects q.value (held_in q.slot.1) v (goes_lower core ann needs q.value q.slot.1 q.goes) (typed_at core ann around q.child q.value v q.is_value has) in
-        let old : OfSome core around.objects e.note.ty (or_none (held (slice_get f.slots s))) = subst (λ (x : Option Ty). OfSome core around.objects x (or_none (held (slice_get f.slots s)))) (sym q.says.ty) old_ok in
-        go_ok core ann needs around f fs r o.live o.set (o.goal ∷ e.below) (slice_set f.slots s (Some v)) (or_none (held (slice_get f.slots s)) ∷ rest) f.tasks (length-set f.slots s (Some v)) (get_set_other f.slots s (Some v) 0 (not_zero s names.0))
+        let old : OfSome core around.objects e.note.ty (value_or_none (held (slice_get f.slots s))) = subst (λ (x : Option Ty). OfSome core around.objects x (value_or_none (held (slice_get f.slots s)))) (sym q.says.ty) old_ok in
+        go_ok core ann needs around f fs r o.live o.set (o.goal ∷ e.below) (slice_set f.slots s (Some v)) (value_or_none (held (slice_get f.slots s)) ∷ rest) f.tasks (length-set f.slots s (Some v)) (get_set_other f.slots s (Some v) 0 (not_zero s names.0))
         (within_trans o.set e.note.set_after r.held.set o.set_left (subst (λ (m : Mask). Within m r.held.set) (sym q.says.set) e.set))
         (stored_ok v typed o.live (subst (λ (m : Mask). Within o.live m) q.says.live o.live_left))
-        ((some_lower core ann needs around.objects e.note.ty o.goal.ty (or_none (held (slice_get f.slots s))) o.fits old, λ h. absurd (other (ap is_this (sym is) ∙ o.this h))), ok) o.next
+        ((some_lower core ann needs around.objects e.note.ty o.goal.ty (value_or_none (held (slice_get f.slots s))) o.fits old, λ h. absurd (other (ap is_this (sym is) ∙ o.this h))), ok) o.next
 
   store_kind : (k : NodeKind) → e.node.kind ≡ k → stores k ≡ true → says core ann e.node (before e.note) e.note.rule k ≡ Some (said_by e.note) → MoveOk core ann around fs (store_task f k)
   store_kind (nodes.Define s) is h rule =

@@ -12,7 +12,7 @@ use Rattle.pc_core.specs.CoreData.{CoreData}
 use Rattle.pc_masks.specs.declared.mask.Mask.{Mask}
 use Rattle.pc_ann.specs.declared.annotation.Note.{Note}
 use Rattle.pc_ann.specs.declared.annotation.Ann.{Ann}
-use Rattle.pc_masks.specs.Masks.{IsIn}
+use Rattle.pc_masks.specs.Masks.{IsInMask}
 use Rattle.pc_semantics.specs.declared.frames.Task.{Task}
 use Rattle.pc_semantics.specs.declared.frames.Task.TheVariants as task
 use Rattle.pc_rules.specs.Parts.{constructs, all_fields, through, type_of}
@@ -24,7 +24,7 @@ use Rattle.pc_types.proofs.Types.{Lower, Want, wanted}
 
 -- Each number of the first mask is in the second.
 abbrev pub Within : Mask → Mask → Type 0
-Within a b = (i : ℕ) → IsIn a i → IsIn b i
+Within a b = (i : ℕ) → IsInMask a i → IsInMask b i
 
 -- ---- what nodes leave on the stack
 

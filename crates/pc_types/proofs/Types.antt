@@ -15,7 +15,7 @@ use Rattle.pc_core.specs.declared.declarations.ParamInfo.{ParamInfo}
 use Rattle.pc_core.specs.CoreData.{CoreData}
 use Rattle.pc_tree.specs.Kinds.{may_have_fields}
 use Rattle.pc_core.specs.Nodes.{NamesPrimitive}
-use Rattle.pc_semantics.specs.Around.{entity_of}
+use Rattle.pc_semantics.specs.Around.{value_entity}
 use Rattle.pc_valid.specs.Words.{Ty}
 use Rattle.pc_types.proofs.Under.{Under}
 
@@ -44,7 +44,7 @@ OfKind core d v = Unit {0}
 
 pub record OfType (core : CoreData) (objects : ObjectMap) (t : Ty) (v : Value) : Type 0 where
   pub entity : ℕ
-  pub is_entity : entity_of objects v ≡ Some entity
+  pub is_entity : value_entity objects v ≡ Some entity
   pub below : Under core entity t.0
   pub kind : OfKind core entity v
   pub finished : sees t.1 ≡ true → Finished objects v

@@ -15,7 +15,7 @@ use Rattle.pc_core.specs.declared.declarations.EntityDef.{EntityDef}
 use Rattle.pc_core.specs.CoreData.{CoreData}
 use Rattle.pc_core.specs.Nodes.{NamesPrimitive}
 use Rattle.pc_ann.specs.declared.annotation.Ann.{Ann}
-use Rattle.pc_semantics.specs.Around.{entity_of}
+use Rattle.pc_semantics.specs.Around.{value_entity}
 use Rattle.pc_lists.proofs.Bools.{false_true}
 use Rattle.pc_types.proofs.Types.{OfKind, OfType, Want, Answers, StackOk}
 use Rattle.pc_types.proofs.Needs.{Needs}
@@ -85,7 +85,7 @@ module _ (core : CoreData) (ann : Ann) (needs : Needs core ann) (objects : Objec
   primitive_name e x (inl zero) g h = primitive_entity core e _ x (ap (slice_get core.entities) zero ∙ needs.formed.built_in.none) refl g h
   primitive_name e x (inr other) g h = primitive_entity core e other.1.0 x other.1.1 other.1.2 g h
 
-  pub is_address : (d : ℕ) (x : EntityDef) (v : Value) → OfKind core d v → entity_of objects v ≡ Some d → slice_get core.entities d ≡ Some x → may_have_fields x.kind ≡ true → (a : Address) × (v ≡ At a)
+  pub is_address : (d : ℕ) (x : EntityDef) (v : Value) → OfKind core d v → value_entity objects v ≡ Some d → slice_get core.entities d ≡ Some x → may_have_fields x.kind ≡ true → (a : Address) × (v ≡ At a)
   is_address d x (At a) k e g h = (a, refl)
   is_address d x (Num n) k e g h = absurd (primitive_entity core d _ x (ap (slice_get core.entities) (sym (same_Some 1 d e)) ∙ needs.formed.built_in.numbers) refl g h)
   is_address d x (Truth b) k e g h = absurd (primitive_entity core d _ x (ap (slice_get core.entities) (sym (same_Some 2 d e)) ∙ needs.formed.built_in.truths) refl g h)
@@ -93,7 +93,7 @@ module _ (core : CoreData) (ann : Ann) (needs : Needs core ann) (objects : Objec
   is_address d x (Prim p) k e g h = absurd (primitive_name p x k (ap (slice_get core.entities) (same_Some p d e) ∙ g) h)
 
   -- A value's own entity is neither a trait nor an interface.
-  pub own_no_trait : (d : ℕ) (x : EntityDef) (v : Value) → OfKind core d v → entity_of objects v ≡ Some d → slice_get core.entities d ≡ Some x → is_abstract x.kind ≡ false
+  pub own_no_trait : (d : ℕ) (x : EntityDef) (v : Value) → OfKind core d v → value_entity objects v ≡ Some d → slice_get core.entities d ≡ Some x → is_abstract x.kind ≡ false
   own_no_trait d x (At a) k e g = sym (ap (λ (z : EntityDef). is_abstract z.kind) (same_Some k.0 x (sym k.1 ∙ g))) ∙ concrete k.0.kind k.2
   own_no_trait d x (Num n) k e g = no_trait x.kind (ap (λ (z : EntityDef). z.kind) (same_Some x _ (sym g ∙ ap (slice_get core.entities) (sym (same_Some 1 d e)) ∙ needs.formed.built_in.numbers)))
   own_no_trait d x (Truth b) k e g = no_trait x.kind (ap (λ (z : EntityDef). z.kind) (same_Some x _ (sym g ∙ ap (slice_get core.entities) (sym (same_Some 2 d e)) ∙ needs.formed.built_in.truths)))

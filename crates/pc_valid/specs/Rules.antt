@@ -21,15 +21,16 @@ use Rattle.pc_core.specs.CoreData.{CoreData}
 use Rattle.pc_ann.specs.declared.annotation.Note.{Note}
 use Rattle.pc_ann.specs.declared.annotation.Rule.{Rule}
 use Rattle.pc_ann.specs.declared.annotation.Rule.TheVariants as rule
-use Rattle.pc_masks.specs.Masks.{IsIn, with_number, without_number, first}
-use Rattle.pc_valid.specs.Words.{Ty, Masks, Fits, IsLower, GoesTo, Reads, Joined, Recovers, before, after, on_both_ways, OneAfterOther, AllSet, StartsSet, Slots, SlotOf, Reachable, DefinedAs, Defines, FieldOf, place, Called, Go, Sendable, Incomplete}
+use Rattle.pc_masks.specs.Masks.{IsInMask, with_number, without_number, first}
+use Rattle.pc_valid.specs.Words.{Ty, Masks, FormFits, IsLower, GoesTo, ReadsValue, Joined, Recovers, before, masks_after, on_both_ways, OneAfterOther, AllSet}
+use Rattle.pc_valid.specs.Words.{StartsSet, Slots, SlotOf, Reachable, DefinedAs, Defines, FieldOf, place, Called, Go, Sendable, Incomplete}
 
 -- ---- values and slots
 
 -- A literal, or the value of a primitive: of this entity.
 pub record Literal (own : Note) (entity : ℕ) : Type 0 where
   pub type : own.ty ≡ Some (entity, form.Val)
-  pub masks : after own ≡ before own
+  pub masks : masks_after own ≡ before own
 
 -- `this` is what slot 0 holds, if all fields are set and the node may use the slot, and `tag` otherwise.
 pub record This (core : CoreData) (slots : Slots) (own : Note) (node : Node) : Type 0 where
@@ -38,23 +39,23 @@ pub record This (core : CoreData) (slots : Slots) (own : Note) (node : Node) : T
   pub whole : AllSet core this.home.entity own.set_before → Reachable node this.slot this.cap → seen ≡ plain this.cap
   pub else_tag : (AllSet core this.home.entity own.set_before → Reachable node this.slot this.cap → ⊥) → seen ≡ form.Tag
   pub type : own.ty ≡ Some (this.home.entity, seen)
-  pub masks : after own ≡ before own
+  pub masks : masks_after own ≡ before own
 
 -- A local or a parameter: it is live, and the node may use it.
-pub record Local (core : CoreData) (slots : Slots) (own : Note) (node : Node) (slot : ℕ) : Type 0 where
+pub record LocalRule (core : CoreData) (slots : Slots) (own : Note) (node : Node) (slot : ℕ) : Type 0 where
   pub of : SlotOf core slots node slot
-  pub live : IsIn own.live_before slot
+  pub live : IsInMask own.live_before slot
   pub reachable : Reachable node of.slot of.cap
   pub type : own.ty ≡ Some (of.entity, plain of.cap)
-  pub masks : after own ≡ before own
+  pub masks : masks_after own ≡ before own
 
 -- `consume`: the same, and the value comes without its alias. After it the slot is no longer live.
 pub record Consume (core : CoreData) (slots : Slots) (own : Note) (node : Node) (slot : ℕ) : Type 0 where
   pub of : SlotOf core slots node slot
-  pub live : IsIn own.live_before slot
+  pub live : IsInMask own.live_before slot
   pub reachable : Reachable node of.slot of.cap
   pub type : own.ty ≡ Some (of.entity, unalias of.cap)
-  pub masks : after own ≡ (without_number own.live_before slot, own.set_before)
+  pub masks : masks_after own ≡ (without_number own.live_before slot, own.set_before)
 
 -- The definition of a local: the value goes to what it holds. After it the slot is live.
 pub record Define (core : CoreData) (slots : Slots) (own : Note) (notes : List Note) (node : Node) (slot : ℕ) : Type 0 where
@@ -68,7 +69,7 @@ pub record Define (core : CoreData) (slots : Slots) (own : Note) (notes : List N
   pub type : own.ty ≡ None
   pub after_children : Masks
   pub in_order : OneAfterOther notes (before own) after_children
-  pub masks : after own ≡ (with_number after_children.0 slot, after_children.1)
+  pub masks : masks_after own ≡ (with_number after_children.0 slot, after_children.1)
 
 -- An assignment to a `var`: the value goes to what it holds. The node's value is the old one, if the slot is live.
 pub record Assign (core : CoreData) (slots : Slots) (own : Note) (notes : List Note) (node : Node) (slot : ℕ) : Type 0 where
@@ -82,9 +83,9 @@ pub record Assign (core : CoreData) (slots : Slots) (own : Note) (notes : List N
   pub goes : GoesTo core value (of.entity, of.cap)
   pub after_children : Masks
   pub in_order : OneAfterOther notes (before own) after_children
-  pub old : IsIn after_children.0 slot → own.ty ≡ Some (of.entity, unalias of.cap)
-  pub no_old : (IsIn after_children.0 slot → ⊥) → own.ty ≡ None
-  pub masks : after own ≡ (with_number after_children.0 slot, after_children.1)
+  pub old : IsInMask after_children.0 slot → own.ty ≡ Some (of.entity, unalias of.cap)
+  pub no_old : (IsInMask after_children.0 slot → ⊥) → own.ty ≡ None
+  pub masks : masks_after own ≡ (with_number after_children.0 slot, after_children.1)
 
 -- ---- fields
 
@@ -99,7 +100,7 @@ pub record Get (core : CoreData) (own : Note) (notes : List Note) (node : Node) 
   pub seen : Form
   pub sees : view origin.1 of.field.cap ≡ Some seen
   pub type : own.ty ≡ Some (of.field.entity, seen)
-  pub masks : OneAfterOther notes (before own) (after own)
+  pub masks : OneAfterOther notes (before own) (masks_after own)
 
 -- Reading a field of `this` before all fields are set: it is set, and seen as from `ref`.
 pub record GetOwn (core : CoreData) (own : Note) (notes : List Note) (node : Node) (name : ℕ) : Type 0 where
@@ -107,9 +108,9 @@ pub record GetOwn (core : CoreData) (own : Note) (notes : List Note) (node : Nod
   pub of : FieldOf core incomplete.home.entity name
   pub seen : Form
   pub sees : view form.Ref of.field.cap ≡ Some seen
-  pub set : IsIn own.set_after of.number
+  pub set : IsInMask own.set_after of.number
   pub type : own.ty ≡ Some (of.field.entity, seen)
-  pub masks : OneAfterOther notes (before own) (after own)
+  pub masks : OneAfterOther notes (before own) (masks_after own)
 
 -- Writing a field: it is a `var`, the value goes to it, and the origin accepts such a value. The node's value is the
 -- old one, in the form in which the origin gives it up.
@@ -129,7 +130,7 @@ pub record Put (core : CoreData) (own : Note) (notes : List Note) (node : Node) 
   pub old : Form
   pub takes : taken origin.1 of.field.cap ≡ Some old
   pub type : own.ty ≡ Some (of.field.entity, old)
-  pub masks : OneAfterOther notes (before own) (after own)
+  pub masks : OneAfterOther notes (before own) (masks_after own)
 
 -- Writing a field of `this` before all fields are set: it is a `var` or not set yet, and afterwards it is set.
 pub record PutOwn (core : CoreData) (own : Note) (notes : List Note) (node : Node) (name : ℕ) : Type 0 where
@@ -142,11 +143,11 @@ pub record PutOwn (core : CoreData) (own : Note) (notes : List Note) (node : Nod
   pub is_value : first.ty ≡ Some value
   pub after_children : Masks
   pub in_order : OneAfterOther notes (before own) after_children
-  pub may : (of.field.fixed ≡ false) ⊎ (IsIn after_children.1 of.number → ⊥)
+  pub may : (of.field.fixed ≡ false) ⊎ (IsInMask after_children.1 of.number → ⊥)
   pub goes : GoesTo core value (place of.field)
-  pub old : IsIn after_children.1 of.number → (given : Form) × (taken form.Ref of.field.cap ≡ Some given) × (own.ty ≡ Some (of.field.entity, given))
-  pub no_old : (IsIn after_children.1 of.number → ⊥) → own.ty ≡ None
-  pub masks : after own ≡ (after_children.0, with_number after_children.1 of.number)
+  pub old : IsInMask after_children.1 of.number → (given : Form) × (taken form.Ref of.field.cap ≡ Some given) × (own.ty ≡ Some (of.field.entity, given))
+  pub no_old : (IsInMask after_children.1 of.number → ⊥) → own.ty ≡ None
+  pub masks : masks_after own ≡ (after_children.0, with_number after_children.1 of.number)
 
 -- ---- calls
 
@@ -156,7 +157,7 @@ pub record New (core : CoreData) (own : Note) (notes : List Note) (number : ℕ)
   pub is_called : slice_get core.methods number ≡ Some called
   pub go : Go core notes called.params
   pub type : own.ty ≡ Some called.result
-  pub masks : OneAfterOther notes (before own) (after own)
+  pub masks : OneAfterOther notes (before own) (masks_after own)
 
 -- A constructor of an actor.
 pub record Spawn (core : CoreData) (own : Note) (notes : List Note) (number : ℕ) : Type 0 where
@@ -164,16 +165,16 @@ pub record Spawn (core : CoreData) (own : Note) (notes : List Note) (number : �
   pub is_called : slice_get core.methods number ≡ Some called
   pub go : Go core notes called.params
   pub type : own.ty ≡ Some (called.entity, form.Tag)
-  pub masks : OneAfterOther notes (before own) (after own)
+  pub masks : OneAfterOther notes (before own) (masks_after own)
 
 -- A call of a function whose `this` may hold the receiver.
 pub record Call (core : CoreData) (own : Note) (notes : List Note) (name : ℕ) : Type 0 where
   pub call : Called core notes name
   pub function : call.called.kind ≡ method.Fun
   pub go : Go core call.arguments call.called.params
-  pub fit : Fits call.to.1 call.called.receiver
+  pub fit : FormFits call.to.1 call.called.receiver
   pub type : own.ty ≡ Some call.called.result
-  pub masks : OneAfterOther notes (before own) (after own)
+  pub masks : OneAfterOther notes (before own) (masks_after own)
 
 -- A call of a function to which an `iso` or `trn` receiver is lent as `ref` or `box`: all arguments may be sent, and so may
 -- the result, or it cannot be used.
@@ -181,13 +182,13 @@ pub record CallRecover (core : CoreData) (own : Note) (notes : List Note) (name 
   pub call : Called core notes name
   pub function : call.called.kind ≡ method.Fun
   pub go : Go core call.arguments call.called.params
-  pub no_fit : Fits call.to.1 call.called.receiver → ⊥
+  pub no_fit : FormFits call.to.1 call.called.receiver → ⊥
   pub isolated : (call.to.1 ≡ form.Iso) ⊎ (call.to.1 ≡ form.Trn)
   pub lent : (call.called.receiver ≡ cap.Ref) ⊎ (call.called.receiver ≡ cap.Box)
   pub may_go : Sendable call.arguments call.called.params
   pub result : sendable_form call.called.result.1 ≡ true → own.ty ≡ Some call.called.result
   pub no_result : (sendable_form call.called.result.1 ≡ true → ⊥) → own.ty ≡ None
-  pub masks : OneAfterOther notes (before own) (after own)
+  pub masks : OneAfterOther notes (before own) (masks_after own)
 
 -- A message: a call of a behaviour.
 pub record Send (core : CoreData) (own : Note) (notes : List Note) (name : ℕ) : Type 0 where
@@ -195,16 +196,16 @@ pub record Send (core : CoreData) (own : Note) (notes : List Note) (name : ℕ) 
   pub behaviour : call.called.kind ≡ method.Be
   pub go : Go core call.arguments call.called.params
   pub type : own.ty ≡ Some (none_entity, form.Val)
-  pub masks : OneAfterOther notes (before own) (after own)
+  pub masks : OneAfterOther notes (before own) (masks_after own)
 
 -- `string` of a number or of a truth value.
 pub record Builtin (core : CoreData) (own : Note) (notes : List Note) (name : ℕ) : Type 0 where
   pub child : Note
   pub children : notes ≡ child ∷ []
   pub is_string : slice_get core.names name ≡ Some (codes "string")
-  pub reads : Reads u64_entity child.ty ⊎ Reads bool_entity child.ty
+  pub reads : ReadsValue u64_entity child.ty ⊎ ReadsValue bool_entity child.ty
   pub type : own.ty ≡ Some (string_entity, form.Val)
-  pub masks : OneAfterOther notes (before own) (after own)
+  pub masks : OneAfterOther notes (before own) (masks_after own)
 
 -- ---- operators
 
@@ -226,30 +227,30 @@ pub record Operator (own : Note) (notes : List Note) (operands result : ℕ) : T
   pub left : Note
   pub right : Note
   pub children : notes ≡ left ∷ right ∷ []
-  pub left_reads : Reads operands left.ty
-  pub right_reads : Reads operands right.ty
+  pub left_reads : ReadsValue operands left.ty
+  pub right_reads : ReadsValue operands right.ty
   pub type : own.ty ≡ Some (result, form.Val)
-  pub masks : OneAfterOther notes (before own) (after own)
+  pub masks : OneAfterOther notes (before own) (masks_after own)
 
 -- `not`.
 pub record Not (own : Note) (notes : List Note) : Type 0 where
   pub child : Note
   pub children : notes ≡ child ∷ []
-  pub reads : Reads bool_entity child.ty
+  pub reads : ReadsValue bool_entity child.ty
   pub type : own.ty ≡ Some (bool_entity, form.Val)
-  pub masks : OneAfterOther notes (before own) (after own)
+  pub masks : OneAfterOther notes (before own) (masks_after own)
 
 -- `and` and `or`: the right side may be left out.
 pub record Lazy (own : Note) (notes : List Note) : Type 0 where
   pub left : Note
   pub right : Note
   pub children : notes ≡ left ∷ right ∷ []
-  pub left_reads : Reads bool_entity left.ty
-  pub right_reads : Reads bool_entity right.ty
+  pub left_reads : ReadsValue bool_entity left.ty
+  pub right_reads : ReadsValue bool_entity right.ty
   pub type : own.ty ≡ Some (bool_entity, form.Val)
   pub left_starts : before left ≡ before own
-  pub right_starts : before right ≡ after left
-  pub masks : after own ≡ on_both_ways (after left) (after right)
+  pub right_starts : before right ≡ masks_after left
+  pub masks : masks_after own ≡ on_both_ways (masks_after left) (masks_after right)
 
 -- `is` and `isnt`, of any two values.
 pub record Identity (own : Note) (notes : List Note) : Type 0 where
@@ -261,19 +262,19 @@ pub record Identity (own : Note) (notes : List Note) : Type 0 where
   pub right_type : Ty
   pub is_right : right.ty ≡ Some right_type
   pub type : own.ty ≡ Some (bool_entity, form.Val)
-  pub masks : OneAfterOther notes (before own) (after own)
+  pub masks : OneAfterOther notes (before own) (masks_after own)
 
 -- ---- control
 
 -- A sequence has the type of its last item. After it the locals that its items define are no longer live.
-pub record Seq (core : CoreData) (own : Note) (notes : List Note) (node : Node) : Type 0 where
+pub record SeqRule (core : CoreData) (own : Note) (notes : List Note) (node : Node) : Type 0 where
   pub front : List Note
   pub last : Note
   pub children : notes ≡ front ++ last ∷ []
   pub type : own.ty ≡ last.ty
   pub after_children : Masks
   pub in_order : OneAfterOther notes (before own) after_children
-  pub live : (number : ℕ) → IsIn own.live_after number ↔ (IsIn after_children.0 number × (Defines core node.children number → ⊥))
+  pub live : (number : ℕ) → IsInMask own.live_after number ↔ (IsInMask after_children.0 number × (Defines core node.children number → ⊥))
   pub set : own.set_after ≡ after_children.1
 
 -- `if`: both branches start after the condition.
@@ -282,25 +283,25 @@ pub record If (core : CoreData) (own : Note) (notes : List Note) : Type 0 where
   pub first : Note
   pub second : Note
   pub children : notes ≡ condition ∷ first ∷ second ∷ []
-  pub reads : Reads bool_entity condition.ty
+  pub reads : ReadsValue bool_entity condition.ty
   pub type : Joined core first.ty second.ty own.ty
   pub condition_starts : before condition ≡ before own
-  pub first_starts : before first ≡ after condition
-  pub second_starts : before second ≡ after condition
-  pub masks : after own ≡ on_both_ways (after first) (after second)
+  pub first_starts : before first ≡ masks_after condition
+  pub second_starts : before second ≡ masks_after condition
+  pub masks : masks_after own ≡ on_both_ways (masks_after first) (masks_after second)
 
 -- `while`: after the body everything is live that was live before the loop, and the same fields are set.
 pub record While (own : Note) (notes : List Note) : Type 0 where
   pub condition : Note
   pub body : Note
   pub children : notes ≡ condition ∷ body ∷ []
-  pub reads : Reads bool_entity condition.ty
+  pub reads : ReadsValue bool_entity condition.ty
   pub type : own.ty ≡ Some (none_entity, form.Val)
   pub condition_starts : before condition ≡ before own
-  pub body_starts : before body ≡ after condition
-  pub keeps_live : (number : ℕ) → IsIn own.live_before number → IsIn body.live_after number
+  pub body_starts : before body ≡ masks_after condition
+  pub keeps_live : (number : ℕ) → IsInMask own.live_before number → IsInMask body.live_after number
   pub keeps_set : body.set_after ≡ own.set_before
-  pub masks : after own ≡ after condition
+  pub masks : masks_after own ≡ masks_after condition
 
 -- `recover`.
 pub record Recover (own : Note) (notes : List Note) (written : Option Cap) : Type 0 where
@@ -311,7 +312,7 @@ pub record Recover (own : Note) (notes : List Note) (written : Option Cap) : Typ
   pub lifted : Form
   pub recovers : Recovers written value.1 lifted
   pub type : own.ty ≡ Some (value.0, lifted)
-  pub masks : OneAfterOther notes (before own) (after own)
+  pub masks : OneAfterOther notes (before own) (masks_after own)
 
 -- The body of a method: when it starts, `this` and the parameters are live. That of a function gives its result.
 pub record Body (core : CoreData) (own : Note) (notes : List Note) (node : Node) : Type 0 where
@@ -323,7 +324,7 @@ pub record Body (core : CoreData) (own : Note) (notes : List Note) (node : Node)
   pub set : StartsSet core home own.set_before
   pub result : home.kind ≡ method.Fun → (value : Ty) × (child.ty ≡ Some value) × IsLower core value home.result
   pub type : own.ty ≡ None
-  pub masks : OneAfterOther notes (before own) (after own)
+  pub masks : OneAfterOther notes (before own) (masks_after own)
 
 -- ---- every rule
 
@@ -334,7 +335,7 @@ Means core slots own notes node rule.Truth (node_kind.Truth value) = Literal own
 Means core slots own notes node rule.Text (node_kind.Text value) = Literal own string_entity
 Means core slots own notes node rule.Prim (node_kind.Prim entity) = Literal own entity
 Means core slots own notes node rule.This node_kind.This = This core slots own node
-Means core slots own notes node rule.Local (node_kind.Local slot) = Local core slots own node slot
+Means core slots own notes node rule.Local (node_kind.Local slot) = LocalRule core slots own node slot
 Means core slots own notes node rule.Consume (node_kind.Consume slot) = Consume core slots own node slot
 Means core slots own notes node rule.Get (node_kind.Field name) = Get core own notes node name
 Means core slots own notes node rule.GetOwn (node_kind.Field name) = GetOwn core own notes node name
@@ -357,7 +358,7 @@ Means core slots own notes node rule.Logic node_kind.Not = Not own notes
 Means core slots own notes node rule.Lazy node_kind.And = Lazy own notes
 Means core slots own notes node rule.Lazy node_kind.Or = Lazy own notes
 Means core slots own notes node rule.Identity (node_kind.Same value) = Identity own notes
-Means core slots own notes node rule.Seq node_kind.Seq = Seq core own notes node
+Means core slots own notes node rule.Seq node_kind.Seq = SeqRule core own notes node
 Means core slots own notes node rule.If node_kind.If = If core own notes
 Means core slots own notes node rule.While node_kind.While = While own notes
 Means core slots own notes node rule.Recover (node_kind.Recover written) = Recover own notes written

@@ -11,7 +11,7 @@ use Rattle.pc_masks.specs.declared.mask.Mask.{Mask}
 use Rattle.pc_ann.specs.declared.annotation.Note.{Note}
 use Rattle.pc_ann.specs.declared.annotation.Ann.{Ann}
 use Rattle.pc_masks.specs.Masks.{first}
-use Rattle.pc_valid.specs.Words.{Place, Slots, Masks, before, after, IsConstructor, AllSet, StartsSet}
+use Rattle.pc_valid.specs.Words.{Place, Slots, Masks, before, masks_after, IsConstructor, AllSet, StartsSet}
 use Rattle.pc_valid.specs.Rules.{Means}
 
 -- ---- a node and its rule
@@ -74,10 +74,10 @@ pub data Reaches (core : CoreData) (ann : Ann) : ℕ → Masks → Type 0 where
       → slice_get node.children 0 ≡ Some number → Reaches core ann parent masks → Reaches core ann number masks
   else_branch : {number : ℕ} (parent condition : ℕ) (node : Node) (note : Note) → slice_get core.nodes parent ≡ Some node → node.kind ≡ node_kind.If
       → slice_get node.children 2 ≡ Some number → slice_get node.children 0 ≡ Some condition → slice_get ann.notes condition ≡ Some note
-      → Reaches core ann number (after note)
+      → Reaches core ann number (masks_after note)
   next_child : {number : ℕ} (parent child index : ℕ) (node : Node) (note : Note) → slice_get core.nodes parent ≡ Some node
       → (node.kind ≡ node_kind.If → index ≡ 1 → ⊥) → slice_get node.children (suc index) ≡ Some number → slice_get node.children index ≡ Some child
-      → slice_get ann.notes child ≡ Some note → Reaches core ann number (after note)
+      → slice_get ann.notes child ≡ Some note → Reaches core ann number (masks_after note)
 
 -- ---- that no annotation is valid
 

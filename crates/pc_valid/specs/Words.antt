@@ -20,7 +20,7 @@ use Rattle.pc_lists.specs.Places.{Has}
 use Rattle.pc_sub.specs.Sub.{Sub}
 use Rattle.pc_masks.specs.declared.mask.Mask.{Mask}
 use Rattle.pc_ann.specs.declared.annotation.Note.{Note}
-use Rattle.pc_masks.specs.Masks.{IsIn, empty, first, meet}
+use Rattle.pc_masks.specs.Masks.{IsInMask, empty, first, meet}
 
 -- ---- types
 
@@ -33,8 +33,8 @@ abbrev pub Place : Type 0
 Place = ℕ × Cap
 
 -- A value of this form may be stored at this capability.
-abbrev pub Fits : Form → Cap → Type 0
-Fits given wanted = IsBelow given (unalias wanted)
+abbrev pub FormFits : Form → Cap → Type 0
+FormFits given wanted = IsBelow given (unalias wanted)
 
 -- A value of the first type may be used wherever one of the second is expected.
 abbrev pub IsLower : CoreData → Ty → Ty → Type 0
@@ -42,11 +42,11 @@ IsLower core given wanted = Sub core given.0 wanted.0 × IsBelow given.1 wanted.
 
 -- A value of this type may be stored at this place.
 abbrev pub GoesTo : CoreData → Ty → Place → Type 0
-GoesTo core given place = Sub core given.0 place.0 × Fits given.1 place.1
+GoesTo core given place = Sub core given.0 place.0 × FormFits given.1 place.1
 
 -- A value of this entity that may be read.
-abbrev pub Reads : ℕ → Option Ty → Type 0
-Reads entity ty = (seen : Form) × (ty ≡ Some (entity, seen)) × IsBelow seen form.Box
+abbrev pub ReadsValue : ℕ → Option Ty → Type 0
+ReadsValue entity ty = (seen : Form) × (ty ≡ Some (entity, seen)) × IsBelow seen form.Box
 
 -- The type of two branches: the higher one if one is below the other, and otherwise none. If each is below the other it
 -- is that of the second branch.
@@ -60,7 +60,7 @@ pub data Joined (core : CoreData) : (first second both : Option Ty) → Type 0 w
 -- The form of a `recover`, by the capability written after it and by the form of its body.
 pub data Recovers : Option Cap → Form → Form → Type 0 where
   as_lifted : {body : Form} → Recovers None body (lift body)
-  as_written : {body : Form} {written : Cap} → Fits (lift body) written → Recovers (Some written) body (unalias written)
+  as_written : {body : Form} {written : Cap} → FormFits (lift body) written → Recovers (Some written) body (unalias written)
 
 -- ---- masks
 
@@ -72,8 +72,8 @@ Masks = Mask × Mask
 abbrev pub before : Note → Masks
 before note = (note.live_before, note.set_before)
 
-abbrev pub after : Note → Masks
-after note = (note.live_after, note.set_after)
+abbrev pub masks_after : Note → Masks
+masks_after note = (note.live_after, note.set_after)
 
 -- What is live and set after both of two paths.
 abbrev pub on_both_ways : Masks → Masks → Masks
@@ -82,7 +82,7 @@ on_both_ways one other = (meet one.0 other.0, meet one.1 other.1)
 -- Nodes with these notes are evaluated one after the other: the masks before each are those after the one before it.
 abbrev pub OneAfterOther : List Note → (from to : Masks) → Type 0
 OneAfterOther [] from to = from ≡ to
-OneAfterOther (note ∷ notes) from to = (before note ≡ from) × OneAfterOther notes (after note) to
+OneAfterOther (note ∷ notes) from to = (before note ≡ from) × OneAfterOther notes (masks_after note) to
 
 -- ---- methods and their slots
 
@@ -91,7 +91,7 @@ IsConstructor kind = (kind ≡ method.New) ⊎ (kind ≡ method.Spawn)
 
 -- All fields of this entity are in the mask.
 abbrev pub AllSet : CoreData → ℕ → Mask → Type 0
-AllSet core entity set = (owner : EntityDef) → slice_get core.entities entity ≡ Some owner → (number : ℕ) → number < length owner.fields → IsIn set number
+AllSet core entity set = (owner : EntityDef) → slice_get core.entities entity ≡ Some owner → (number : ℕ) → number < length owner.fields → IsInMask set number
 
 -- The mask of the fields that are set when a method starts: none in a constructor, and all of them elsewhere.
 abbrev pub StartsSet : CoreData → Method → Mask → Type 0

@@ -3,8 +3,8 @@ use Rattle.std.proofs.Common.{◌≡◌, ◌+◌, ℕ, List, [], ◌∷◌, ◌+
 use Rattle.std.specs.Prelude.{Result, codes, drop, slice_get}
 use Rattle.std.specs.Str.{bytes_eq}
 use Rattle.std.proofs.lemmas.Option.{none-some, same_Some}
-use Rattle.pc_body_spec.specs.Faults.{Fault, double, long_text, unknown}
-use Rattle.pc_body_spec.specs.Methods.{MethodFault, Outcome, in_body, nodes_full, slots_full}
+use Rattle.pc_body_spec.specs.Faults.{BodyNameFault, double, long_text, unknown}
+use Rattle.pc_body_spec.specs.Methods.{MethodFault, MethodOutcome, in_body, nodes_full, slots_full}
 use Rattle.pc_body_spec.specs.Scopes.{Context}
 use Rattle.pc_file_spec.specs.Members.{Owned}
 use Rattle.pc_file_spec.specs.Parts.{Parts, and_member, and_members, body_fault, if_ok, name_fault, outcome, with_outcome}
@@ -15,19 +15,19 @@ use Rattle.pc_members.specs.Tables.{trait_names}
 use Rattle.pc_names.specs.Counts.{count_faults, method_count}
 use Rattle.pc_names.specs.Cycles.{cycle_faults}
 use Rattle.pc_names.specs.Faults as spec
-use Rattle.pc_names.specs.Names.{OfFile, name_faults}
+use Rattle.pc_names.specs.Names.{IsNotMemory, name_faults}
 use Rattle.pc_names.specs.Mains.{is_main, main_faults}
 use Rattle.pc_names.specs.declared.fault.NameFault.{NameFault}
 use Rattle.pc_names.specs.declared.fault.NameFault.TheVariants as fault
 use Rattle.pc_tree.specs.BuiltIn.{first_own}
 use Rattle.pc_tree.specs.Tree as t
 use Rattle.pc_tree.specs.declared.file.ParamDef.{ParamDef}
-use Rattle.pc_tree.specs.declared.names.Name.{Name}
-use Rattle.pc_tree.specs.declared.names.TypeRef.{TypeRef}
+use Rattle.pc_tree.specs.declared.written_names.Name.{Name}
+use Rattle.pc_tree.specs.declared.written_names.TypeRef.{TypeRef}
 
 -- The first fault of the list, if there is one.
 abbrev pub OfFirst : List NameFault → Type 0
-OfFirst fs = (f : NameFault) → slice_get fs 0 ≡ Some f → OfFile f
+OfFirst fs = (f : NameFault) → slice_get fs 0 ≡ Some f → IsNotMemory f
 
 of_none : OfFirst []
 of_none f h = absurd (none-some f h)
@@ -36,14 +36,14 @@ of_both : (xs ys : List NameFault) → OfFirst xs → OfFirst ys → OfFirst (xs
 of_both [] ys a b = b
 of_both (x ∷ xs) ys a b = a
 
-of_one : (g : NameFault) → OfFile g → OfFirst (g ∷ [])
-of_one g is f h = subst OfFile (same_Some g f h) is
+of_one : (g : NameFault) → IsNotMemory g → OfFirst (g ∷ [])
+of_one g is f h = subst IsNotMemory (same_Some g f h) is
 
-of_where : (b : Bool) (g : NameFault) → OfFile g → OfFirst (spec.where_ b g)
+of_where : (b : Bool) (g : NameFault) → IsNotMemory g → OfFirst (spec.where_ b g)
 of_where true g is = of_one g is
 of_where false g is = of_none
 
-of_either : (b : Bool) (g : NameFault) (c : Bool) (h : NameFault) → OfFile g → OfFile h → OfFirst (spec.either b g c h)
+of_either : (b : Bool) (g : NameFault) (c : Bool) (h : NameFault) → IsNotMemory g → IsNotMemory h → OfFirst (spec.either_fault b g c h)
 of_either true g c h is other = of_one g is
 of_either false g c h is other = of_where c h other
 
@@ -51,7 +51,7 @@ of_either false g c h is other = of_where c h other
 
 of_names : (known : List Text) (es : List t.Entity) → OfFirst (spec.entity_name_faults known es)
 of_names known [] = of_none
-of_names known (e ∷ es) = of_both (spec.either _ _ _ _) _ (of_either _ _ _ _ (λ is. cc is) (λ is. cc is)) (of_names (known ++ e.name.text ∷ []) es)
+of_names known (e ∷ es) = of_both (spec.either_fault _ _ _ _) _ (of_either _ _ _ _ (λ is. cc is) (λ is. cc is)) (of_names (known ++ e.name.text ∷ []) es)
 
 -- ---- declarations
 
@@ -65,12 +65,13 @@ module _ (entities traits : List Text) where
 
   of_provided : (known : List Text) (ns : List Name) → OfFirst (spec.provided_faults traits known ns)
   of_provided known [] = of_none
-  of_provided known (n ∷ ns) = of_both (spec.either _ _ _ _) _ (of_either _ _ _ _ (λ is. cc is) (λ is. cc is)) (of_provided (known ++ n.text ∷ []) ns)
+  of_provided known (n ∷ ns) =
+      of_both (spec.either_fault _ _ _ _) _ (of_either _ _ _ _ (λ is. cc is) (λ is. cc is)) (of_provided (known ++ n.text ∷ []) ns)
 
   of_fields : (known : List Text) (fs : List t.Field) → OfFirst (spec.field_faults entities known fs)
   of_fields known [] = of_none
   of_fields known (f ∷ fs) =
-      of_both (spec.either _ _ _ _) _ (of_either _ _ _ _ (λ is. cc is) (λ is. cc is))
+      of_both (spec.either_fault _ _ _ _) _ (of_either _ _ _ _ (λ is. cc is) (λ is. cc is))
       (of_both (spec.type_faults entities f.ty) _ (of_type f.ty) (of_fields (known ++ f.name.text ∷ []) fs))
 
   of_params : (fields known : List Text) (ps : List ParamDef) → OfFirst (spec.param_faults entities fields known ps)
@@ -122,12 +123,12 @@ of_file file above =
 
 -- ---- members
 
-body_of_file : (g : Fault) → OfFile (body_fault g)
+body_of_file : (g : BodyNameFault) → IsNotMemory (body_fault g)
 body_of_file (unknown s) is = cc is
 body_of_file (double s) is = cc is
 body_of_file (long_text s) is = cc is
 
-member_of_file : (g : MethodFault) → OfFile (name_fault g)
+member_of_file : (g : MethodFault) → IsNotMemory (name_fault g)
 member_of_file (in_body g) = body_of_file g
 member_of_file (slots_full s) = λ is. cc is
 member_of_file (nodes_full s) = λ is. cc is
@@ -136,15 +137,15 @@ abbrev pub failed : {A : Type 0} → Result A NameFault → Option NameFault
 failed (Ok a) = None
 failed (Err f) = Some f
 
-outcome_of_file : (c : Context) (p : Parts) (o : Owned) (r : Outcome) (f : NameFault) → failed (with_outcome c p o r) ≡ Some f → OfFile f
+outcome_of_file : (c : Context) (p : Parts) (o : Owned) (r : MethodOutcome) (f : NameFault) → failed (with_outcome c p o r) ≡ Some f → IsNotMemory f
 outcome_of_file c p o (Ok r) f e = absurd (none-some f e)
-outcome_of_file c p o (Err g) f e = subst OfFile (same_Some (name_fault g) f e) (member_of_file g)
+outcome_of_file c p o (Err g) f e = subst IsNotMemory (same_Some (name_fault g) f e) (member_of_file g)
 
-pub of_members : (file : t.File) (p : Parts) (os : List Owned) (f : NameFault) → failed (and_members file p os) ≡ Some f → OfFile f
+pub of_members : (file : t.File) (p : Parts) (os : List Owned) (f : NameFault) → failed (and_members file p os) ≡ Some f → IsNotMemory f
 of_members file p [] f e = absurd (none-some f e)
 of_members file p (o ∷ os) f e = by (λ q h. of_members file q os f h) (and_member (context_of file o) p o) refl e
   where
-    by : ((q : Parts) → failed (and_members file q os) ≡ Some f → OfFile f) → (r : Result Parts NameFault) → and_member (context_of file o) p o ≡ r → failed (if_ok r (λ q. and_members file q os)) ≡ Some f → OfFile f
+    by : ((q : Parts) → failed (and_members file q os) ≡ Some f → IsNotMemory f) → (r : Result Parts NameFault) → and_member (context_of file o) p o ≡ r → failed (if_ok r (λ q. and_members file q os)) ≡ Some f → IsNotMemory f
     by rest (Ok q) is h = rest q h
     by rest (Err g) is h =
         outcome_of_file (context_of file o) p o (outcome (context_of file o) (length p.methods) o.owner o.member p.nodes) f (ap failed is ∙ h)

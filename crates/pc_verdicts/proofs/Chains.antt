@@ -7,7 +7,7 @@ use Rattle.pc_lists.proofs.Gets.{get_below}
 use Rattle.pc_lists.specs.Places.{Has, IsIn}
 use Rattle.pc_members.proofs.Reached.{Within, led_listed, listed_led}
 use Rattle.pc_members.proofs.Reaches.{get_in, in_get}
-use Rattle.pc_members.specs.Reach.{Chain, Edges, ascending, link, links, next as after, reached}
+use Rattle.pc_members.specs.Reach.{EdgePath, Edges, ascending, link, links, edges_from as after, reached}
 use Rattle.pc_members.specs.Words.{or_nil}
 use Rattle.pc_sends.proofs.Filtered.{Filtered}
 use Rattle.pc_verdicts.proofs.Deciding.{filtered, has_told, turned}
@@ -76,11 +76,11 @@ module _ (n : ℕ) (R : ℕ → ℕ → Type 0) (tell : (a b : ℕ) → Told (R 
 
   -- ---- chains
 
-  chain_led : {a b : ℕ} → Chain edges a b → Led R a b
+  chain_led : {a b : ℕ} → EdgePath edges a b → Led R a b
   chain_led {a} {b} (link h) = one (edge_related a b h)
   chain_led {a} (links {b = d} h c) = more (edge_related a d h) (chain_led c)
 
-  led_chain : {a b : ℕ} → Led R a b → Chain edges a b
+  led_chain : {a b : ℕ} → Led R a b → EdgePath edges a b
   led_chain {a} {b} (one h) = link (related_edge a b h)
   led_chain {a} (more {b = d} h l) = links (related_edge a d h) (led_chain l)
 

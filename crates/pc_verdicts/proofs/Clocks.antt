@@ -5,7 +5,7 @@ use Rattle.std.proofs.lemmas.Bool.{cases_eq}
 use Rattle.std.proofs.lemmas.Option.{none-some}
 use Rattle.pc_core.specs.CoreData.{CoreData}
 use Rattle.pc_events.proofs.Events.{event_is, is_event_so}
-use Rattle.pc_events.specs.Before.{Before, Carries, Event, at_place, receiver_of, taken_before, waiting}
+use Rattle.pc_events.specs.Before.{Before, Carries, Event, at_place, receiver_of, taken_before, waiting_for}
 use Rattle.pc_events.specs.Before.Before.{carried, chain, own}
 use Rattle.pc_events.specs.Clock.{Clock, Clocks, UpTo}
 use Rattle.pc_events.specs.Counting.{is_event}
@@ -45,12 +45,12 @@ module _ (core : CoreData) (list : List ℕ) where
   abbrev Carried : (p q sender receiver : ℕ) → Type 0
   Carried p q i r =
       (Event core list p i × ((receiver_of core (at_place core list p) i ≡ Some r) × Event core list q r))
-      × ((ahead_of core (at_place core list q) r ≡ ahead.Take) × ((p < q) × (taken_before core list q r ≡ taken_before core list p r + waiting (at_place core list p) r)))
+      × ((ahead_of core (at_place core list q) r ≡ ahead.Take) × ((p < q) × (taken_before core list q r ≡ taken_before core list p r + waiting_for (at_place core list p) r)))
 
   carried_told : (p q i r : ℕ) → Told (Carried p q i r)
   carried_told p q i r = both_told
       (both_told (event_told p i) (both_told (is_told (receiver_of core (at_place core list p) i) r) (event_told q r)))
-      (both_told (take_told (ahead_of core (at_place core list q) r)) (both_told (less_told p q) (cases_eq (taken_before core list q r) (taken_before core list p r + waiting (at_place core list p) r))))
+      (both_told (take_told (ahead_of core (at_place core list q) r)) (both_told (less_told p q) (cases_eq (taken_before core list q r) (taken_before core list p r + waiting_for (at_place core list p) r))))
 
   pub carries_told : (p q : ℕ) → Told (Carries core list p q)
   carries_told p q =

@@ -2,7 +2,7 @@
 use Rattle.std.proofs.Common.{◌≡◌, ◌<◌, ◌≤◌, ◌+◌, ◌^◌, List, [], ◌∷◌, length, Some, Ok, Err, inl, inr, refl, ap, subst, arith}
 use Rattle.std.specs.Prelude.{Result, codes, slice_get}
 use Rattle.pc_file_spec.specs.Cores.{core_with}
-use Rattle.pc_file_spec.specs.Known.{texts_of}
+use Rattle.pc_file_spec.specs.Known.{texts_of_file}
 use Rattle.pc_file_spec.specs.Members.{members_from}
 use Rattle.pc_file_spec.specs.Parts.{Parts, built_in_parts, if_ok, parts_of}
 use Rattle.pc_grammar.specs.FileAnswers.{FileAnswer, IsFileAnswer, spelled, too_deep, unexpected}
@@ -16,7 +16,7 @@ use Rattle.pc_members.proofs.Closings.{closes}
 use Rattle.pc_members.specs.Edges.{edges_of}
 use Rattle.pc_members.specs.Reach.{above_all}
 use Rattle.pc_members.specs.Words.{entity_names}
-use Rattle.pc_names.specs.Faults.{IsFirst}
+use Rattle.pc_names.specs.Faults.{IsFirstNameFault}
 use Rattle.pc_names.specs.Names.{Collected, NamesData, name_faults}
 use Rattle.pc_names.specs.declared.fault.NameFault.{NameFault}
 use Rattle.pc_names.specs.declared.fault.NameFault.TheVariants as fault
@@ -61,7 +61,7 @@ syntax_ends name bytes = after_ends (Lexing name bytes) (Parsing name bytes) (le
 
 -- ---- the core
 
-first_is : (f : NameFault) (fs : List NameFault) → slice_get fs 0 ≡ Some f → IsFirst f fs
+first_is : (f : NameFault) (fs : List NameFault) → slice_get fs 0 ≡ Some f → IsFirstNameFault f fs
 first_is (fault.Double s) fs h = h
 first_is (fault.Unknown s) fs h = h
 first_is fault.NoMain fs h = h
@@ -74,7 +74,7 @@ module _ (name bytes : Text) (file : t.File) where
   collected : name_faults file (above_all (edges_of file)) ≡ [] → Collected file (record { entities = entity_names file; texts = []; above = above_all (edges_of file) })
   collected e = record { faults = e; entities = refl; above = closes file; texts = differ_none }
 
-  by_parts : name_faults file (above_all (edges_of file)) ≡ [] → length (texts_of file) < 2 ^ 32 → (r : Result Parts NameFault) → parts_of file ≡ r → HasEnd (Elaborating name bytes file)
+  by_parts : name_faults file (above_all (edges_of file)) ≡ [] → length (texts_of_file file) < 2 ^ 32 → (r : Result Parts NameFault) → parts_of file ≡ r → HasEnd (Elaborating name bytes file)
   by_parts clear few (Ok p) e =
       let core = core_with file (above_all (edges_of file)) p in
       (Ok core, elaborated (record { entities = entity_names file; texts = []; above = above_all (edges_of file) }, collected clear, ap (λ r. if_ok r (λ q. Ok (core_with file (above_all (edges_of file)) q))) e, few))
@@ -84,7 +84,7 @@ module _ (name bytes : Text) (file : t.File) where
         misused f (of_members file built_in_parts (members_from file.entities first_own file.entities) f (ap failed e)) (n, collected clear, ap (λ r. if_ok r (λ q. Ok (core_with file (above_all (edges_of file)) q))) e),
       )
 
-  by_faults : length (texts_of file) < 2 ^ 32 → (fs : List NameFault) → name_faults file (above_all (edges_of file)) ≡ fs → HasEnd (Elaborating name bytes file)
+  by_faults : length (texts_of_file file) < 2 ^ 32 → (fs : List NameFault) → name_faults file (above_all (edges_of file)) ≡ fs → HasEnd (Elaborating name bytes file)
   by_faults few [] e = by_parts e few (parts_of file) refl
   by_faults few (f ∷ fs) e =
       let h : slice_get (name_faults file (above_all (edges_of file))) 0 ≡ Some f = ap (λ l. slice_get l 0) e in (

@@ -13,7 +13,7 @@ use Rattle.pc_members.specs.Words.{field_texts, is_among, method_texts}
 use Rattle.pc_members.specs.Tables.{with_name, with_names}
 use Rattle.pc_names.specs.Texts.{built_in_texts, with_members}
 use Rattle.pc_body_spec.specs.Texts.{expr_texts, exprs_texts, suffixes_texts, arm_texts, arms_texts, other_texts, seq_texts, items_texts, item_texts, value_texts, body_texts, values_texts, bodies_texts, entities_texts}
-use Rattle.pc_file_spec.specs.Known.{texts_of}
+use Rattle.pc_file_spec.specs.Known.{texts_of_file}
 
 -- There are no more texts than tokens.
 pub record Few (xs : List Text) (ts : List Token) : Type 0 where
@@ -203,7 +203,7 @@ all_longer first es xs =
     omega (arith, k, l, m)
 
 -- The texts of a file: four of the language, and the names in it.
-pub texts_few : (file : t.File) (ts : List Token) → SpellsFile file ts → length (texts_of file) ≤ 4 + 2 * length ts
+pub texts_few : (file : t.File) (ts : List Token) → SpellsFile file ts → length (texts_of_file file) ≤ 4 + 2 * length ts
 texts_few file ts h =
     let es = file.entities in
     let inner : Few (all_names es) ts = moved h.3 (past h.0 (before (h.2 ∷ []) (all_few es h.1 h.5))) in

@@ -13,7 +13,8 @@ use Rattle.pc_caps.specs.Tables.{plain, stored, taken, unalias, view}
 use Rattle.pc_caps.specs.declared.capability.Cap.{Cap}
 use Rattle.pc_caps.specs.declared.capability.Form.{Form}
 use Rattle.pc_caps.specs.declared.capability.Form.TheVariants as form
-use Rattle.pc_check.specs.Inference.{first_note, first_types, inferred_slot, note_of, or_else, slot_type, unwritten, with_inferred, with_slot, written_type}
+use Rattle.pc_check.specs.Inference.{first_note, first_types, inferred_slot, note_of, note_or_else, inferred_slot_type, unwritten, with_inferred}
+use Rattle.pc_check.specs.Inference.{with_inferred_slot, written_type}
 use Rattle.pc_core.specs.CoreData.{CoreData}
 use Rattle.pc_core.specs.Formed.{Formed}
 use Rattle.pc_core.specs.Lookup.{field_named}
@@ -39,7 +40,7 @@ use Rattle.pc_rules.specs.Control as control
 use Rattle.pc_rules.specs.Fields as field
 use Rattle.pc_rules.specs.Operators as operator
 use Rattle.pc_rules.specs.Parts.{all_fields, constructs, field_count, last_note, notes_of, one_child, one_note, one_type, says_of, slot_of, starts, three_notes, through_notes, two_notes, two_types}
-use Rattle.pc_valid.specs.Words.{Masks, Slots, Ty, after}
+use Rattle.pc_valid.specs.Words.{Masks, Slots, Ty, masks_after}
 use Rattle.pc_rules.specs.Rules.{rule_says, says}
 use Rattle.pc_rules.specs.Checks.{StartsFrom}
 use Rattle.pc_rules.specs.Checks.StartsFrom.{body as starts_body, else_branch, first_child, next_child}
@@ -122,7 +123,7 @@ pub notes_push : (ns : List Note) (t : Note) → NotesFit ns → NoteFits t → 
 notes_push [] t f s = (s, tt)
 notes_push (x ∷ ns) t f s = (f.0, notes_push ns t f.1 s)
 
-after_fits : (t : Note) → NoteFits t → BothFit (after t)
+after_fits : (t : Note) → NoteFits t → BothFit (masks_after t)
 after_fits t f = f.1.1
 
 -- the notes of some nodes
@@ -135,7 +136,7 @@ notes_fit notes (c ∷ cs) ns f e =
 
 through_fits : (ns : List Note) (m n : Masks) → NotesFit ns → BothFit m → through_notes ns m ≡ Some n → BothFit n
 through_fits [] m n f b e = subst BothFit (same_Some m n e) b
-through_fits (t ∷ ts) m n f b e = through_fits ts (after t) n f.1 (after_fits t f.0) (kept (starts t m) (through_notes ts (after t)) n e).1
+through_fits (t ∷ ts) m n f b e = through_fits ts (masks_after t) n f.1 (after_fits t f.0) (kept (starts t m) (through_notes ts (masks_after t)) n e).1
 
 one_fits : (ns : List Note) (t : Note) → NotesFit ns → one_note ns ≡ Some t → NoteFits t
 one_fits [] t f e = absurd (none-some t e)
@@ -384,9 +385,9 @@ module _ (core : CoreData) (formed : Formed core) where
         let vs = bind_some (two_types ns) _ q is in
         let n = bind_some (operator.lazy_masks ns m) _ q vs.2 in
         let c = bind_some (two_notes ns) _ n.0 n.1 in
-        let j = kept _ (Some (operator.meet_masks (after c.0.0) (after c.0.1))) n.0 c.2 in
+        let j = kept _ (Some (operator.meet_masks (masks_after c.0.0) (masks_after c.0.1))) n.0 c.2 in
         let f = two_fit ns c.0 notes c.1 in
-        let b = subst BothFit (same_Some (operator.meet_masks (after c.0.0) (after c.0.1)) n.0 j.1) (both_meet (after c.0.0) (after c.0.1) (after_fits c.0.0 f.0)) in
+        let b = subst BothFit (same_Some (operator.meet_masks (masks_after c.0.0) (masks_after c.0.1)) n.0 j.1) (both_meet (masks_after c.0.0) (masks_after c.0.1) (after_fits c.0.0 f.0)) in
         let k = kept _ (Some (says_of (Some (2, form.Val)) n.0)) q n.2 in
         val_said 2 n.0 q (omega arith) b k.1
 
@@ -424,8 +425,8 @@ module _ (core : CoreData) (formed : Formed core) where
         let c = bind_some (three_notes ns) _ q is in
         let n = bind_some (control.branch_masks c.0 m) _ q c.2 in
         let f = three_fit ns c.0 notes c.1 in
-        let j = kept _ (Some (operator.meet_masks (after c.0.1) (after c.0.2))) n.0 n.1 in
-        let b = subst BothFit (same_Some (operator.meet_masks (after c.0.1) (after c.0.2)) n.0 j.1) (both_meet (after c.0.1) (after c.0.2) (after_fits c.0.1 f.1.0)) in
+        let j = kept _ (Some (operator.meet_masks (masks_after c.0.1) (masks_after c.0.2))) n.0 n.1 in
+        let b = subst BothFit (same_Some (operator.meet_masks (masks_after c.0.1) (masks_after c.0.2)) n.0 j.1) (both_meet (masks_after c.0.1) (masks_after c.0.2) (after_fits c.0.1 f.1.0)) in
         let k = kept (control.is_condition c.0.0.ty) _ q n.2 in
         said (control.joined core c.0.1.ty c.0.2.ty) n.0 q (joined_fits c.0.1.ty c.0.2.ty f.1.0.0 f.1.1.0) b k.1
 
@@ -434,8 +435,8 @@ module _ (core : CoreData) (formed : Formed core) where
         let c = bind_some (two_notes ns) _ q is in
         let n = bind_some (control.loop_masks c.0 m) _ q c.2 in
         let f = two_fit ns c.0 notes c.1 in
-        let j = kept _ (Some (after c.0.0)) n.0 n.1 in
-        let b = subst BothFit (same_Some (after c.0.0) n.0 j.1) (after_fits c.0.0 f.0) in
+        let j = kept _ (Some (masks_after c.0.0)) n.0 n.1 in
+        let b = subst BothFit (same_Some (masks_after c.0.0) n.0 j.1) (after_fits c.0.0 f.0) in
         let k = kept (control.is_condition c.0.0.ty) _ q n.2 in
         val_said 0 n.0 q (omega arith) b k.1
 
@@ -503,7 +504,7 @@ module _ (core : CoreData) (formed : Formed core) where
       rule_fits ann.slots ns.0 x m q small (notes_fit ann.notes x.children ns.0 notes ns.1) masks r x.kind (formed.nodes n x g).names ns.2
 
   module _ (ann : Ann) (n : ℕ) (x : Node) (m : Masks) (g : slice_get core.nodes n ≡ Some x) (small : SlotsAreSmall ann.slots) (notes : NotesFit ann.notes) (masks : BothFit m) where
-    by_rule : (r : Rule) (o : Option Said) (rest : Option Note) (t : Note) → says core ann x m r x.kind ≡ o → (rest ≡ Some t → NoteFits t) → or_else r m o rest ≡ Some t → NoteFits t
+    by_rule : (r : Rule) (o : Option Said) (rest : Option Note) (t : Note) → says core ann x m r x.kind ≡ o → (rest ≡ Some t → NoteFits t) → note_or_else r m o rest ≡ Some t → NoteFits t
     by_rule r None rest t is later e = later e
     by_rule r (Some q) rest t is later e =
         let f = says_fits ann n x m r q g small notes masks is in
@@ -522,7 +523,8 @@ module _ (core : CoreData) (formed : Formed core) where
       let t = bind_some (slice_get ann.notes c.0) (λ (y : Note). y.ty) v c.2 in
       typed_small t.0 v (note_at ann.notes c.0 t.0 f t.1) t.2
 
-  slot_type_small : (ann : Ann) (x : Node) (s : ℕ) (i : ℕ × (ℕ × Cap)) → NotesFit ann.notes → slot_type core ann x s ≡ Some i → SlotFits i.1
+  slot_type_small : (ann : Ann) (x : Node) (s : ℕ) (i : ℕ × (ℕ × Cap)) → NotesFit ann.notes → inferred_slot_type core ann x s ≡ Some i
+      → SlotFits i.1
   slot_type_small ann x s i f e =
       let a = bind_some (slice_get core.methods x.method) _ i e in
       let b = bind_some (slice_get core.slots (a.0.first_slot + s)) _ i a.2 in
@@ -533,7 +535,7 @@ module _ (core : CoreData) (formed : Formed core) where
   inferred_small ann x (node.Define s) i f e = slot_type_small ann x s i f e
   inferred_small ann x k i f e = absurd (none-some i e)
 
-  with_small : (ann : Ann) (o : Option (ℕ × (ℕ × Cap))) → SlotsAreSmall ann.slots → ((i : ℕ × (ℕ × Cap)) → o ≡ Some i → SlotFits i.1) → SlotsAreSmall (with_slot ann o).slots
+  with_small : (ann : Ann) (o : Option (ℕ × (ℕ × Cap))) → SlotsAreSmall ann.slots → ((i : ℕ × (ℕ × Cap)) → o ≡ Some i → SlotFits i.1) → SlotsAreSmall (with_inferred_slot ann o).slots
   with_small ann None s h = s
   with_small ann (Some i) s h = slots_set ann.slots i.0 i.1 s (h i refl)
 

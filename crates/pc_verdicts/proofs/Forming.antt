@@ -3,7 +3,7 @@ use Rattle.std.proofs.Common.{◌≡◌, ◌≤◌, List, length, Ok, refl, sym,
 use Rattle.pc_ann.specs.declared.annotation.Ann.{Ann}
 use Rattle.pc_core.specs.CoreData.{CoreData}
 use Rattle.pc_core.specs.Formed.{Formed}
-use Rattle.pc_deriv.specs.Limits.{node_limit, slot_limit}
+use Rattle.pc_deriv.specs.Limits.{derivation_node_limit, derivation_slot_limit}
 use Rattle.pc_elab.specs.Cores.{CoresAreFormed}
 use Rattle.pc_grammar.specs.FileAnswers.{IsFileAnswer, spelled}
 use Rattle.pc_lex.specs.Answers.{TokenList}
@@ -71,7 +71,8 @@ accepted_core_safe law safe {a = a} h =
     safe a.source.core a.ann (source_formed law s.0).0 s.1
 
 -- A small core has small annotations.
-pub small_notes : (core : CoreData) (ann : Ann) → IsSmall core → Valid core ann → (length ann.slots ≤ slot_limit) × (length ann.notes ≤ node_limit)
+pub small_notes : (core : CoreData) (ann : Ann) → IsSmall core → Valid core ann
+    → (length ann.slots ≤ derivation_slot_limit) × (length ann.notes ≤ derivation_node_limit)
 small_notes core ann small v =
     let few = small.0 in
     let nodes = small.1 in

@@ -34,7 +34,7 @@ use Rattle.pc_verdicts.proofs.Stages.{HasEnd}
 
 module _ (core : CoreData) (ann : Ann) (formed : Formed core) where
   abbrev Judged : Type 0
-  Judged = Valid core ann ⊎ ((f : JudgeFault) × spec.FirstFault core ann f)
+  Judged = Valid core ann ⊎ ((f : JudgeFault) × spec.FirstAnnotationFault core ann f)
 
   -- ---- nodes
 
@@ -47,7 +47,7 @@ module _ (core : CoreData) (ann : Ann) (formed : Formed core) where
         | inr d ↦ inr (λ r. let h = to_rule core formed ann n r in d (subst (λ (y : Node). IsSaid core ann y t.0) (same_Some h.0 x.0 (sym h.2 ∙ x.1)) (subst (λ (s : Note). IsSaid core ann h.0 s) (same_Some h.1 t.0 (sym h.3 ∙ t.1)) h.4)))
       ]
 
-  module _ (n : ℕ) (x : Node) (g : slice_get core.nodes n ≡ Some x) (b : spec.Before core ann n) (on : spec.Before core ann (n + 1) → Judged) where
+  module _ (n : ℕ) (x : Node) (g : slice_get core.nodes n ≡ Some x) (b : spec.NothingWrongBefore core ann n) (on : spec.NothingWrongBefore core ann (n + 1) → Judged) where
     by_fields : MeetsRule core ann n → (c : Bool) → leaves_unset core ann n x.method ≡ c → Judged
     by_fields h true e =
         let u = (fails_set core ann n x.method formed h e).1 in
@@ -58,7 +58,7 @@ module _ (core : CoreData) (ann : Ann) (formed : Formed core) where
     by_rule (inl h) = by_fields h (leaves_unset core ann n x.method) refl
     by_rule (inr d) = inr (fault.Node n, (get_below core.nodes n x g, b, d))
 
-  nodes_judged : (rest n : ℕ) → n + rest ≡ length core.nodes → spec.Before core ann n → Judged
+  nodes_judged : (rest n : ℕ) → n + rest ≡ length core.nodes → spec.NothingWrongBefore core ann n → Judged
   nodes_judged zero n count b = inl (before_all core ann n formed (omega (arith, count)) b)
   nodes_judged (suc rest) n count b =
       let x = get_within core.nodes n (omega (arith, count)) in
@@ -115,7 +115,7 @@ module _ (core : CoreData) (ann : Ann) (formed : Formed core) where
   by_declarations (Some f) e = inr (fault.Decl f, e)
   by_declarations None e = by_shape ((fits_without_fault core formed).0 e) shape_told
 
-  pub judged : Valid core ann ⊎ ((f : JudgeFault) × spec.FirstFault core ann f)
+  pub judged : Valid core ann ⊎ ((f : JudgeFault) × spec.FirstAnnotationFault core ann f)
   judged = by_declarations (first_fault core) refl
 
 pub judging_ends : (source_name name : Text) (source : Source) (ann : Ann) → Formed source.core → HasEnd (Judging source_name name source ann)

@@ -14,7 +14,7 @@ use Rattle.pc_refusals.specs.Verdict.{EndsWith, Verdict}
 use Rattle.pc_ann.specs.declared.annotation.Ann.{Ann}
 use Rattle.pc_sched.specs.Limits.{schedule_limit}
 use Rattle.pc_top.specs.Commands.{FailedOf, IsVerdictOf, files_of}
-use Rattle.pc_top.specs.Commands.Events.{Telling}
+use Rattle.pc_top.specs.Commands.Events.{EventsTelling}
 use Rattle.pc_top.specs.Commands.Outcomes.{IsCount}
 use Rattle.pc_top.specs.Commands.Run.{Ran}
 use Rattle.pc_top.specs.Commands.Swap.{Swapping}
@@ -76,7 +76,7 @@ module _ (files : Files) where
   moves (Some (swap source schedule place)) v u (placed n is h) = placed n is (scheduled_moves source u.0 v schedule u.1.0 (λ name core list. EndsWith (Swapping name core list n)) h)
   moves (Some (swap source schedule place)) v u (no_place none is) = no_place none is
   moves (Some (trace source schedule)) v u h = scheduled_moves source u.0 v schedule u.1.0 (λ name core list. EndsWith (Tracing name core list)) h
-  moves (Some (events source schedule)) v u h = scheduled_moves source u.0 v schedule u.1.0 (λ name core list. EndsWith (Telling name core list)) h
+  moves (Some (events source schedule)) v u h = scheduled_moves source u.0 v schedule u.1.0 (λ name core list. EndsWith (EventsTelling name core list)) h
   moves (Some (places source)) v u h = source_moves source u.0 v _ _ _ (λ x l. l) h
   moves (Some (explain source)) v u h = source_moves source u.0 v _ _ _ (λ x l. l) h
   moves (Some (sends source)) v u h = source_moves source u.0 v _ _ _ (λ x l. l) h

@@ -8,7 +8,7 @@ use Rattle.pc_events.proofs.Boxes.{Boxes}
 use Rattle.pc_events.proofs.Events.{one_actor}
 use Rattle.pc_events.proofs.Order.{earlier_comes_before}
 use Rattle.pc_events.proofs.Totals.{moving}
-use Rattle.pc_events.specs.Before.{Carries, Event, at_place, waiting, waiting_of}
+use Rattle.pc_events.specs.Before.{Carries, Event, at_place, waiting_for, waiting_of}
 use Rattle.pc_events.specs.Clock.{Clocks}
 use Rattle.pc_lists.specs.Options.{◌>>=◌}
 use Rattle.pc_lists.specs.Texts.{Text}
@@ -18,7 +18,7 @@ use Rattle.pc_run_events.proofs.Access.{IsTask, access_is_task}
 use Rattle.pc_run_events.proofs.Effects.{Effects, NoneMade, OneMade, effects_at}
 use Rattle.pc_run_events.proofs.Naming.{all_named}
 use Rattle.pc_run_events.specs.Events.{AllEvents, Does, EventAt, SentAt, method_waiting, touches_in, touches_with}
-use Rattle.pc_run_events.specs.Lines.{run_text}
+use Rattle.pc_run_events.specs.Lines.{events_text_of_run}
 use Rattle.pc_run_events.specs.declared.events.Deed.{Deed}
 use Rattle.pc_run_events.specs.declared.events.Deed.TheVariants as deed
 use Rattle.pc_run_events.specs.declared.events.RunEvent.{RunEvent}
@@ -36,8 +36,8 @@ use Rattle.pc_refusals.specs.Lines.{many_actors_line, too_long_line}
 use Rattle.pc_refusals.specs.Named.{Named}
 use Rattle.pc_refusals.specs.Source.{source_limit}
 use Rattle.pc_refusals.specs.Verdict.{EndsWith, refused}
-use Rattle.pc_top.specs.Commands.Events.{IsEvents, Telling}
-use Rattle.pc_top.specs.Commands.Events.Telling.{tells, too_long, too_many}
+use Rattle.pc_top.specs.Commands.Events.{IsEvents, EventsTelling}
+use Rattle.pc_top.specs.Commands.Events.EventsTelling.{tells, too_long, too_many}
 use Rattle.pc_verdicts.proofs.Clocks.{carries_told, clocks_are_there, event_at, event_below}
 use Rattle.pc_verdicts.proofs.Deciding.{some_told}
 use Rattle.pc_verdicts.proofs.Forming.{SourcesAreFormed, accepted_core_safe, accepted_source, source_formed}
@@ -69,7 +69,7 @@ first_method : (o : Option Actor) (k : ℕ) → waiting_of o ≡ suc k → (m : 
 first_method None k e = absurd (omega (arith, e))
 first_method (Some a) k e = first_of a.mailbox k e
 
-first_waits : (c : Configuration) (a k : ℕ) → waiting c a ≡ suc k → (m : ℕ) × (method_waiting c a 0 ≡ Some m)
+first_waits : (c : Configuration) (a k : ℕ) → waiting_for c a ≡ suc k → (m : ℕ) × (method_waiting c a 0 ≡ Some m)
 first_waits c a k e = first_method (slice_get c.actors a) k e
 
 untaken : (h : Ahead) → (IsTask h → ⊥) → (core : CoreData) (c : Configuration) (i : ℕ) → ahead_of core c i ≡ h → (o : Option Access) → access core c i ≡ o → o ≡ None
@@ -144,7 +144,7 @@ module _ (core : CoreData) (list : List ℕ) where
     by_ahead : (k : Ahead) → ahead_of core (at_place core list n) i ≡ k → Boxes (at_place core list n) (at_place core list (suc n)) i k
         → Effects core (at_place core list n) (at_place core list (suc n)) i k → (more : List RunEvent) × Recorded (suc n) more
     by_ahead ahead.Take is b f =
-        let m = first_waits (at_place core list n) i (waiting (at_place core list (suc n)) i) b.1 in
+        let m = first_waits (at_place core list n) i (waiting_for (at_place core list (suc n)) i) b.1 in
         let sent = sent_at n in
         quiet (deed.Take m.0 sent.0) (is, m.1, sent.1) refl (free ahead.Take (λ x. x) is)
     by_ahead (ahead.Send r) is b f = quiet (deed.Send r f.0) (is, f.2) refl (free (ahead.Send r) (λ x. x) is)
@@ -177,7 +177,7 @@ module _ (core : CoreData) (list : List ℕ) where
 
   -- ---- the stage
 
-  by_end : (name : Text) → Formed core → Safe core → RunEnd core list → HasEnd (Telling name core list)
+  by_end : (name : Text) → Formed core → Safe core → RunEnd core list → HasEnd (EventsTelling name core list)
   by_end name formed safe (ran h) =
       let r = recorded_to (length list) in
       let all : AllEvents core list r.0 = record {
@@ -186,14 +186,14 @@ module _ (core : CoreData) (list : List ℕ) where
         all = λ p i d e does. r.1.0.all p (event_below core list p i e) (i, d, e, does);
       }
       in
-      (Ok (run_text core r.0), tells r.0 (run_text core r.0) (h, all, all_noted core list (touches_in r.0) r.1.1, earlier_comes_before core safe list, all_named core formed safe list r.0 all) refl)
+      (Ok (events_text_of_run core r.0), tells r.0 (events_text_of_run core r.0) (h, all, all_noted core list (touches_in r.0) r.1.1, earlier_comes_before core safe list, all_named core formed safe list r.0 all) refl)
   by_end name formed safe (long n h) = (Err (refused 12 (too_long_line name n)), too_long n h)
   by_end name formed safe (many n h) = (Err (refused 8 (many_actors_line name n)), too_many n h)
 
 pub events_answers : SourcesAreFormed → ValidIsSafe → (source schedule : Named) → ReadOn source_limit source → IsSome source.told → ReadOn schedule_limit schedule → IsSome schedule.told → Answers (IsEvents source schedule)
 events_answers law safe source schedule on told also too =
-    scheduled_answers law (λ name core list. EndsWith (Telling name core list)) source schedule on told also too
+    scheduled_answers law (λ name core list. EndsWith (EventsTelling name core list)) source schedule on told also too
     (λ r a h q turns g.
     let core = a.source.core in
     let is = accepted_core_safe law safe h in
-    ends_answer (λ text. text) (Telling schedule.name core (spread turns)) (by_end core (spread turns) schedule.name (source_formed law (accepted_source h).0).0 is (run_end core (spread turns) is)))
+    ends_answer (λ text. text) (EventsTelling schedule.name core (spread turns)) (by_end core (spread turns) schedule.name (source_formed law (accepted_source h).0).0 is (run_end core (spread turns) is)))

@@ -9,7 +9,7 @@ use Rattle.pc_run.specs.Spreading.{spread}
 use Rattle.pc_sched.specs.Limits.{turn_limit}
 use Rattle.pc_sched.specs.declared.turns.Turn.{Turn}
 use Rattle.pc_sched_lines.specs.Lines.{IsLine, line_of}
-use Rattle.pc_sched_lines.specs.Rows.{Differs, RowsOf}
+use Rattle.pc_sched_lines.specs.Rows.{HasOtherActor, RowsOf}
 use Rattle.pc_semantics.specs.Configurations.{Configuration, start}
 use Rattle.pc_semantics.specs.Runs.{followed, outcomes, outcomes_from, run_from}
 use Rattle.pc_semantics.specs.Safety.{LacksNothing}
@@ -64,7 +64,7 @@ row_within : (n a : ℕ) (ys : List ℕ) → n ≤ length (replicate n a ++ ys)
 row_within zero a ys = omega arith
 row_within (suc n) a ys = let l = row_within n a ys in omega (arith, l)
 
-differs_alike : (t u : Turn) (ts : List Turn) → u.actor ≡ t.actor → Differs t ts → Differs u ts
+differs_alike : (t u : Turn) (ts : List Turn) → u.actor ≡ t.actor → HasOtherActor t ts → HasOtherActor u ts
 differs_alike t u [] e d = tt
 differs_alike t u (x ∷ xs) e d = λ same. d (sym e ∙ same)
 

@@ -14,18 +14,18 @@ use Rattle.pc_core.specs.declared.nodes.Node.{Node}
 use Rattle.pc_core.specs.declared.nodes.NodeKind.{NodeKind}
 use Rattle.pc_core.specs.declared.nodes.NodeKind.TheVariants as nodes
 use Rattle.pc_lists.proofs.Gets.{get_below}
-use Rattle.pc_noted_receivers.specs.Noted.{entities}
+use Rattle.pc_noted_receivers.specs.Noted.{noted_entities}
 use Rattle.pc_semantics.specs.Configurations.{main_create}
 use Rattle.pc_sends.proofs.Filtered.{filtered_all}
 use Rattle.pc_sends.proofs.Homes.{method_there}
 use Rattle.pc_sends.proofs.Tabled.{RowsTo, rows_all, rows_next, rows_none}
 use Rattle.pc_sends.proofs.There.{reach_below}
-use Rattle.pc_sends.specs.Entities.{IsOne, MayBe}
+use Rattle.pc_sends.specs.Entities.{IsOrConformsTo, MayBe}
 use Rattle.pc_sends.specs.Reach.{IsSent, Posts, Reach, Sends, is_message}
 use Rattle.pc_sends.specs.Reach.Reach.{first as begins, next as goes_on}
 use Rattle.pc_sends.specs.Reached.{AreSent}
 use Rattle.pc_sends.specs.Tables.{IsLater, IsNever, IsOfActor, IsOwnActor, IsTable, row}
-use Rattle.pc_sends.specs.Uses.{Aims, MayCall, Uses, is_called, noted_receiver}
+use Rattle.pc_sends.specs.Uses.{Aims, MayCall, UsesMethod, is_called, noted_receiver}
 use Rattle.pc_sends.specs.declared.table.Row.{Row}
 use Rattle.pc_sends.specs.declared.table.Table.{Table}
 use Rattle.pc_core.specs.Conforms.{Conforms}
@@ -70,13 +70,13 @@ module _ (core : CoreData) (formed : Formed core) (ents : List (Option ℕ)) whe
       by None is = inl (conforms core d e (slice_get core.entities e) formed refl is)
       by (Some f) is = inr (λ h. none-some f (sym (conformed core d e (slice_get core.entities e) formed refl h) ∙ is))
 
-  one_told : (d e : ℕ) → Told (IsOne core d e)
+  one_told : (d e : ℕ) → Told (IsOrConformsTo core d e)
   one_told d e = either_told (cases_eq d e) (both_told (at_told core.entities e (λ (x : EntityDef). is_abstract x.kind ≡ true) (λ x. true_told (is_abstract x.kind))) (conforms_told d e))
 
   may_be_told : (d e : ℕ) → Told (MayBe core d e)
   may_be_told d e =
       turned (λ h. record { own = h.0; is_own = h.1; concrete = h.2.0; is_one = h.2.1 }) (λ (m : MayBe core d e). (m.own, m.is_own, (m.concrete, m.is_one)))
-      (at_told core.entities d (λ (x : EntityDef). (is_abstract x.kind ≡ false) × IsOne core d e) (λ x. both_told (false_told (is_abstract x.kind)) (one_told d e)))
+      (at_told core.entities d (λ (x : EntityDef). (is_abstract x.kind ≡ false) × IsOrConformsTo core d e) (λ x. both_told (false_told (is_abstract x.kind)) (one_told d e)))
 
   may_call_told : (name e t : ℕ) → Told (MayCall core name e t)
   may_call_told name e t =
@@ -101,10 +101,10 @@ module _ (core : CoreData) (formed : Formed core) (ents : List (Option ℕ)) whe
   sent_told (nodes.Call name) t = at_told core.methods t (λ (x : Method). x.kind ≡ method.Be) (λ x. be_told x.kind)
   sent_told k t = inr (λ h. h)
 
-  uses_told : (m t : ℕ) → Told (Uses core ents m t)
+  uses_told : (m t : ℕ) → Told (UsesMethod core ents m t)
   uses_told m t =
       turned (λ h. record { number = h.0; node = h.2.0; is_node = h.2.1; own = h.2.2.0; aims = h.2.2.1 })
-      (λ (u : Uses core ents m t). (u.number, get_below core.nodes u.number u.node u.is_node, (u.node, u.is_node, (u.own, u.aims))))
+      (λ (u : UsesMethod core ents m t). (u.number, get_below core.nodes u.number u.node u.is_node, (u.node, u.is_node, (u.own, u.aims))))
       (some_told (λ n. (x : Node) × (slice_get core.nodes n ≡ Some x) × ((x.method ≡ m) × Aims core ents x.kind x.children t))
       (λ n. at_told core.nodes n (λ (x : Node). (x.method ≡ m) × Aims core ents x.kind x.children t) (λ x. both_told (cases_eq x.method m) (aims_told x.kind x.children t)))
       (length core.nodes))
@@ -121,7 +121,7 @@ module _ (core : CoreData) (formed : Formed core) (ents : List (Option ℕ)) whe
   -- ---- what may begin or be sent
 
   abbrev Goes : ℕ → ℕ → Type 0
-  Goes m t = Uses core ents m t × (t < length core.methods)
+  Goes m t = UsesMethod core ents m t × (t < length core.methods)
 
   goes_told : (m t : ℕ) → Told (Goes m t)
   goes_told m t = both_told (uses_told m t) (less_told t (length core.methods))
@@ -235,6 +235,6 @@ pub sends_answers : SourcesAreFormed → (source : Named) → ReadOn source_limi
 sends_answers law source on told =
     accepted_answers law Sent source on told
     (λ r a h.
-    let table = table_is_there a.source.core (source_formed law (accepted_source h).0).0 (entities a.ann) in
+    let table = table_is_there a.source.core (source_formed law (accepted_source h).0).0 (noted_entities a.ann) in
     let text = table_text a.source.core table.0 in
     (done text, (text, (table.0, table.1, refl), refl)))

@@ -11,7 +11,7 @@ use Rattle.pc_lists.specs.Texts.{Text}
 use Rattle.pc_run.specs.Spreading.{spread}
 use Rattle.pc_sched.proofs.Together.{told}
 use Rattle.pc_sched.specs.Limits.{schedule_limit}
-use Rattle.pc_sched.specs.Schedules.{FirstFault}
+use Rattle.pc_sched.specs.Schedules.{FirstScheduleFault}
 use Rattle.pc_sched.specs.declared.fault.SchedFault.{SchedFault}
 use Rattle.pc_sched.specs.declared.fault.SchedFault.TheVariants.{BadWord, Memory, TooMany}
 use Rattle.pc_sched.specs.declared.turns.Turn.{Turn}
@@ -35,7 +35,7 @@ use Rattle.pc_verdicts.proofs.Typed.{checked, typing_ends}
 
 -- ---- a schedule
 
-fault_ends : (name bytes : Text) (f : SchedFault) → FirstFault bytes f → HasEnd (Scheduling name bytes)
+fault_ends : (name bytes : Text) (f : SchedFault) → FirstScheduleFault bytes f → HasEnd (Scheduling name bytes)
 fault_ends name bytes (BadWord at) h = (Err (refused 7 (offset_line name bytes at (codes "bad word"))), bad_word at h)
 fault_ends name bytes (TooMany at) h = (Err (refused 8 (offset_line name bytes at (codes "too many steps"))), too_many at h)
 fault_ends name bytes Memory h = absurd h

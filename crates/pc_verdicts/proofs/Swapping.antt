@@ -10,7 +10,7 @@ use Rattle.pc_regions.specs.Laws.{ValidIsSafe}
 use Rattle.pc_run.specs.Ends.{NeverLacks}
 use Rattle.pc_run.specs.Spreading.{spread}
 use Rattle.pc_sched.specs.Limits.{schedule_limit, turn_limit}
-use Rattle.pc_sched.specs.Schedules.{Piece, Spelled, Spells, TurnList, blank, word}
+use Rattle.pc_sched.specs.Schedules.{SchedulePiece, SpelledTurns, SpellsTurn, TurnList, blank, word}
 use Rattle.pc_sched.specs.declared.turns.Turn.{Turn}
 use Rattle.pc_sched_lines.proofs.Spreads.{length-spread}
 use Rattle.pc_semantics.specs.Ahead.{ahead_of}
@@ -41,11 +41,11 @@ use Rattle.pc_verdicts.proofs.Telling.{are_apart, both_make, first_stays, second
 
 -- ---- the actors of a schedule have small numbers
 
-small_turn : (b : List ℕ) (turn : Turn) → Spells b turn → Small turn.actor
+small_turn : (b : List ℕ) (turn : Turn) → SpellsTurn b turn → Small turn.actor
 small_turn b turn (inl h) = h.0.small
 small_turn b turn (inr h) = h.3.small
 
-small_spelled : (ps : List Piece) (turns : List Turn) → Spelled ps turns → AllByRecursion (λ (t : Turn). Small t.actor) turns
+small_spelled : (ps : List SchedulePiece) (turns : List Turn) → SpelledTurns ps turns → AllByRecursion (λ (t : Turn). Small t.actor) turns
 small_spelled [] turns h = subst (λ (ts : List Turn). AllByRecursion (λ (t : Turn). Small t.actor) ts) (sym h) tt
 small_spelled (blank b ∷ ps) turns h = small_spelled ps turns h
 small_spelled (word b ∷ ps) turns h =

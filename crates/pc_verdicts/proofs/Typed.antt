@@ -10,7 +10,7 @@ use Rattle.pc_check.proofs.Filling.{low_at, low_behind, low_next, tree_at}
 use Rattle.pc_check.proofs.Parents.{known}
 use Rattle.pc_check.proofs.Stopping.{leaves, stops}
 use Rattle.pc_check.proofs.Walking.{note_meets, noted, reaches_infer, walked_infer, walked_noted, walked_whole, with_notes}
-use Rattle.pc_check.specs.Faults.{LeavesUnset, StopsAt}
+use Rattle.pc_check.specs.Faults.{InferenceLeavesUnset, StopsAt}
 use Rattle.pc_check.specs.Inference.{first_note, first_types, inferred_slot, leaves_unset, rules_for, with_inferred, written_type}
 use Rattle.pc_check.specs.Walked.{Walked}
 use Rattle.pc_core.specs.CoreData.{CoreData}
@@ -27,7 +27,7 @@ use Rattle.pc_masks.specs.Masks.{first}
 use Rattle.pc_rules.proofs.Agreeing.{body_method}
 use Rattle.pc_rules.proofs.Homes.{children_of}
 use Rattle.pc_rules.specs.Control.{start_set}
-use Rattle.pc_valid.specs.Words.{Masks, after, before}
+use Rattle.pc_valid.specs.Words.{Masks, masks_after, before}
 use Rattle.pc_rules.specs.Rules.{IsSaid}
 use Rattle.pc_rules.specs.Trees.{Forest, Tree, body_tree, tree_le}
 use Rattle.pc_valid.specs.Valid.{Valid}
@@ -50,7 +50,7 @@ pub data Checked (core : CoreData) : Type 0 where
   is_valid : (ann : Ann) → Valid core ann → SlotsAreSmall ann.slots → NotesFit ann.notes → Checked core
   fails : (f : DeclFault) → first_fault core ≡ Some f → Checked core
   stopped : (ann : Ann) (n : ℕ) (m : Masks) → StopsAt core n m ann → Checked core
-  left : (ann : Ann) (m : ℕ) → LeavesUnset core m ann → Checked core
+  left : (ann : Ann) (m : ℕ) → InferenceLeavesUnset core m ann → Checked core
 
 -- ---- the masks that reach a node
 
@@ -83,7 +83,7 @@ module _ (core : CoreData) (p c : ℕ) (x : Node) (g : slice_get core.nodes p �
         tree_at core own.0 p (suc i) c x.children trees e,
         λ ann l.
             let t = get_within ann.notes d.0 (omega (arith, low, l)) in
-            (after t.0, else_branch p d.0 x t.0 g k.0 (ap (slice_get x.children) (sym k.1) ∙ e) d.1 t.1),
+            (masks_after t.0, else_branch p d.0 x t.0 g k.0 (ap (slice_get x.children) (sym k.1) ∙ e) d.1 t.1),
       )
   later_placed i e false b =
       let within = get_below x.children (suc i) c e in
@@ -91,7 +91,7 @@ module _ (core : CoreData) (p c : ℕ) (x : Node) (g : slice_get core.nodes p �
       let low = low_next own.0 i d.0 x.children d.1 in (
         low_at own.0 x.children (suc i),
         tree_at core own.0 p (suc i) c x.children trees e,
-        λ ann l. let t = get_within ann.notes d.0 (omega (arith, low, l)) in (after t.0, next_child p d.0 i x t.0 g b e d.1 t.1),
+        λ ann l. let t = get_within ann.notes d.0 (omega (arith, low, l)) in (masks_after t.0, next_child p d.0 i x t.0 g b e d.1 t.1),
       )
 
   child_placed : (i : ℕ) → slice_get x.children i ≡ Some c → Placed core c

@@ -3,7 +3,7 @@ use Rattle.std.specs.Prelude.{ℕ, ◌≡◌, ◌⊎◌, List}
 use Rattle.std.specs.Io.KnownBytes.{Appends}
 use Rattle.pc_args.specs.Asked.{command_of}
 use Rattle.pc_io.specs.Change.{Change}
-use Rattle.pc_io.specs.Sink.{Rose}
+use Rattle.pc_io.specs.Sink.{HasRisen}
 use Rattle.pc_lists.specs.Texts.{Text}
 use Rattle.pc_refusals.specs.Complete.{Completes}
 use Rattle.pc_refusals.specs.Named.{Files}
@@ -21,5 +21,5 @@ IsAnswerOf v out err status = (status ≡ v.status) × Appends out.before out.no
 abbrev pub ElevenIsFree : Type 0
 ElevenIsFree =
     (files : Files) (words : List Text) (out err : Change) (status : ℕ) (v : Verdict) → UnfailedOf files (command_of words) → TellsOf files.told (command_of words)
-    → (Rose out.faults_before out.faults_now → ⊥) → (Rose err.faults_before err.faults_now → ⊥) → Completes (IsVerdict files words) (FailedIn files words) out err status
+    → (HasRisen out.faults_before out.faults_now → ⊥) → (HasRisen err.faults_before err.faults_now → ⊥) → Completes (IsVerdict files words) (FailedIn files words) out err status
     → IsVerdict (read_through files.told) words v → (status ≡ 11) ⊎ IsAnswerOf v out err status

@@ -5,8 +5,8 @@ use Rattle.pc_lists.specs.Texts.{Text}
 use Rattle.pc_refusals.specs.Place.{line_behind, column_behind}
 
 -- The line and the column of the byte at an offset, `L:C`.
-unfoldable pub place : Text → ℕ → Text
-place bytes at = decimal (line_behind (take at bytes)) ++ 58 ∷ decimal (column_behind (take at bytes))
+unfoldable pub line_and_column : Text → ℕ → Text
+line_and_column bytes at = decimal (line_behind (take at bytes)) ++ 58 ∷ decimal (column_behind (take at bytes))
 
 -- The bytes of a span.
 unfoldable pub piece_of : Text → Span → Text

@@ -4,7 +4,7 @@ use Rattle.std.specs.List.{prefix_len}
 use Rattle.pc_caps.specs.declared.span.Span.{Span}
 use Rattle.pc_lists.specs.Texts.{Text, line_end}
 use Rattle.pc_refusals.specs.Place.{is_in_line, line_behind, column_behind}
-use Rattle.pc_window.specs.Places.{place}
+use Rattle.pc_window.specs.Places.{line_and_column}
 use Rattle.pc_window.specs.Shown.{shown, goes_on}
 
 -- If there are more than `far` bytes before a span in its line, the line is shown from `near` bytes before the span on.
@@ -55,9 +55,9 @@ abbrev pub dots : Bool → Text
 dots true = codes ".."
 dots false = []
 
-abbrev pub gap : Bool → Text
-gap true = codes "  "
-gap false = []
+abbrev pub ellipsis : Bool → Text
+ellipsis true = codes "  "
+ellipsis false = []
 
 abbrev pub shown_line : Text → ℕ → Text
 shown_line line before = dots (nat_lt far before) ++ (map shown (part_of line before) ++ dots (nat_lt (shown_from before + width) (length line)))
@@ -82,12 +82,12 @@ carets part = one_at_least (flat_map caret part)
 -- The marks for a span of this many bytes.
 abbrev pub marks : Text → (before size : ℕ) → Text
 marks line before size =
-    gap (nat_lt far before)
+    ellipsis (nat_lt far before)
     ++ (flat_map under (take (before - shown_from before) (part_of line before)) ++ carets (take size (drop (before - shown_from before) (part_of line before))))
 
 -- Where a span ends that continues after its first line, which ends at this byte.
 abbrev pub further : Text → (end_of_line end : ℕ) → Text
-further bytes line_ends at = if nat_lt line_ends at then codes " .. " ++ place bytes at else []
+further bytes line_ends at = if nat_lt line_ends at then codes " .. " ++ line_and_column bytes at else []
 
 -- ---- the two lines
 

@@ -48,14 +48,14 @@ fn next_place(place: Place, byte: u8) -> Place
 }
 
 /// Appends the place of the byte at this offset, `L:C`.
-#[tactic(auto, unfolding(crate::specs::Places::place))]
+#[tactic(auto, unfolding(crate::specs::Places::line_and_column))]
 pub fn push_place(
     alloc: Global,
     out: &mut Vec<u8>,
     bytes: &[u8],
     offset: u32,
 ) -> Result<(), AllocError>
-    ensures { OnOk result (out.new.items ≡ out.old.items ++ spec.place bytes.now offset) }
+    ensures { OnOk result (out.new.items ≡ out.old.items ++ spec.line_and_column bytes.now offset) }
 {
     let Place { line, column } = place_after(front_of(bytes, offset));
     let text = format!(in alloc; "{line}:{column}")?;

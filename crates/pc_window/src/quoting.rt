@@ -11,7 +11,7 @@ const WHOLE: usize = 40;
 const KEPT: usize = 38;
 
 fn is_blank(byte: u8) -> bool
-    ensures { result ≡ spec.is_blank byte }
+    ensures { result ≡ spec.is_white_space byte }
 {
     byte == b' ' || byte == b'\t' || byte == b'\n' || byte == b'\r'
 }
@@ -54,7 +54,7 @@ fn splits(line: &[u8], at: usize) -> bool
 // How many bytes of a longer line are kept, such that no character is split.
 fn cut_of(line: &[u8]) -> usize
     ensures value { result ≡ spec.cut_of line.now }
-    ensures few { result ≤ spec.kept }
+    ensures few { result ≤ spec.kept_bytes }
 {
     if !splits(line, KEPT) {
         KEPT

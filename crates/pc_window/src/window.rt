@@ -95,7 +95,7 @@ fn push_dots(out: &mut Vec<u8>, cut: bool) -> Result<(), AllocError>
 
 // Appends two blanks below two dots.
 fn push_gap(out: &mut Vec<u8>, cut: bool) -> Result<(), AllocError>
-    ensures { OnOk result (out.new.items ≡ out.old.items ++ spec.gap cut) }
+    ensures { OnOk result (out.new.items ≡ out.old.items ++ spec.ellipsis cut) }
 {
     if cut {
         out.extend_from_slice(b"  ")?;

@@ -11,7 +11,7 @@ use Rattle.pc_core.specs.declared.declarations.ParamInfo.{ParamInfo}
 use Rattle.pc_lists.proofs.Bools.{false_true}
 use Rattle.pc_sub.specs.Chain.{is_chain}
 use Rattle.pc_sub.specs.Conforms as stands
-use Rattle.pc_words.specs.Misfits.{MisfitsAreAll, count_misfit, first_misfit, or_else, param_misfit, params_misfit, result_misfit}
+use Rattle.pc_words.specs.Misfits.{MisfitsAreAll, count_misfit, first_misfit, misfit_or_else, param_misfit, params_misfit, result_misfit}
 use Rattle.pc_words.specs.declared.misfits.Misfit.{Misfit}
 use Rattle.pc_words.specs.declared.misfits.Misfit.TheVariants as misfit_of
 
@@ -28,11 +28,11 @@ tests_hold true true m n e = refl
 tests_hold true false m n e = absurd (false_true e)
 tests_hold false b m n e = absurd (false_true e)
 
-both_none : (o p : Option Misfit) → or_else o p ≡ None → (o ≡ None) × (p ≡ None)
+both_none : (o p : Option Misfit) → misfit_or_else o p ≡ None → (o ≡ None) × (p ≡ None)
 both_none None p e = (refl, e)
 both_none (Some m) p e = absurd (none-some m (sym e))
 
-none_both : (o p : Option Misfit) → o ≡ None → p ≡ None → or_else o p ≡ None
+none_both : (o p : Option Misfit) → o ≡ None → p ≡ None → misfit_or_else o p ≡ None
 none_both None p d e = e
 none_both (Some m) p d e = absurd (none-some m (sym d))
 
@@ -85,7 +85,7 @@ fit_params core i (p ∷ ps) (q ∷ qs) e =
 stands_without : (core : CoreData) (t y : Method) → first_misfit core t y ≡ None → stands.stands_for core t y ≡ true
 stands_without core t y e =
     let receiver = test_none (fits (unalias t.receiver) y.receiver) (count_misfit core t y) misfit_of.Receiver e in
-    let count = test_none (nat_eq (length t.params) (length y.params)) (or_else (params_misfit core 0 t.params y.params) (result_misfit core t y)) misfit_of.Count receiver.1 in
+    let count = test_none (nat_eq (length t.params) (length y.params)) (misfit_or_else (params_misfit core 0 t.params y.params) (result_misfit core t y)) misfit_of.Count receiver.1 in
     let both = both_none (params_misfit core 0 t.params y.params) (result_misfit core t y) count.1 in
     let few = eqb-true (length t.params) (length y.params) count.0 in
     let params = params_fit core 0 t.params y.params few both.0 in
@@ -101,7 +101,7 @@ none_standing core t y e =
     let result = tests_hold (is_chain core y.result.0 t.result.0) (is_below y.result.1 t.result.1) misfit_of.ResultEntity misfit_of.ResultForm whole.1 in
     let rest = none_both (params_misfit core 0 t.params y.params) (result_misfit core t y) params result in
     none_test (fits (unalias t.receiver) y.receiver) (count_misfit core t y) misfit_of.Receiver takes.0
-    (none_test (nat_eq (length t.params) (length y.params)) (or_else (params_misfit core 0 t.params y.params) (result_misfit core t y)) misfit_of.Count few rest)
+    (none_test (nat_eq (length t.params) (length y.params)) (misfit_or_else (params_misfit core 0 t.params y.params) (result_misfit core t y)) misfit_of.Count few rest)
 
 pub misfits_all : MisfitsAreAll
 misfits_all core t y = (stands_without core t y, none_standing core t y)

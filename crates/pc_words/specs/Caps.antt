@@ -79,5 +79,5 @@ takes_word cap.Box = codes "takes "
 takes_word cap.Tag = codes "takes "
 
 -- The forms that a place with this capability takes.
-unfoldable pub takes : Cap → Text
-takes k = takes_word k ++ form_words (fitting k)
+unfoldable pub takes_words : Cap → Text
+takes_words k = takes_word k ++ form_words (fitting k)

@@ -8,13 +8,13 @@ use Rattle.pc_lists.specs.Texts.{Text}
 use Rattle.pc_window.specs.Quoting.{piece}
 use Rattle.pc_words.specs.Caps.{cap_word, form_word}
 
-abbrev pub name_in : Option EntityDef → Text
-name_in None = []
-name_in (Some x) = x.name
+abbrev pub name_of_declared : Option EntityDef → Text
+name_of_declared None = []
+name_of_declared (Some x) = x.name
 
 -- The bytes of an entity's name.
 unfoldable pub entity_name : CoreData → ℕ → Text
-entity_name core e = name_in (slice_get core.entities e)
+entity_name core e = name_of_declared (slice_get core.entities e)
 
 abbrev pub text_in : Option Text → Text
 text_in None = []
@@ -25,8 +25,8 @@ unfoldable pub name_text : CoreData → ℕ → Text
 name_text core name = text_in (slice_get core.names name)
 
 -- An entity, as it appears in a line of words.
-unfoldable pub entity : CoreData → ℕ → Text
-entity core e = piece (entity_name core e)
+unfoldable pub entity_words : CoreData → ℕ → Text
+entity_words core e = piece (entity_name core e)
 
 -- ---- `a` or `an`
 
@@ -48,8 +48,8 @@ with_article word = article word ++ piece word
 
 -- The type of a value, like `C iso^`.
 unfoldable pub type_words : CoreData → ℕ × Form → Text
-type_words core ty = entity core ty.0 ++ (codes " " ++ form_word ty.1)
+type_words core ty = entity_words core ty.0 ++ (codes " " ++ form_word ty.1)
 
 -- The type of a place, like `C iso`.
 unfoldable pub place_words : CoreData → ℕ × Cap → Text
-place_words core ty = entity core ty.0 ++ (codes " " ++ cap_word ty.1)
+place_words core ty = entity_words core ty.0 ++ (codes " " ++ cap_word ty.1)

@@ -11,7 +11,7 @@ use Rattle.pc_sub.specs.Conforms.{method_like}
 use Rattle.pc_sub.specs.Sub.{is_interface}
 use Rattle.pc_window.specs.Quoting.{quoted}
 use Rattle.pc_words.specs.Forms.{name_text}
-use Rattle.pc_words.specs.Methods.{method_name}
+use Rattle.pc_words.specs.Methods.{full_method_name}
 use Rattle.pc_words.specs.Misfits.{first_misfit, misfit}
 use Rattle.pc_words.specs.Scene.{SceneData}
 use Rattle.pc_words.specs.declared.misfits.Misfit.{Misfit}
@@ -42,7 +42,7 @@ unfoldable pub missing_words : CoreData → Method → Text
 missing_words core wanted = codes ": it has no function " ++ quoted (name_text core wanted.name)
 
 unfoldable pub misfit_words : SceneData → Method → Method → Option Misfit → Text
-misfit_words s wanted given m = codes ": for " ++ (method_name s.core given ++ (codes ", " ++ misfit s wanted given m))
+misfit_words s wanted given m = codes ": for " ++ (full_method_name s.core given ++ (codes ", " ++ misfit s wanted given m))
 
 abbrev pub lack_like : SceneData → Method → Option Method → Text
 lack_like s wanted None = missing_words s.core wanted

@@ -15,12 +15,12 @@ use Rattle.pc_tree.specs.Kinds.{is_abstract}
 use Rattle.pc_window.specs.Places.{piece_of}
 use Rattle.pc_window.specs.Quoting.{piece}
 use Rattle.pc_words.specs.Caps.{cap_word, new_word}
-use Rattle.pc_words.specs.Forms.{entity, name_text, place_words, type_words}
+use Rattle.pc_words.specs.Forms.{entity_words, name_text, place_words, type_words}
 use Rattle.pc_words.specs.Scene.{SceneData}
 
 -- `E.m`
-unfoldable pub method_name : CoreData → Method → Text
-method_name core x = entity core x.entity ++ (codes "." ++ piece (name_text core x.name))
+unfoldable pub full_method_name : CoreData → Method → Text
+full_method_name core x = entity_words core x.entity ++ (codes "." ++ piece (name_text core x.name))
 
 -- ---- before the name
 
@@ -30,40 +30,40 @@ words_of kind.Be k f = codes "be "
 words_of kind.New k f = codes "new " ++ (new_word f ++ codes " ")
 words_of kind.Spawn k f = codes "new "
 
-abbrev pub words : Method → Text
-words x = words_of x.kind x.receiver x.result.1
+abbrev pub method_words : Method → Text
+method_words x = words_of x.kind x.receiver x.result.1
 
 -- ---- after the name
 
-abbrev pub between : (first : Bool) → Text
-between first = if first then [] else codes ", "
+abbrev pub param_separator : (first : Bool) → Text
+param_separator first = if first then [] else codes ", "
 
-abbrev pub param : SceneData → ParamInfo → Text
-param s p = piece (piece_of s.bytes p.span) ++ (codes ": " ++ place_words s.core (p.entity, p.cap))
+abbrev pub declared_param : SceneData → ParamInfo → Text
+declared_param s p = piece (piece_of s.bytes p.span) ++ (codes ": " ++ place_words s.core (p.entity, p.cap))
 
 abbrev pub one_param : SceneData → (first : Bool) → ParamInfo → Text
-one_param s first p = between first ++ param s p
+one_param s first p = param_separator first ++ declared_param s p
 
-abbrev pub params_from : SceneData → (first : Bool) → List ParamInfo → Text
-params_from s first [] = []
-params_from s first (p ∷ ps) = one_param s first p ++ params_from s false ps
+abbrev pub declared_params_from : SceneData → (first : Bool) → List ParamInfo → Text
+declared_params_from s first [] = []
+declared_params_from s first (p ∷ ps) = one_param s first p ++ declared_params_from s false ps
 
-abbrev pub params : SceneData → List ParamInfo → Text
-params s ps = codes "(" ++ (params_from s true ps ++ codes ")")
+abbrev pub declared_params : SceneData → List ParamInfo → Text
+declared_params s ps = codes "(" ++ (declared_params_from s true ps ++ codes ")")
 
 -- The result is only written for functions.
-abbrev pub result_of : CoreData → MethodKind → ℕ × Form → Text
-result_of core kind.Fun ty = codes ": " ++ type_words core ty
-result_of core kind.Be ty = []
-result_of core kind.New ty = []
-result_of core kind.Spawn ty = []
+abbrev pub result_part : CoreData → MethodKind → ℕ × Form → Text
+result_part core kind.Fun ty = codes ": " ++ type_words core ty
+result_part core kind.Be ty = []
+result_part core kind.New ty = []
+result_part core kind.Spawn ty = []
 
 unfoldable pub signature : SceneData → Method → Text
-signature s x = params s x.params ++ result_of s.core x.kind x.result
+signature s x = declared_params s x.params ++ result_part s.core x.kind x.result
 
 -- A method as it is declared, with all its capabilities, even those that the source leaves out.
-unfoldable pub method : SceneData → Method → Text
-method s x = words x ++ (method_name s.core x ++ signature s x)
+unfoldable pub declared_method : SceneData → Method → Text
+declared_method s x = method_words x ++ (full_method_name s.core x ++ signature s x)
 
 -- ---- where it is
 
@@ -80,15 +80,15 @@ gives_text core x y = same_span y.span x.span && (not (nat_eq y.entity x.entity)
 
 abbrev pub taken_words : CoreData → Option Method → Text
 taken_words core None = []
-taken_words core (Some y) = codes ", which is taken over from " ++ entity core y.entity
+taken_words core (Some y) = codes ", which is taken over from " ++ entity_words core y.entity
 
-unfoldable pub taken : CoreData → Method → Text
-taken core x = taken_words core (find (gives_text core x) core.methods)
+unfoldable pub taken_over_words : CoreData → Method → Text
+taken_over_words core x = taken_words core (find (gives_text core x) core.methods)
 
 abbrev pub home_of : CoreData → Option Method → Text
 home_of core None = []
-home_of core (Some x) = codes " in " ++ (method_name core x ++ taken core x)
+home_of core (Some x) = codes " in " ++ (full_method_name core x ++ taken_over_words core x)
 
 -- ` in E.m`, and what it was taken over from.
-unfoldable pub home : CoreData → ℕ → Text
-home core m = home_of core (slice_get core.methods m)
+unfoldable pub home_of_method : CoreData → ℕ → Text
+home_of_method core m = home_of core (slice_get core.methods m)

@@ -11,7 +11,7 @@ use Rattle.pc_sub.specs.Conforms.{stands_for}
 use Rattle.pc_window.specs.Places.{piece_of}
 use Rattle.pc_window.specs.Quoting.{quoted}
 use Rattle.pc_words.specs.Caps.{cap_word, form_word}
-use Rattle.pc_words.specs.Forms.{entity, entity_name, with_article}
+use Rattle.pc_words.specs.Forms.{entity_words, entity_name, with_article}
 use Rattle.pc_words.specs.Scene.{SceneData}
 use Rattle.pc_words.specs.declared.misfits.Misfit.{Misfit}
 use Rattle.pc_words.specs.declared.misfits.Misfit.TheVariants as misfit_of
@@ -22,22 +22,23 @@ abbrev pub param_misfit : CoreData → ℕ → ParamInfo → ParamInfo → Optio
 param_misfit core i p q =
     if is_chain core p.entity q.entity then (if fits (unalias p.cap) q.cap then None else Some (misfit_of.ParameterCap i)) else Some (misfit_of.ParameterEntity i)
 
-abbrev pub or_else : Option Misfit → Option Misfit → Option Misfit
-or_else None other = other
-or_else (Some found) other = Some found
+abbrev pub misfit_or_else : Option Misfit → Option Misfit → Option Misfit
+misfit_or_else None other = other
+misfit_or_else (Some found) other = Some found
 
 -- Among the parameters, from this index on.
 abbrev pub params_misfit : CoreData → ℕ → List ParamInfo → List ParamInfo → Option Misfit
 params_misfit core i ps [] = None
 params_misfit core i [] (q ∷ qs) = None
-params_misfit core i (p ∷ ps) (q ∷ qs) = or_else (param_misfit core i p q) (params_misfit core (i + 1) ps qs)
+params_misfit core i (p ∷ ps) (q ∷ qs) = misfit_or_else (param_misfit core i p q) (params_misfit core (i + 1) ps qs)
 
 abbrev pub result_misfit : CoreData → Method → Method → Option Misfit
 result_misfit core t y = if is_chain core y.result.0 t.result.0 then (if is_below y.result.1 t.result.1 then None else Some misfit_of.ResultForm) else Some misfit_of.ResultEntity
 
 abbrev pub count_misfit : CoreData → Method → Method → Option Misfit
 count_misfit core t y =
-    if nat_eq (length t.params) (length y.params) then or_else (params_misfit core 0 t.params y.params) (result_misfit core t y) else Some misfit_of.Count
+    if nat_eq (length t.params) (length y.params) then misfit_or_else (params_misfit core 0 t.params y.params)
+        (result_misfit core t y) else Some misfit_of.Count
 
 -- The first thing about method y that does not fit method t: the receiver, the number of parameters, the parameters, or
 -- the result.
@@ -70,22 +71,22 @@ unfoldable pub param_cap : SceneData → ParamInfo → ParamInfo → Text
 param_cap s p q = param_head s q ++ (cap_word q.cap ++ (codes ", and must take " ++ form_word (unalias p.cap)))
 
 -- For a parameter, its entities or its capabilities.
-abbrev pub param_words : SceneData → (by_entity : Bool) → Option ParamInfo → Option ParamInfo → Text
-param_words s b None q = []
-param_words s b (Some p) None = []
-param_words s b (Some p) (Some q) = if b then param_entity s p q else param_cap s p q
+abbrev pub param_misfit_words : SceneData → (by_entity : Bool) → Option ParamInfo → Option ParamInfo → Text
+param_misfit_words s b None q = []
+param_misfit_words s b (Some p) None = []
+param_misfit_words s b (Some p) (Some q) = if b then param_entity s p q else param_cap s p q
 
 unfoldable pub result_entity : CoreData → Method → Method → Text
-result_entity core t y = codes "it gives " ++ (with_article (entity_name core y.result.0) ++ (codes ", which is no " ++ entity core t.result.0))
+result_entity core t y = codes "it gives " ++ (with_article (entity_name core y.result.0) ++ (codes ", which is no " ++ entity_words core t.result.0))
 
-unfoldable pub result_form : Method → Method → Text
-result_form t y = codes "it gives " ++ (form_word y.result.1 ++ (codes ", which is not below " ++ form_word t.result.1))
+unfoldable pub result_form_misfit : Method → Method → Text
+result_form_misfit t y = codes "it gives " ++ (form_word y.result.1 ++ (codes ", which is not below " ++ form_word t.result.1))
 
 unfoldable pub misfit : SceneData → (wanted given : Method) → Option Misfit → Text
 misfit s t y None = []
 misfit s t y (Some misfit_of.Receiver) = receiver_misfit t y
 misfit s t y (Some misfit_of.Count) = count_words (length t.params) (length y.params)
-misfit s t y (Some (misfit_of.ParameterEntity i)) = param_words s true (slice_get t.params i) (slice_get y.params i)
-misfit s t y (Some (misfit_of.ParameterCap i)) = param_words s false (slice_get t.params i) (slice_get y.params i)
+misfit s t y (Some (misfit_of.ParameterEntity i)) = param_misfit_words s true (slice_get t.params i) (slice_get y.params i)
+misfit s t y (Some (misfit_of.ParameterCap i)) = param_misfit_words s false (slice_get t.params i) (slice_get y.params i)
 misfit s t y (Some misfit_of.ResultEntity) = result_entity s.core t y
-misfit s t y (Some misfit_of.ResultForm) = result_form t y
+misfit s t y (Some misfit_of.ResultForm) = result_form_misfit t y

@@ -27,8 +27,8 @@ pub record SceneData : Type 0 where
   pub slots : List (ℕ × Cap)
   pub notes : List Note
 
-unfoldable pub type_of : SceneData → ℕ → Option (ℕ × Form)
-type_of s n = do
+unfoldable pub noted_type : SceneData → ℕ → Option (ℕ × Form)
+noted_type s n = do
   t ← slice_get s.notes n
   t.ty
 
@@ -43,8 +43,8 @@ slot_in s m k = do
   x ← slice_get s.core.methods m
   slice_get s.core.slots (x.first_slot + k)
 
-unfoldable pub slot_type : SceneData → (method index : ℕ) → Option (ℕ × Cap)
-slot_type s m k = do
+unfoldable pub noted_slot_type : SceneData → (method index : ℕ) → Option (ℕ × Cap)
+noted_slot_type s m k = do
   x ← slice_get s.core.methods m
   slice_get s.slots (x.first_slot + k)
 
@@ -71,8 +71,8 @@ var_in (Some y) = is_var_kind y.kind
 unfoldable pub is_param : SceneData → (method index : ℕ) → Bool
 is_param s m k = param_in (slot_in s m k)
 
-unfoldable pub is_var : SceneData → (method index : ℕ) → Bool
-is_var s m k = var_in (slot_in s m k)
+unfoldable pub is_var_slot : SceneData → (method index : ℕ) → Bool
+is_var_slot s m k = var_in (slot_in s m k)
 
 -- ---- the names of slots
 
@@ -80,8 +80,8 @@ abbrev pub defines_as : ℕ → NodeKind → Bool
 defines_as k (node.Define d) = nat_eq d k
 defines_as k other = false
 
-abbrev pub defines : ℕ → Node → Bool
-defines k x = defines_as k x.kind
+abbrev pub defines_index : ℕ → Node → Bool
+defines_index k x = defines_as k x.kind
 
 abbrev pub starts_after : ℕ → Token → Bool
 starts_after at t = nat_lt at t.span.start
@@ -97,19 +97,19 @@ defined_name s (Some d) = token_text s (find (starts_after d.span.start) s.token
 
 -- The name of the slot's first definition from the method's first node on.
 abbrev pub local_name : SceneData → Method → ℕ → Text
-local_name s x k = defined_name s (find (defines k) (drop x.first_node s.core.nodes))
+local_name s x k = defined_name s (find (defines_index k) (drop x.first_node s.core.nodes))
 
 abbrev pub param_name : SceneData → Method → ℕ → Option ParamInfo → Text
 param_name s x k None = local_name s x k
 param_name s x k (Some p) = piece_of s.bytes p.span
 
-abbrev pub name_in : SceneData → Method → ℕ → Text
-name_in s x zero = codes "this"
-name_in s x (suc k) = param_name s x (suc k) (slice_get x.params k)
+abbrev pub name_of_slot : SceneData → Method → ℕ → Text
+name_of_slot s x zero = codes "this"
+name_of_slot s x (suc k) = param_name s x (suc k) (slice_get x.params k)
 
 abbrev pub name_of : SceneData → Option Method → ℕ → Text
 name_of s None k = []
-name_of s (Some x) k = name_in s x k
+name_of s (Some x) k = name_of_slot s x k
 
 -- `this`, a parameter or a local.
 unfoldable pub slot_name : SceneData → (method index : ℕ) → Text
@@ -117,13 +117,13 @@ slot_name s m k = name_of s (slice_get s.core.methods m) k
 
 -- ---- `this`
 
-abbrev pub is_this : NodeKind → Bool
-is_this node.This = true
-is_this k = false
+abbrev pub is_this_kind : NodeKind → Bool
+is_this_kind node.This = true
+is_this_kind k = false
 
 abbrev pub unwritten_this : SceneData → Option Node → Bool
 unwritten_this s None = false
-unwritten_this s (Some x) = is_this x.kind && not (bytes_eq (piece_of s.bytes x.span) (codes "this"))
+unwritten_this s (Some x) = is_this_kind x.kind && not (bytes_eq (piece_of s.bytes x.span) (codes "this"))
 
 -- The node is a `this` that is not written in the source.
 unfoldable pub is_unwritten_this : SceneData → ℕ → Bool

@@ -158,9 +158,9 @@ fn takes_word(cap: Cap) -> &'static [u8]
 }
 
 /// Appends which forms a place with this capability takes.
-#[tactic(auto, unfolding(crate::specs::Caps::takes))]
+#[tactic(auto, unfolding(crate::specs::Caps::takes_words))]
 pub fn push_takes(out: &mut Vec<u8>, cap: Cap) -> Result<(), AllocError>
-    ensures { OnOk result (out.new.items ≡ out.old.items ++ spec.takes cap) }
+    ensures { OnOk result (out.new.items ≡ out.old.items ++ spec.takes_words cap) }
 {
     push_bytes(out, takes_word(cap))?;
     push_fitting(out, cap)

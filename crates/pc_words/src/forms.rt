@@ -31,14 +31,14 @@ pub fn name_text(core: &Core, name: u32) -> &[u8]
 }
 
 /// Appends an entity's name.
-#[tactic(auto, unfolding(crate::specs::Forms::entity))]
+#[tactic(auto, unfolding(crate::specs::Forms::entity_words))]
 pub fn push_entity(
     alloc: Global,
     out: &mut Vec<u8>,
     core: &Core,
     entity: u32,
 ) -> Result<(), AllocError>
-    ensures { OnOk result (out.new.items ≡ out.old.items ++ spec.entity core.now entity) }
+    ensures { OnOk result (out.new.items ≡ out.old.items ++ spec.entity_words core.now entity) }
 {
     push_piece(alloc, out, entity_name(core, entity))
 }

@@ -13,14 +13,14 @@ use pc_window::{piece_of, push_bytes, push_piece};
 use std::alloc::{AllocError, Global};
 
 /// Appends `E.m`.
-#[tactic(auto, unfolding(crate::specs::Methods::method_name))]
+#[tactic(auto, unfolding(crate::specs::Methods::full_method_name))]
 pub fn push_method_name(
     alloc: Global,
     out: &mut Vec<u8>,
     core: &Core,
     method: &Method,
 ) -> Result<(), AllocError>
-    ensures { OnOk result (out.new.items ≡ out.old.items ++ spec.method_name core.now method.now) }
+    ensures { OnOk result (out.new.items ≡ out.old.items ++ spec.full_method_name core.now method.now) }
 {
     push_entity(alloc, out, core, method.entity)?;
     push_bytes(out, b".")?;
@@ -29,7 +29,7 @@ pub fn push_method_name(
 
 /// Appends what comes before a method's name: `fun ref `, `be `, `new iso ` or `new `.
 pub fn push_method_words(out: &mut Vec<u8>, method: &Method) -> Result<(), AllocError>
-    ensures { OnOk result (out.new.items ≡ out.old.items ++ spec.words method.now) }
+    ensures { OnOk result (out.new.items ≡ out.old.items ++ spec.method_words method.now) }
 {
     match method.kind {
         MethodKind::Fun => {
@@ -49,7 +49,7 @@ pub fn push_method_words(out: &mut Vec<u8>, method: &Method) -> Result<(), Alloc
 
 // A comma, unless this is the first parameter.
 fn between(first: bool) -> &'static [u8]
-    ensures { result.now ≡ spec.between first }
+    ensures { result.now ≡ spec.param_separator first }
 {
     if first { b"" } else { b", " }
 }
@@ -61,7 +61,7 @@ fn push_param(
     scene: &Scene,
     param: ParamInfo,
 ) -> Result<(), AllocError>
-    ensures { OnOk result (out.new.items ≡ out.old.items ++ spec.param scene.now param) }
+    ensures { OnOk result (out.new.items ≡ out.old.items ++ spec.declared_param scene.now param) }
 {
     push_piece(alloc, out, piece_of(scene.bytes(), param.span))?;
     push_bytes(out, b": ")?;
@@ -89,7 +89,7 @@ fn push_all_params(
     scene: &Scene,
     params: &[ParamInfo],
 ) -> Result<(), AllocError>
-    ensures { OnOk result (out.new.items ≡ out.old.items ++ spec.params_from scene.now true params.now) }
+    ensures { OnOk result (out.new.items ≡ out.old.items ++ spec.declared_params_from scene.now true params.now) }
 {
     let mut first = true;
     for param in params {
@@ -106,7 +106,7 @@ fn push_params(
     scene: &Scene,
     params: &[ParamInfo],
 ) -> Result<(), AllocError>
-    ensures { OnOk result (out.new.items ≡ out.old.items ++ spec.params scene.now params.now) }
+    ensures { OnOk result (out.new.items ≡ out.old.items ++ spec.declared_params scene.now params.now) }
 {
     push_bytes(out, b"(")?;
     push_all_params(alloc, out, scene, params)?;
@@ -121,7 +121,7 @@ fn push_result(
     kind: MethodKind,
     ty: (u32, Form),
 ) -> Result<(), AllocError>
-    ensures { OnOk result (out.new.items ≡ out.old.items ++ spec.result_of core.now kind ty) }
+    ensures { OnOk result (out.new.items ≡ out.old.items ++ spec.result_part core.now kind ty) }
 {
     match kind {
         MethodKind::Fun => {
@@ -147,14 +147,14 @@ pub fn push_signature(
 }
 
 /// Appends a method as it is declared, with all its capabilities.
-#[tactic(auto, unfolding(crate::specs::Methods::method))]
+#[tactic(auto, unfolding(crate::specs::Methods::declared_method))]
 pub fn push_method(
     alloc: Global,
     out: &mut Vec<u8>,
     scene: &Scene,
     method: &Method,
 ) -> Result<(), AllocError>
-    ensures { OnOk result (out.new.items ≡ out.old.items ++ spec.method scene.now method.now) }
+    ensures { OnOk result (out.new.items ≡ out.old.items ++ spec.declared_method scene.now method.now) }
 {
     push_method_words(out, method)?;
     push_method_name(alloc, out, scene.core(), method)?;
@@ -213,14 +213,14 @@ fn push_taken_words(
 }
 
 /// Appends what the method was taken over from, if it was.
-#[tactic(auto, unfolding(crate::specs::Methods::taken))]
+#[tactic(auto, unfolding(crate::specs::Methods::taken_over_words))]
 pub fn push_taken(
     alloc: Global,
     out: &mut Vec<u8>,
     core: &Core,
     method: &Method,
 ) -> Result<(), AllocError>
-    ensures { OnOk result (out.new.items ≡ out.old.items ++ spec.taken core.now method.now) }
+    ensures { OnOk result (out.new.items ≡ out.old.items ++ spec.taken_over_words core.now method.now) }
 {
     push_taken_words(alloc, out, core, taken_from(core, method))
 }
@@ -240,14 +240,14 @@ fn push_home_of(
 }
 
 /// The same for the method with this number.
-#[tactic(auto, unfolding(crate::specs::Methods::home))]
+#[tactic(auto, unfolding(crate::specs::Methods::home_of_method))]
 pub fn push_home(
     alloc: Global,
     out: &mut Vec<u8>,
     core: &Core,
     method: u32,
 ) -> Result<(), AllocError>
-    ensures { OnOk result (out.new.items ≡ out.old.items ++ spec.home core.now method) }
+    ensures { OnOk result (out.new.items ≡ out.old.items ++ spec.home_of_method core.now method) }
 {
     match core.method_at(method) {
         None => Ok(()),

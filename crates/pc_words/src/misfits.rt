@@ -200,7 +200,8 @@ fn push_param(
     given: Option<&ParamInfo>,
     by_entity: bool,
 ) -> Result<(), AllocError>
-    ensures { OnOk result (out.new.items ≡ out.old.items ++ spec.param_words scene.now by_entity (option_copied wanted.entry) (option_copied given.entry)) }
+    ensures { OnOk result
+        (out.new.items ≡ out.old.items ++ spec.param_misfit_words scene.now by_entity (option_copied wanted.entry) (option_copied given.entry)) }
 {
     match (wanted, given) {
         (Some(wanted), Some(given)) => {
@@ -232,9 +233,9 @@ fn push_result_entity(
 }
 
 // Appends that the forms of the results do not fit.
-#[tactic(auto, unfolding(crate::specs::Misfits::result_form))]
+#[tactic(auto, unfolding(crate::specs::Misfits::result_form_misfit))]
 fn push_result_form(out: &mut Vec<u8>, wanted: &Method, given: &Method) -> Result<(), AllocError>
-    ensures { OnOk result (out.new.items ≡ out.old.items ++ spec.result_form wanted.now given.now) }
+    ensures { OnOk result (out.new.items ≡ out.old.items ++ spec.result_form_misfit wanted.now given.now) }
 {
     push_bytes(out, b"it gives ")?;
     push_bytes(out, form_word(given.result.1))?;

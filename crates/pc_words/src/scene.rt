@@ -72,9 +72,9 @@ impl<'a> Scene<'a> {
     }
 
     /// The type of a node, if it has one.
-    #[tactic(auto, unfolding(crate::specs::Scene::type_of))]
+    #[tactic(auto, unfolding(crate::specs::Scene::noted_type))]
     pub fn type_of(&self, node: u32) -> Option<(u32, Form)>
-        ensures { result ≡ spec.type_of self.now node }
+        ensures { result ≡ spec.noted_type self.now node }
     {
         let note = self.notes.get(node as usize)?;
         note.ty
@@ -90,9 +90,9 @@ impl<'a> Scene<'a> {
     }
 
     /// The type of a slot of a method.
-    #[tactic(auto, unfolding(crate::specs::Scene::slot_type))]
+    #[tactic(auto, unfolding(crate::specs::Scene::noted_slot_type))]
     pub fn slot_type(&self, method: u32, index: u32) -> Option<(u32, Cap)>
-        ensures { result ≡ spec.slot_type self.now method index }
+        ensures { result ≡ spec.noted_slot_type self.now method index }
     {
         let found = self.core.method_at(method)?;
         self.slots
@@ -112,9 +112,9 @@ impl<'a> Scene<'a> {
     }
 
     /// Whether it is a `var`.
-    #[tactic(auto, unfolding(crate::specs::Scene::is_var))]
+    #[tactic(auto, unfolding(crate::specs::Scene::is_var_slot))]
     pub fn is_var(&self, method: u32, index: u32) -> bool
-        ensures { result ≡ spec.is_var self.now method index }
+        ensures { result ≡ spec.is_var_slot self.now method index }
     {
         match self.slot_in(method, index) {
             Some(slot) => matches!(slot.kind, SlotKind::Var),
@@ -135,7 +135,7 @@ impl<'a> Scene<'a> {
 
     // The name of a slot of this method.
     fn name_in(&self, method: &Method, index: u32) -> &'a [u8]
-        ensures { result.now ≡ spec.name_in self.now method.now index }
+        ensures { result.now ≡ spec.name_of_slot self.now method.now index }
     {
         if index == 0 {
             return b"this";
@@ -182,7 +182,7 @@ impl<'a> Scene<'a> {
 
 /// Whether a node of this kind is `this`.
 pub fn is_this(kind: &NodeKind) -> bool
-    ensures { result ≡ spec.is_this kind.now }
+    ensures { result ≡ spec.is_this_kind kind.now }
 {
     matches!(kind, NodeKind::This)
 }
@@ -203,7 +203,7 @@ fn nodes_from(nodes: &[Node], first: u32) -> &[Node]
 
 // Whether the node defines the slot with this index.
 fn defines(index: u32, node: &Node) -> bool
-    ensures { result ≡ spec.defines index node.now }
+    ensures { result ≡ spec.defines_index index node.now }
 {
     match &node.kind {
         NodeKind::Define(slot) => *slot == index,
@@ -235,7 +235,7 @@ fn defines(index: u32, node: &Node) -> bool
 
 // The first of these nodes that defines the slot with this index.
 fn definition(nodes: &[Node], index: u32) -> Option<&Node>
-    ensures { option_copied result ≡ find (spec.defines index) nodes.now }
+    ensures { option_copied result ≡ find (spec.defines_index index) nodes.now }
 {
     nodes.iter().find(|node| defines(index, node))
 }

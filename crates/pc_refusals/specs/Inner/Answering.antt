@@ -2,10 +2,10 @@
 use Rattle.std.specs.Prelude.{ℕ, ◌≡◌, ◌⊎◌, [], Result, Err, MatchResult}
 use Rattle.std.specs.Io.KnownBytes.{Appends, Keeps}
 use Rattle.pc_io.specs.Change.{Change}
-use Rattle.pc_io.specs.Sink.{Rose}
+use Rattle.pc_io.specs.Sink.{HasRisen}
 use Rattle.pc_lists.specs.Texts.{Text}
 use Rattle.pc_refusals.specs.Ends.{TellsPart}
-use Rattle.pc_refusals.specs.Inner.Stages.{Wrote}
+use Rattle.pc_refusals.specs.Inner.Stages.{StageWrote}
 use Rattle.pc_refusals.specs.Verdict.{Verdict, done, refused}
 use Rattle.pc_refusals.specs.declared.stop.Stop.{Stop}
 use Rattle.pc_refusals.specs.declared.stop.Stop.TheVariants.{Refused, File, Sink, Memory}
@@ -26,21 +26,21 @@ AnswersText V Failed answer = MatchResult answer (λ text. V (done text)) (Answe
 -- ---- a command that writes
 
 -- The verdict's text went to out, and these are its status and line.
-abbrev pub Tells : (Verdict → Type 0) → Change → ℕ → Text → Type 0
-Tells V out status line = (v : Verdict) × V v × (v.status ≡ status) × (v.err ≡ line) × Appends out.before out.now v.out
+abbrev pub WritesVerdict : (Verdict → Type 0) → Change → ℕ → Text → Type 0
+WritesVerdict V out status line = (v : Verdict) × V v × (v.status ≡ status) × (v.err ≡ line) × Appends out.before out.now v.out
 
 abbrev pub CommandStops : (Verdict → Type 0) → (Text → Type 0) → Change → Stop → Type 0
-CommandStops V Failed out (Refused status line) = Tells V out status line
+CommandStops V Failed out (Refused status line) = WritesVerdict V out status line
 CommandStops V Failed out (File name) = Failed name × Keeps out.before out.now
-CommandStops V Failed out Sink = Rose out.faults_before out.faults_now × TellsPart V out
+CommandStops V Failed out Sink = HasRisen out.faults_before out.faults_now × TellsPart V out
 CommandStops V Failed out Memory = Keeps out.before out.now ⊎ TellsPart V out
 
-abbrev pub Ends : (Verdict → Type 0) → (Text → Type 0) → Change → Result (Unit {0}) Stop → Type 0
-Ends V Failed out result = MatchResult result (λ _. Tells V out 0 []) (CommandStops V Failed out)
+abbrev pub EndsCommand : (Verdict → Type 0) → (Text → Type 0) → Change → Result (Unit {0}) Stop → Type 0
+EndsCommand V Failed out result = MatchResult result (λ _. WritesVerdict V out 0 []) (CommandStops V Failed out)
 
 -- ---- from the one to the other
 
 -- The answer's text was written; or there is none, and then the result is the answer's stop, and out is unchanged.
 abbrev pub Puts : Result Text Stop → Change → Result (Unit {0}) Stop → Type 0
 Puts answer out result =
-    MatchResult answer (λ text. Wrote text out result) (λ s. (result ≡ Err s) × (out.now ≡ out.before))
+    MatchResult answer (λ text. StageWrote text out result) (λ s. (result ≡ Err s) × (out.now ≡ out.before))

@@ -2,7 +2,7 @@
 use Rattle.std.specs.Prelude.{ℕ, ◌≡◌, ◌⊎◌, Result, MatchResult}
 use Rattle.std.specs.Io.KnownBytes.{Appends, Keeps}
 use Rattle.pc_io.specs.Change.{Change}
-use Rattle.pc_io.specs.Sink.{Rose, GrowsByPrefix}
+use Rattle.pc_io.specs.Sink.{HasRisen, GrowsByPrefix}
 use Rattle.pc_lists.specs.Texts.{Text}
 use Rattle.pc_refusals.specs.Lines.{unread_line}
 use Rattle.pc_refusals.specs.declared.stop.Stop.{Stop}
@@ -12,7 +12,7 @@ use Rattle.pc_refusals.specs.declared.stop.Stop.TheVariants.{Refused, File, Sink
 abbrev pub LineEnds : Change → (status wanted : ℕ) → Text → Type 0
 LineEnds err status wanted line =
     ((status ≡ wanted) × Appends err.before err.now line)
-    ⊎ ((status ≡ 10) × Rose err.faults_before err.faults_now × GrowsByPrefix err.before err.now line)
+    ⊎ ((status ≡ 10) × HasRisen err.faults_before err.faults_now × GrowsByPrefix err.before err.now line)
     ⊎ ((status ≡ 11) × Keeps err.before err.now)
 
 abbrev pub StopFinishes : Change → ℕ → Stop → Type 0

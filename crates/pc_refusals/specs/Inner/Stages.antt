@@ -1,7 +1,7 @@
 -- The results of the parts of a command.
 use Rattle.std.specs.Prelude.{ℕ, Result, Ok, Err, MatchResult}
 use Rattle.std.specs.Io.KnownBytes.{Appends, Keeps}
-use Rattle.pc_io.specs.Sink.{Rose, GrowsByPrefix}
+use Rattle.pc_io.specs.Sink.{HasRisen, GrowsByPrefix}
 use Rattle.pc_lists.specs.Texts.{Text}
 use Rattle.pc_io.specs.Change.{Change}
 use Rattle.pc_refusals.specs.Named.{Reading, Named, IsReadingOf, FailedAt}
@@ -40,11 +40,11 @@ abbrev pub StageEndsAs : {S T : Type 0} → (S → T) → (Result T Verdict → 
 StageEndsAs view Stage result = MatchResult result (λ x. Stage (Ok (view x))) (StageStops Stage)
 
 -- How the writing of a text ended.
-abbrev pub WriteStops : Text → Change → Stop → Type 0
-WriteStops text out (Refused status line) = ⊥
-WriteStops text out (File name) = ⊥
-WriteStops text out Sink = Rose out.faults_before out.faults_now × GrowsByPrefix out.before out.now text
-WriteStops text out Memory = Keeps out.before out.now
+abbrev pub StageWriteStops : Text → Change → Stop → Type 0
+StageWriteStops text out (Refused status line) = ⊥
+StageWriteStops text out (File name) = ⊥
+StageWriteStops text out Sink = HasRisen out.faults_before out.faults_now × GrowsByPrefix out.before out.now text
+StageWriteStops text out Memory = Keeps out.before out.now
 
-abbrev pub Wrote : Text → Change → Result (Unit {0}) Stop → Type 0
-Wrote text out result = MatchResult result (λ _. Appends out.before out.now text) (WriteStops text out)
+abbrev pub StageWrote : Text → Change → Result (Unit {0}) Stop → Type 0
+StageWrote text out result = MatchResult result (λ _. Appends out.before out.now text) (StageWriteStops text out)

@@ -7,14 +7,14 @@ use Rattle.pc_args.specs.Asked.{events}
 use Rattle.pc_core.specs.CoreData.{CoreData}
 use Rattle.pc_io.specs.Change.{Change}
 use Rattle.pc_run.specs.Spreading.{spread}
-use Rattle.pc_run_events.specs.Lines.{run_text}
+use Rattle.pc_run_events.specs.Lines.{events_text_of_run}
 use Rattle.pc_run_events.specs.declared.events.RunEvent.{RunEvent}
 use Rattle.pc_refusals.specs.Named.{Files, Named, named}
 use Rattle.pc_refusals.specs.Verdict.{EndsWith, Verdict, IsAccepting, done}
 use Rattle.pc_refusals.proofs.LastStages.{ends_cases, ends_one, ends_status}
 use Rattle.pc_refusals.proofs.Statuses.{IsLate}
-use Rattle.pc_top.specs.Commands.Events.{IsEvents, Telling, Told, WritesEvents}
-use Rattle.pc_top.specs.Commands.Events.Telling.{tells, too_long, too_many}
+use Rattle.pc_top.specs.Commands.Events.{IsEvents, EventsTelling, AreEventsOfRun, WritesEvents}
+use Rattle.pc_top.specs.Commands.Events.EventsTelling.{tells, too_long, too_many}
 use Rattle.pc_top.specs.Shapes.{LastOfTurns, OfTurns}
 use Rattle.pc_top.proofs.Accepted.{both_by}
 use Rattle.pc_top.proofs.Begins.{begins}
@@ -25,20 +25,20 @@ pub mod One
 pub mod Stops
 
 abbrev Last : LastOfTurns
-Last name core list = EndsWith (Telling name core list)
+Last name core list = EndsWith (EventsTelling name core list)
 
 -- ---- its statuses
 
-refusal_late : {name : Text} {core : CoreData} {list : List ℕ} {v : Verdict} → Telling name core list (Err v) → IsLate v.status
+refusal_late : {name : Text} {core : CoreData} {list : List ℕ} {v : Verdict} → EventsTelling name core list (Err v) → IsLate v.status
 refusal_late (too_long n h) = inr (inr (inl refl))
 refusal_late (too_many n h) = inr (inl (omega arith, omega arith))
 
 told_late : (name : Text) (core : CoreData) (list : List ℕ) (v : Verdict) → Last name core list v → IsLate v.status
-told_late name core list = ends_status (λ text. text) (Telling name core list) IsLate (inl refl) (λ w h. refusal_late h)
+told_late name core list = ends_status (λ text. text) (EventsTelling name core list) IsLate (inl refl) (λ w h. refusal_late h)
 
 -- ---- what is on out
 
-told_by : {name : Text} {core : CoreData} {list : List ℕ} {text : Text} → Telling name core list (Ok text) → (events : List RunEvent) × Told core list events × (text ≡ run_text core events)
+told_by : {name : Text} {core : CoreData} {list : List ℕ} {text : Text} → EventsTelling name core list (Ok text) → (events : List RunEvent) × AreEventsOfRun core list events × (text ≡ events_text_of_run core events)
 told_by (tells list text h is) = (list, h, is)
 
 eight_refuses : IsAccepting 8 → ⊥
@@ -46,7 +46,7 @@ eight_refuses (inl e) = omega (arith, e)
 eight_refuses (inr e) = omega (arith, e)
 
 -- if a text ended the run
-cut_by : {name : Text} {core : CoreData} {list : List ℕ} {v : Verdict} → Telling name core list (Err v) → IsAccepting v.status → (v.status ≡ 12) × (v.out ≡ [])
+cut_by : {name : Text} {core : CoreData} {list : List ℕ} {v : Verdict} → EventsTelling name core list (Err v) → IsAccepting v.status → (v.status ≡ 12) × (v.out ≡ [])
 cut_by (too_long n h) e = (refl, refl)
 cut_by (too_many n h) e = absurd (eight_refuses e)
 
@@ -55,8 +55,10 @@ abbrev Wrote : Change → ℕ → Text → Text → Type 0
 Wrote out status source schedule = WritesEvents out source schedule ⊎ ((status ≡ 12) × Appends out.before out.now [])
 
 wrote_by : (out : Change) (v : Verdict) (name : Text) (core : CoreData) (list : List ℕ) (source schedule : Text) → IsAccepting v.status → Appends out.before out.now v.out
-    → ((events : List RunEvent) → Told core list events → Appends out.before out.now (run_text core events) → WritesEvents out source schedule)
-    → ((text : Text) × Telling name core list (Ok text) × (v ≡ done text)) ⊎ Telling name core list (Err v) → Wrote out v.status source schedule
+    → ((events : List RunEvent) → AreEventsOfRun core list events → Appends out.before out.now (events_text_of_run core events)
+        → WritesEvents out source schedule)
+    → ((text : Text) × EventsTelling name core list (Ok text) × (v ≡ done text)) ⊎ EventsTelling name core list (Err v)
+        → Wrote out v.status source schedule
 wrote_by out v name core list source schedule e o by (inl (text, h, is)) =
     let t = told_by h in
     let grew : Appends out.before out.now text = subst (λ (w : Verdict). Appends out.before out.now w.out) is o in
@@ -71,7 +73,7 @@ wrote_on_out file schedule v out is e o =
     scheduled_says Last file schedule (Wrote out v.status) v e
     (λ bytes text core turns of_bytes is_list l.
     wrote_by out v schedule.name core (spread turns) bytes text e o (λ events h g. (core, of_bytes, turns, is_list, events, h, g))
-    (ends_cases (λ (x : Text). x) (Telling schedule.name core (spread turns)) v l)) is
+    (ends_cases (λ (x : Text). x) (EventsTelling schedule.name core (spread turns)) v l)) is
 
 -- what `events` wrote, or nothing
 abbrev Grew : Change → Text → Text → Type 0
@@ -88,5 +90,5 @@ events_room files source schedule =
     inferring files (events source schedule) source refl refl
     (λ v is. inl (begins (OfTurns Last turns) file (turns_late Last file turns told_late) v is))
     (λ laws unfailed told. scheduled_one Last file turns laws told.0 unfailed.0 told.1.0 unfailed.1.0
-    (λ name core list. ends_one (λ text. text) (Telling name core list) (one_telling core list name)))
+    (λ name core list. ends_one (λ text. text) (EventsTelling name core list) (one_telling core list name)))
     (λ tells v out is e o. both_by (Wrote out v.status) (Grew out) file.told turns.told (λ x y. grew_by out v.status x y) (wrote_on_out file turns v out is e o))

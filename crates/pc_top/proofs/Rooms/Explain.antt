@@ -5,7 +5,7 @@ use Rattle.std.specs.Io.KnownBytes.{Appends}
 use Rattle.pc_lists.specs.Texts.{Text}
 use Rattle.pc_args.specs.Asked.{explain, make}
 use Rattle.pc_io.specs.Change.{Change}
-use Rattle.pc_names.specs.Names.{OfFile}
+use Rattle.pc_names.specs.Names.{IsNotMemory}
 use Rattle.pc_names.specs.declared.fault.NameFault.{NameFault}
 use Rattle.pc_names.specs.declared.fault.NameFault.TheVariants as fault
 use Rattle.pc_tree.specs.Tree as t
@@ -31,7 +31,7 @@ pub mod One
 abbrev IsOtherEnd : Result Text Verdict → Type 0
 IsOtherEnd end = IfErr end (λ v. IsOther v.status)
 
-fault_other : (name bytes : Text) (file : t.File) (f : NameFault) → OfFile f → IsOtherEnd (fault_end name bytes file f)
+fault_other : (name bytes : Text) (file : t.File) (f : NameFault) → IsNotMemory f → IsOtherEnd (fault_end name bytes file f)
 fault_other name bytes file (fault.Double s) o = tt
 fault_other name bytes file (fault.Unknown s) o = tt
 fault_other name bytes file fault.NoMain o = tt

@@ -8,7 +8,7 @@ use Rattle.pc_referee.specs.Asked.{Pairs}
 use Rattle.pc_refusals.specs.Derivation.{in_parts}
 use Rattle.pc_refusals.specs.Inner.Answering.{Puts}
 use Rattle.pc_refusals.specs.Inner.Derivations.{NotDone}
-use Rattle.pc_refusals.specs.Inner.Stages.{PartGives, PartStops, Wrote}
+use Rattle.pc_refusals.specs.Inner.Stages.{PartGives, PartStops, StageWrote}
 use Rattle.pc_refusals.specs.Named.{Files, Named, named}
 use Rattle.pc_refusals.specs.Referee.{JudgedFile}
 use Rattle.pc_refusals.specs.Source.{SourceStage, source_limit}
@@ -52,7 +52,7 @@ judged_all file told later s before after e g h =
     record { bytes = s.bytes; of_file = (source_whole file g.0 s g.1 g.2).1; core = s.core; core_of = (source_says g.2).1; judged = judged }
 
 -- if out failed
-wrote_not_done : (text : Text) (out : Change) (s : Stop) → Wrote text out (Err s) → NotDone s
+wrote_not_done : (text : Text) (out : Change) (s : Stop) → StageWrote text out (Err s) → NotDone s
 wrote_not_done text out (Refused status line) h = absurd h
 wrote_not_done text out (File n) h = tt
 wrote_not_done text out Sink h = tt

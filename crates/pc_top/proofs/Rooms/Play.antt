@@ -9,7 +9,7 @@ use Rattle.pc_io.specs.Change.{Change}
 use Rattle.pc_lists.specs.Texts.{Text}
 use Rattle.pc_semantics.specs.Text.{run_text}
 use Rattle.pc_refusals.specs.Ends.{TellsPart}
-use Rattle.pc_refusals.specs.Inner.Answering.{Tells}
+use Rattle.pc_refusals.specs.Inner.Answering.{WritesVerdict}
 use Rattle.pc_refusals.specs.Named.{Files, named}
 use Rattle.pc_refusals.specs.Verdict.{Verdict}
 use Rattle.pc_refusals.specs.declared.typing.Accepted.{Accepted}
@@ -42,7 +42,8 @@ play_room files source seed =
 -- ---- from the run of a seed's list to the play
 
 module _ (name : Text) (core : CoreData) (seed : ℕ) (list : List ℕ) (chosen : Chosen core seed list) (out : Change) where
-  pub chosen_told : (status : ℕ) (line : Text) → Tells (Ran name core list) out status line → Tells (RanChosen name seed core) out status line
+  pub chosen_told : (status : ℕ) (line : Text) → WritesVerdict (Ran name core list) out status line
+      → WritesVerdict (RanChosen name seed core) out status line
   chosen_told status line t = (t.0, (list, chosen, t.1), t.2, t.3, t.4)
 
   pub chosen_part : TellsPart (Ran name core list) out → TellsPart (RanChosen name seed core) out

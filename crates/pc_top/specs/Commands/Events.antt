@@ -5,7 +5,7 @@ use Rattle.pc_io.specs.Change.{Change}
 use Rattle.pc_core.specs.CoreData.{CoreData}
 use Rattle.pc_run.specs.Spreading.{spread}
 use Rattle.pc_run_events.specs.Events.{AllEvents, touches_in}
-use Rattle.pc_run_events.specs.Lines.{run_text}
+use Rattle.pc_run_events.specs.Lines.{events_text_of_run}
 use Rattle.pc_run_events.specs.Names.{AllNamed}
 use Rattle.pc_run_events.specs.declared.events.RunEvent.{RunEvent}
 use Rattle.pc_sched.specs.Schedules.{TurnList}
@@ -22,21 +22,23 @@ use Rattle.pc_top.specs.Shapes.{OfScheduled}
 -- These are all events of a run that are more than plain steps, in order and with their clocks; no step ended the run.
 -- The accesses among them are those of a trace, and of any two that conflict, the earlier one comes before the later
 -- one. What they name exists.
-abbrev pub Told : CoreData → List ℕ → List RunEvent → Type 0
-Told core list events = RanOn core list × AllEvents core list events × AllTouches core list (touches_in events) × VerdictIs core list Ordered × AllNamed core events
+abbrev pub AreEventsOfRun : CoreData → List ℕ → List RunEvent → Type 0
+AreEventsOfRun core list events = RanOn core list × AllEvents core list events × AllTouches core list (touches_in events) × VerdictIs core list Ordered × AllNamed core events
 
 -- The text of a run: 12 if a step would make a text that is too long, and 8 if one would make too many actors.
-pub data Telling (name : Text) (core : CoreData) (list : List ℕ) : Result Text Verdict → Type 0 where
-  tells : (events : List RunEvent) (text : Text) → Told core list events → text ≡ run_text core events → Telling name core list (Ok text)
-  too_long : (n : ℕ) → TooLongAt core list n → Telling name core list (Err (refused 12 (too_long_line name n)))
-  too_many : (n : ℕ) → TooManyAt core list n → Telling name core list (Err (refused 8 (many_actors_line name n)))
+pub data EventsTelling (name : Text) (core : CoreData) (list : List ℕ) : Result Text Verdict → Type 0 where
+  tells : (events : List RunEvent) (text : Text) → AreEventsOfRun core list events → text ≡ events_text_of_run core events
+      → EventsTelling name core list (Ok text)
+  too_long : (n : ℕ) → TooLongAt core list n → EventsTelling name core list (Err (refused 12 (too_long_line name n)))
+  too_many : (n : ℕ) → TooManyAt core list n → EventsTelling name core list (Err (refused 8 (many_actors_line name n)))
 
 -- The verdict of `events` on this source and this schedule.
 abbrev pub IsEvents : Named → Named → Verdict → Type 0
-IsEvents = OfScheduled (λ name core list. EndsWith (Telling name core list))
+IsEvents = OfScheduled (λ name core list. EndsWith (EventsTelling name core list))
 
 -- Out grew by the lines of the events of the run of the source's core by the schedule.
 abbrev pub WritesEvents : Change → Text → Text → Type 0
 WritesEvents out source schedule =
-    (core : CoreData) × CoreOf source core × (turns : List Turn) × TurnList schedule turns × (events : List RunEvent) × Told core (spread turns) events
-    × Appends out.before out.now (run_text core events)
+    (core : CoreData) × CoreOf source core × (turns : List Turn) × TurnList schedule turns × (events : List RunEvent)
+        × AreEventsOfRun core (spread turns) events
+    × Appends out.before out.now (events_text_of_run core events)

@@ -10,7 +10,7 @@ use Rattle.pc_grammar.specs.FileAnswers.{IsFileAnswer, spelled}
 use Rattle.pc_io.specs.Change.{Change}
 use Rattle.pc_lex.specs.Answers.{TokenList}
 use Rattle.pc_lists.specs.Texts.{Text}
-use Rattle.pc_names.specs.Names.{OfFile, IsNameFault}
+use Rattle.pc_names.specs.Names.{IsNotMemory, IsNameFault}
 use Rattle.pc_names.specs.declared.fault.NameFault.{NameFault}
 use Rattle.pc_names.specs.declared.fault.NameFault.TheVariants as fault
 use Rattle.pc_refusals.specs.FromFile.{FromFile}
@@ -30,14 +30,14 @@ pub data CoreText (name bytes : Text) (tokens : List Token) (core : CoreData) : 
 
 -- A limit that is passed is refused, as `check` refuses it, and not explained. Running out of memory is not a fault of
 -- a file.
-abbrev pub is_refused : NameFault → Bool
-is_refused (fault.TooMany w s) = true
-is_refused fault.Memory = true
-is_refused f = false
+abbrev pub is_not_explained : NameFault → Bool
+is_not_explained (fault.TooMany w s) = true
+is_not_explained fault.Memory = true
+is_not_explained f = false
 
 -- What comes of a source whose tree has this fault: its explanation, or its refusal.
 abbrev pub fault_end : Text → Text → t.File → NameFault → Result Text Verdict
-fault_end name bytes file f = if is_refused f then Err (refused (name_status f) (name_line name bytes f)) else Ok (names_text name bytes file f)
+fault_end name bytes file f = if is_not_explained f then Err (refused (name_status f) (name_line name bytes f)) else Ok (names_text name bytes file f)
 
 -- The first fault of a file's names, or else of its methods.
 abbrev pub IsFileFault : t.File → NameFault → Type 0
@@ -48,7 +48,7 @@ IsFileFault file f = IsNameFault file f ⊎ IsElabFault file f
 pub data Explaining (name bytes : Text) (file : t.File) : Result Text Verdict → Type 0 where
   has_core : {tokens : List Token} {core : CoreData} {text : Text} → TokenList bytes tokens → IsCoreOf file core → CoreText name bytes tokens core text
       → Explaining name bytes file (Ok text)
-  has_fault : (f : NameFault) → OfFile f → IsFileFault file f → Explaining name bytes file (fault_end name bytes file f)
+  has_fault : (f : NameFault) → IsNotMemory f → IsFileFault file f → Explaining name bytes file (fault_end name bytes file f)
 
 -- The stages of a source, one after another: its length, its tokens and its tree, and then the text for the tree.
 pub data ExplainedStage (name : Text) : Reading → Result Text Verdict → Type 0 where

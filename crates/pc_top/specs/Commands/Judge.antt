@@ -1,8 +1,7 @@
 -- `judge SRC DERIV`.
 use Rattle.std.specs.Prelude.{◌++◌, codes}
-use Rattle.pc_lists.specs.Texts.{Text}
+use Rattle.pc_lists.specs.Texts.{Text, line_end}
 use Rattle.pc_refusals.specs.Derivation.{in_parts}
-use Rattle.pc_refusals.specs.Lines.{line_end}
 use Rattle.pc_refusals.specs.Named.{Named}
 use Rattle.pc_refusals.specs.Verdict.{Verdict}
 use Rattle.pc_top.specs.Shapes.{OfDerivation}

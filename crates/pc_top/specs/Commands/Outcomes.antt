@@ -4,11 +4,10 @@ use Rattle.std.specs.Io.KnownBytes.{Appends}
 use Rattle.pc_io.specs.Change.{Change}
 use Rattle.pc_args.specs.Numbers.{IsNumber}
 use Rattle.pc_core.specs.CoreData.{CoreData}
-use Rattle.pc_lists.specs.Texts.{Text}
-use Rattle.pc_outcomes.specs.Tables.{StepsPass, TextsPass, Told}
-use Rattle.pc_outcomes.specs.Texts.{text_of}
+use Rattle.pc_lists.specs.Texts.{Text, line_end}
+use Rattle.pc_outcomes.specs.Tables.{StepsPass, TextsPass, IsOutcomesTable}
+use Rattle.pc_outcomes.specs.Texts.{outcomes_text}
 use Rattle.pc_outcomes.specs.declared.entry.Entry.{Entry}
-use Rattle.pc_refusals.specs.Lines.{line_end}
 use Rattle.pc_refusals.specs.Named.{Named}
 use Rattle.pc_refusals.specs.Verdict.{EndsWith, Verdict, refused}
 use Rattle.pc_refusals.specs.declared.typing.Accepted.{Accepted}
@@ -37,14 +36,15 @@ many_bytes_line name seed = name ++ (codes ": the texts of seeds 0 to " ++ (deci
 
 -- The text of the table of the seeds below a count; or 8 at the first seed with which their plays have too many steps,
 -- or their different texts too many bytes.
-pub data Telling (name : Text) (core : CoreData) (count : ℕ) : Result Text Verdict → Type 0 where
-  tells : (entries : List Entry) (text : Text) → Told core count entries → text ≡ text_of count entries → Telling name core count (Ok text)
-  many_steps : (seed : ℕ) → seed < count → StepsPass core seed → Telling name core count (Err (refused 8 (many_steps_line name seed)))
-  many_bytes : (seed : ℕ) → seed < count → TextsPass core seed → Telling name core count (Err (refused 8 (many_bytes_line name seed)))
+pub data OutcomesTelling (name : Text) (core : CoreData) (count : ℕ) : Result Text Verdict → Type 0 where
+  tells : (entries : List Entry) (text : Text) → IsOutcomesTable core count entries → text ≡ outcomes_text count entries
+      → OutcomesTelling name core count (Ok text)
+  many_steps : (seed : ℕ) → seed < count → StepsPass core seed → OutcomesTelling name core count (Err (refused 8 (many_steps_line name seed)))
+  many_bytes : (seed : ℕ) → seed < count → TextsPass core seed → OutcomesTelling name core count (Err (refused 8 (many_bytes_line name seed)))
 
 -- Done with this text, or refused. A line on err names the source by this name.
 abbrev pub Tabled : Text → (count : ℕ) → Accepted → Verdict → Type 0
-Tabled name count accepted = EndsWith (Telling name accepted.source.core count)
+Tabled name count accepted = EndsWith (OutcomesTelling name accepted.source.core count)
 
 -- The verdict of `outcomes` on this source and this word: the one for the count that it denotes, or 2 if it denotes
 -- none.
@@ -54,4 +54,4 @@ IsOutcomes source count = ByNumber (IsCount count) (λ n. OfAccepted (Tabled sou
 -- Out grew by the text of the table of the seeds below a count: each different outcome of the plays of the source's
 -- core.
 abbrev pub WritesOutcomes : Change → (count : ℕ) → Text → Type 0
-WritesOutcomes out count bytes = (core : CoreData) × CoreOf bytes core × (entries : List Entry) × Told core count entries × Appends out.before out.now (text_of count entries)
+WritesOutcomes out count bytes = (core : CoreData) × CoreOf bytes core × (entries : List Entry) × IsOutcomesTable core count entries × Appends out.before out.now (outcomes_text count entries)

@@ -15,8 +15,8 @@ use Rattle.pc_swap.specs.Kept.{IsKept}
 use Rattle.pc_swap.specs.Swapping.{Exchanged}
 use Rattle.pc_swap.specs.declared.kept.Kept.{Kept}
 use Rattle.pc_swap.specs.declared.kept.Kept.TheVariants as kept
-use Rattle.pc_lists.specs.Texts.{Text}
-use Rattle.pc_refusals.specs.Lines.{line_end, no_place_line, too_long_line, usage_line}
+use Rattle.pc_lists.specs.Texts.{Text, line_end}
+use Rattle.pc_refusals.specs.Lines.{no_place_line, too_long_line, usage_line}
 use Rattle.pc_refusals.specs.Named.{Named}
 use Rattle.pc_refusals.specs.Verdict.{EndsWith, Verdict, refused}
 use Rattle.pc_top.specs.CoreOf.{CoreOf}

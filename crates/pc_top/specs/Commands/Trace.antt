@@ -9,50 +9,37 @@ use Rattle.pc_sched.specs.declared.turns.Turn.{Turn}
 use Rattle.pc_trace.specs.Traces.{AllTouches, RanOn, TooLongAt, TooManyAt, VerdictIs}
 use Rattle.pc_trace.specs.declared.touch.Touch.{Touch}
 use Rattle.pc_trace.specs.declared.touch.Verdict.TheVariants.{Ordered}
-use Rattle.pc_lists.specs.Texts.{Text}
-use Rattle.pc_refusals.specs.Lines.{line_end, many_actors_line, too_long_line}
+use Rattle.pc_lists.specs.Texts.{Text, line_end}
+use Rattle.pc_refusals.specs.Lines.{many_actors_line, too_long_line}
 use Rattle.pc_refusals.specs.Named.{Named}
 use Rattle.pc_refusals.specs.Verdict.{EndsWith, Verdict, refused}
 use Rattle.pc_top.specs.CoreOf.{CoreOf}
+use Rattle.pc_run_events.specs.Lines.{access_word, clock_text}
 use Rattle.pc_top.specs.Shapes.{OfScheduled}
 
 -- ---- lines
 
-abbrev pub kind_text : Bool → Text
-kind_text true = codes "write"
-kind_text false = codes "read"
-
--- Numbers, each after a comma.
-abbrev pub behind_text : List ℕ → Text
-behind_text [] = []
-behind_text (n ∷ ns) = codes "," ++ (decimal n ++ behind_text ns)
-
--- Numbers with a comma between any two.
-abbrev pub clock_text : List ℕ → Text
-clock_text [] = []
-clock_text (n ∷ ns) = decimal n ++ behind_text ns
-
 -- `PLACE ACTOR read M.S F clock `, or the same with `write`.
-abbrev pub access_text : Touch → Text
-access_text t =
-    decimal t.place ++ (codes " " ++ (decimal t.actor ++ (codes " " ++ (kind_text t.write ++ (codes " " ++ (decimal t.address.maker ++ (codes "." ++ (decimal t.address.serial ++ (codes " " ++ (decimal t.field
+abbrev pub touch_text : Touch → Text
+touch_text t =
+    decimal t.place ++ (codes " " ++ (decimal t.actor ++ (codes " " ++ (access_word t.write ++ (codes " " ++ (decimal t.address.maker ++ (codes "." ++ (decimal t.address.serial ++ (codes " " ++ (decimal t.field
     ++ codes " clock "))))))))))
 
 -- An access and its clock.
 abbrev pub touch_line : Touch → Text
-touch_line t = access_text t ++ (clock_text t.clock ++ line_end)
+touch_line t = touch_text t ++ (clock_text t.clock ++ line_end)
 
 abbrev pub touches_text : List Touch → Text
 touches_text [] = []
 touches_text (t ∷ ts) = touch_line t ++ touches_text ts
 
 -- `accesses N ordered`
-abbrev pub count_line : ℕ → Text
-count_line n = codes "accesses " ++ (decimal n ++ (codes " ordered" ++ line_end))
+abbrev pub access_count_line : ℕ → Text
+access_count_line n = codes "accesses " ++ (decimal n ++ (codes " ordered" ++ line_end))
 
 -- The accesses, a line each, followed by their number.
 abbrev pub trace_text : List Touch → Text
-trace_text touches = touches_text touches ++ count_line (length touches)
+trace_text touches = touches_text touches ++ access_count_line (length touches)
 
 -- ---- the verdict
 

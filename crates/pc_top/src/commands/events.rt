@@ -8,7 +8,7 @@ ghost use Rattle.pc_semantics.specs.Safety.{Safe};
 ghost use Rattle.pc_refusals.specs.Inner.Answering.{AnswersText};
 ghost use Rattle.pc_refusals.specs.Inner.Stages.{StageEnds};
 ghost use Rattle.pc_refusals.specs.Named.{files_change, named};
-ghost use Rattle.pc_top.specs.Commands.Events.{IsEvents, Telling};
+ghost use Rattle.pc_top.specs.Commands.Events.{IsEvents, EventsTelling};
 ghost use Rattle.pc_top.specs.Shapes.{UnreadScheduled};
 
 use crate::laws::cores_of_sources_are_formed;
@@ -28,7 +28,7 @@ use std::alloc::Global;
 fn tell_list(alloc: Global, name: &str, core: &Core, list: &[u32]) -> Result<List<u8>, Stop>
     requires safe { Safe core.now }
     requires few { length list.now ≤ turn_limit }
-    ensures { StageEnds (Telling name.now core.now list.now) result }
+    ensures { StageEnds (EventsTelling name.now core.now list.now) result }
 {
     match accepted_events(alloc, core, list) {
         Ok(events) => Ok(write_events(alloc, core, events.as_slice())?),
@@ -48,7 +48,7 @@ fn tell_list(alloc: Global, name: &str, core: &Core, list: &[u32]) -> Result<Lis
 fn tell_turns(alloc: Global, name: &str, core: &Core, turns: &[Turn]) -> Result<List<u8>, Stop>
     requires safe { Safe core.now }
     requires few { total turns.now ≤ turn_limit }
-    ensures { StageEnds (Telling name.now core.now (spread turns.now)) result }
+    ensures { StageEnds (EventsTelling name.now core.now (spread turns.now)) result }
 {
     let list = steps_of(alloc, turns)?;
     tell_list(alloc, name, core, list.as_slice())

@@ -1,11 +1,11 @@
 //! `explain SRC`.
 ghost use Rattle.std.specs.Prelude.{◌≡◌, ◌≤◌, IfErr, IfOk, length};
 ghost use Rattle.pc_core_relation.specs.Files.{IsCoreOf};
-ghost use Rattle.pc_elab.specs.Cores.{Spelled};
+ghost use Rattle.pc_elab.specs.Cores.{IsSpelledFile};
 ghost use Rattle.pc_lex.specs.Answers.{TokenList};
 ghost use Rattle.pc_lex.specs.Limits.{bytes_limit};
 ghost use Rattle.pc_lists.specs.Texts.{Text};
-ghost use Rattle.pc_names.specs.Names.{OfFile};
+ghost use Rattle.pc_names.specs.Names.{IsNotMemory};
 ghost use Rattle.pc_refusals.specs.Inner.Answering.{AnswersText};
 ghost use Rattle.pc_refusals.specs.Inner.Stages.{StageEnds};
 ghost use Rattle.pc_refusals.specs.Named.{FailedAt, files_change, named, whole};
@@ -29,9 +29,9 @@ use std::alloc::{AllocError, Global};
 
 // The core of a tree, or the fault because of which it has none.
 fn core_of(alloc: Global, file: &File) -> Result<Core, NameFault>
-    requires { Spelled (file_view file.now) }
+    requires { IsSpelledFile (file_view file.now) }
     ensures core { IfOk result (IsCoreOf (file_view file.now)) }
-    ensures fault { IfErr result (λ f. OfFile f → IsFileFault (file_view file.now) f) }
+    ensures fault { IfErr result (λ f. IsNotMemory f → IsFileFault (file_view file.now) f) }
 {
     let names = collect(alloc, file)?;
     elaborate(alloc, file, &names)
@@ -39,7 +39,7 @@ fn core_of(alloc: Global, file: &File) -> Result<Core, NameFault>
 
 // Whether a fault is refused, and not explained.
 fn is_refused(fault: NameFault) -> bool
-    ensures { result ≡ spec.is_refused fault }
+    ensures { result ≡ spec.is_not_explained fault }
 {
     match fault {
         NameFault::TooMany(_, _) | NameFault::Memory => true,
@@ -59,7 +59,7 @@ fn explain_fault(
     file: &File,
     fault: NameFault,
 ) -> Result<List<u8>, Stop>
-    requires { OfFile fault → IsFileFault (file_view file.now) fault }
+    requires { IsNotMemory fault → IsFileFault (file_view file.now) fault }
     ensures { StageEnds (Explaining name.now bytes.now (file_view file.now)) result }
 {
     if is_refused(fault) {
@@ -93,7 +93,7 @@ fn explain_tree(
     file: &File,
 ) -> Result<List<u8>, Stop>
     requires lexed { TokenList bytes.now tokens.now }
-    requires spelled { Spelled (file_view file.now) }
+    requires spelled { IsSpelledFile (file_view file.now) }
     ensures { StageEnds (Explaining name.now bytes.now (file_view file.now)) result }
 {
     match core_of(alloc, file) {

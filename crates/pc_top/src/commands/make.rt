@@ -2,7 +2,7 @@
 ghost use Rattle.std.specs.Prelude.{◌≤◌};
 ghost use Rattle.pc_io.specs.Change.{change};
 ghost use Rattle.pc_refusals.specs.Accepting.{AcceptedStage};
-ghost use Rattle.pc_refusals.specs.Inner.Answering.{Ends};
+ghost use Rattle.pc_refusals.specs.Inner.Answering.{EndsCommand};
 ghost use Rattle.pc_refusals.specs.Inner.Stages.{PartEnds};
 ghost use Rattle.pc_refusals.specs.Named.{text_as};
 ghost use Rattle.pc_refusals.specs.Source.{source_limit};
@@ -47,7 +47,7 @@ fn run_made<O: Sink>(alloc: Global, out: &mut O, seed: u64, size: u32) -> Result
     requires some { 1 ≤ size }
     requires few { size ≤ 900 }
     ensures later { O.faults out.old ≤ O.faults out.new }
-    ensures ends { Ends (IsMade seed size) (λ n. ⊥)
+    ensures ends { EndsCommand (IsMade seed size) (λ n. ⊥)
         (change (O.written out.old) (O.written out.new) (O.faults out.old) (O.faults out.new)) result }
 {
     cores_of_sources_are_formed();
@@ -63,7 +63,7 @@ fn run_made<O: Sink>(alloc: Global, out: &mut O, seed: u64, size: u32) -> Result
 /// Generates a program from a number and runs it: writes the line of its numbers, and then what the run writes.
 pub fn make_program<O: Sink>(alloc: Global, out: &mut O, seed: &str, size: &str) -> Result<(), Stop>
     ensures later { O.faults out.old ≤ O.faults out.new }
-    ensures ends { Ends (IsMake seed.now size.now) (λ n. ⊥)
+    ensures ends { EndsCommand (IsMake seed.now size.now) (λ n. ⊥)
         (change (O.written out.old) (O.written out.new) (O.faults out.old) (O.faults out.new)) result }
 {
     match read_numbers(seed, size) {

@@ -7,7 +7,7 @@ ghost use Rattle.pc_refusals.specs.Inner.Answering.{AnswersText};
 ghost use Rattle.pc_refusals.specs.Inner.Stages.{StageEnds};
 ghost use Rattle.pc_refusals.specs.Named.{files_change, named};
 ghost use Rattle.pc_top.specs.Commands.Outcomes as spec;
-ghost use Rattle.pc_top.specs.Commands.Outcomes.{IsCount, IsOutcomes, Telling};
+ghost use Rattle.pc_top.specs.Commands.Outcomes.{IsCount, IsOutcomes, OutcomesTelling};
 ghost use Rattle.pc_top.specs.Shapes.{UnreadNumbered};
 
 use crate::laws::cores_of_sources_are_formed;
@@ -63,7 +63,7 @@ fn make_many_bytes_line(alloc: Global, name: &str, seed: u32) -> Result<Bytes, A
 fn write_outcomes(alloc: Global, name: &str, core: &Core, count: u32) -> Result<List<u8>, Stop>
     requires few { count < 2 ^ 31 }
     requires never_lacks { NeverLacks core.now }
-    ensures { StageEnds (Telling name.now core.now count) result }
+    ensures { StageEnds (OutcomesTelling name.now core.now count) result }
 {
     match outcomes(alloc, core, count) {
         Ok(entries) => Ok(text_of(alloc, count, entries.as_slice())?),

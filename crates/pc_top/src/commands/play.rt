@@ -4,7 +4,7 @@ ghost use Rattle.pc_lists.specs.Texts.{Text};
 ghost use Rattle.pc_args.specs.Numbers.{IsSeed};
 ghost use Rattle.pc_io.specs.Change.{change};
 ghost use Rattle.pc_run.specs.Ends.{NeverLacks};
-ghost use Rattle.pc_refusals.specs.Inner.Answering.{Ends};
+ghost use Rattle.pc_refusals.specs.Inner.Answering.{EndsCommand};
 ghost use Rattle.pc_refusals.specs.Named.{files_change, named};
 ghost use Rattle.pc_top.specs.Commands.Play.{IsPlay, RanChosen};
 ghost use Rattle.pc_top.specs.Shapes.{UnreadNumbered};
@@ -31,7 +31,7 @@ fn play_core<O: Sink>(
 ) -> Result<(), Stop>
     requires never_lacks { NeverLacks core.now }
     ensures later { O.faults out.old ≤ O.faults out.new }
-    ensures ends { Ends (RanChosen name.now seed core.now) (λ n. ⊥)
+    ensures ends { EndsCommand (RanChosen name.now seed core.now) (λ n. ⊥)
         (change (O.written out.old) (O.written out.new) (O.faults out.old) (O.faults out.new)) result }
 {
     match play(alloc, core, seed, out) {
@@ -58,7 +58,7 @@ pub fn play_source<F: Files, O: Sink>(
     ensures same { (n : Text) → F.bytes files.new n ≡ F.bytes files.old n }
     ensures out_later { O.faults out.old ≤ O.faults out.new }
     ensures ends { let files = files_change (F.bytes files.old) (F.faults files.old) (F.faults files.new) (F.taken files.new) in
-        Ends (IsPlay (named files source.now) seed.now) (UnreadNumbered (IsSeed seed.now) (named files source.now))
+        EndsCommand (IsPlay (named files source.now) seed.now) (UnreadNumbered (IsSeed seed.now) (named files source.now))
         (change (O.written out.old) (O.written out.new) (O.faults out.old) (O.faults out.new)) result }
 {
     cores_of_sources_are_formed();

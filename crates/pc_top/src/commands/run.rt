@@ -6,7 +6,7 @@ ghost use Rattle.pc_run.specs.Ends.{NeverLacks};
 ghost use Rattle.pc_run.specs.Spreading.{spread};
 ghost use Rattle.pc_sched.specs.Limits.{turn_limit};
 ghost use Rattle.pc_sched.specs.Schedules.{total};
-ghost use Rattle.pc_refusals.specs.Inner.Answering.{Ends};
+ghost use Rattle.pc_refusals.specs.Inner.Answering.{EndsCommand};
 ghost use Rattle.pc_refusals.specs.Named.{files_change, named};
 ghost use Rattle.pc_top.specs.Commands.Run.{IsRun, Ran};
 ghost use Rattle.pc_top.specs.Shapes.{UnreadScheduled};
@@ -34,7 +34,7 @@ pub fn run_source<F: Files, O: Sink>(
     ensures same { (n : Text) → F.bytes files.new n ≡ F.bytes files.old n }
     ensures out_later { O.faults out.old ≤ O.faults out.new }
     ensures ends { let files = files_change (F.bytes files.old) (F.faults files.old) (F.faults files.new) (F.taken files.new) in
-        Ends (IsRun (named files source.now) (named files schedule.now)) (UnreadScheduled (named files source.now) (named files schedule.now))
+        EndsCommand (IsRun (named files source.now) (named files schedule.now)) (UnreadScheduled (named files source.now) (named files schedule.now))
         (change (O.written out.old) (O.written out.new) (O.faults out.old) (O.faults out.new)) result }
 {
     cores_of_sources_are_formed();
@@ -60,7 +60,7 @@ pub fn run_turns<O: Sink>(
     requires few { total turns.now ≤ turn_limit }
     requires never_lacks { NeverLacks core.now }
     ensures later { O.faults out.old ≤ O.faults out.new }
-    ensures ends { Ends (Ran name.now core.now (spread turns.now)) (λ n. ⊥)
+    ensures ends { EndsCommand (Ran name.now core.now (spread turns.now)) (λ n. ⊥)
         (change (O.written out.old) (O.written out.new) (O.faults out.old) (O.faults out.new)) result }
 {
     let mut machine = start(alloc, core)?;

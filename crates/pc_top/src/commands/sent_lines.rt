@@ -1,5 +1,6 @@
 //! The table of who sends what, as lines with names.
 ghost use Rattle.std.specs.Prelude.{◌≡◌, ◌++◌, slice_get, IfOk, OnOk};
+ghost use Rattle.pc_run_events.specs.Names as names;
 ghost use Rattle.pc_top.specs.Commands.Sends as spec;
 
 use pc_caps::List;
@@ -9,7 +10,7 @@ use std::alloc::{AllocError, Global};
 
 // Appends the name of an entity to a text.
 fn push_entity(text: &mut Vec<u8>, core: &Core, entity: u32) -> Result<(), AllocError>
-    ensures { OnOk result (text.new.items ≡ text.old.items ++ spec.entity_name (slice_get core.now.entities entity)) }
+    ensures { OnOk result (text.new.items ≡ text.old.items ++ names.name_of_entity (slice_get core.now.entities entity)) }
 {
     match core.entity_at(entity) {
         Some(found) => text.extend_from_slice(found.name.as_slice()),
@@ -19,7 +20,7 @@ fn push_entity(text: &mut Vec<u8>, core: &Core, entity: u32) -> Result<(), Alloc
 
 // Appends a name to a text, by its number.
 fn push_name(text: &mut Vec<u8>, core: &Core, name: u32) -> Result<(), AllocError>
-    ensures { OnOk result (text.new.items ≡ text.old.items ++ spec.name_text (slice_get core.now.names name)) }
+    ensures { OnOk result (text.new.items ≡ text.old.items ++ names.name_or_nothing (slice_get core.now.names name)) }
 {
     match core.name_at(name) {
         Some(found) => text.extend_from_slice(found.as_slice()),
@@ -29,7 +30,7 @@ fn push_name(text: &mut Vec<u8>, core: &Core, name: u32) -> Result<(), AllocErro
 
 // Appends a method to a text, by its entity's name and its own.
 fn push_method(text: &mut Vec<u8>, core: &Core, method: &Method) -> Result<(), AllocError>
-    ensures { OnOk result (text.new.items ≡ text.old.items ++ spec.method_text core.now (Some method.now)) }
+    ensures { OnOk result (text.new.items ≡ text.old.items ++ names.method_text core.now (Some method.now)) }
 {
     push_entity(text, core, method.entity)?;
     text.push(b'.')?;
@@ -38,7 +39,7 @@ fn push_method(text: &mut Vec<u8>, core: &Core, method: &Method) -> Result<(), A
 
 // The same, by the method's number.
 fn push_method_at(text: &mut Vec<u8>, core: &Core, method: u32) -> Result<(), AllocError>
-    ensures { OnOk result (text.new.items ≡ text.old.items ++ spec.method_text core.now (slice_get core.now.methods method)) }
+    ensures { OnOk result (text.new.items ≡ text.old.items ++ names.method_text core.now (slice_get core.now.methods method)) }
 {
     match core.method_at(method) {
         Some(found) => push_method(text, core, found),

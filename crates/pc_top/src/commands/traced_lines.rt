@@ -1,5 +1,6 @@
 //! The accesses of a run, as lines.
 ghost use Rattle.std.specs.Prelude.{◌≡◌, ◌++◌, IfOk, OnOk, decimal};
+ghost use Rattle.pc_run_events.specs.Lines as events;
 ghost use Rattle.pc_top.specs.Commands.Trace as spec;
 
 use itoa::Buffer;
@@ -17,7 +18,7 @@ fn push_number(text: &mut Vec<u8>, number: u64) -> Result<(), AllocError>
 
 // Appends numbers to a text, each after a comma.
 fn push_behind(text: &mut Vec<u8>, numbers: &[u64]) -> Result<(), AllocError>
-    ensures { OnOk result (text.new.items ≡ text.old.items ++ spec.behind_text numbers.now) }
+    ensures { OnOk result (text.new.items ≡ text.old.items ++ events.more_text numbers.now) }
 {
     for number in numbers {
         text.push(b',')?;
@@ -28,7 +29,7 @@ fn push_behind(text: &mut Vec<u8>, numbers: &[u64]) -> Result<(), AllocError>
 
 // Appends the numbers of a clock to a text, with a comma between any two.
 fn push_clock(text: &mut Vec<u8>, clock: &[u64]) -> Result<(), AllocError>
-    ensures { OnOk result (text.new.items ≡ text.old.items ++ spec.clock_text clock.now) }
+    ensures { OnOk result (text.new.items ≡ text.old.items ++ events.clock_text clock.now) }
 {
     match clock {
         [] => Ok(()),
@@ -41,14 +42,14 @@ fn push_clock(text: &mut Vec<u8>, clock: &[u64]) -> Result<(), AllocError>
 
 // What an access does.
 fn kind_of(write: bool) -> &'static str
-    ensures { result.now ≡ spec.kind_text write }
+    ensures { result.now ≡ events.access_word write }
 {
     if write { "write" } else { "read" }
 }
 
 // Appends an access to a text, up to its clock.
 fn push_access(alloc: Global, text: &mut Vec<u8>, touch: &Touch) -> Result<(), AllocError>
-    ensures { OnOk result (text.new.items ≡ text.old.items ++ spec.access_text touch.now) }
+    ensures { OnOk result (text.new.items ≡ text.old.items ++ spec.touch_text touch.now) }
 {
     let kind = kind_of(touch.write);
     let words = format!(in alloc;
@@ -81,7 +82,7 @@ fn push_touches(alloc: Global, text: &mut Vec<u8>, touches: &[Touch]) -> Result<
 
 // Appends the number of accesses to a text.
 fn push_count(alloc: Global, text: &mut Vec<u8>, count: usize) -> Result<(), AllocError>
-    ensures { OnOk result (text.new.items ≡ text.old.items ++ spec.count_line count) }
+    ensures { OnOk result (text.new.items ≡ text.old.items ++ spec.access_count_line count) }
 {
     let words = format!(in alloc; "accesses {count} ordered\n")?;
     text.extend_from_slice(words.as_bytes())?;

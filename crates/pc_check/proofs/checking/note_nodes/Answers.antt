@@ -1,7 +1,7 @@
 use Rattle.std.proofs.Common.{◌+◌, ap, sym, ◌∙◌, subst, length, arith}
 use Rattle.pc_rules.specs.Checks.{StartsFrom}
 use Rattle.pc_check.specs.Walked.{Walked}
-use Rattle.pc_check.specs.Faults.{LeavesUnset}
+use Rattle.pc_check.specs.Faults.{InferenceLeavesUnset}
 use Rattle.pc_check.proofs.Filling.{node_there}
 use Rattle.pc_check.proofs.Walking.{note_meets, walked_noted, walked_whole}
 use Rattle.pc_check.proofs.Stopping.{ready, stops, leaves}
@@ -42,7 +42,7 @@ returns-then-leaves_unset-clause-err c =
     let k = note_meets core b x m _ t (sym c.infer_note.ensures ∙ c.in-Some.is) in
     let r = subst (StartsFrom core b n) (sym k.0) h.1 in
     let l = leaves core b n x t c.formed.ensures c.requires.declarations g h.0 k.1 r (sym c.leaves_unset.ensures ∙ c.if-leaves_unset.true) in
-    subst (λ ts. LeavesUnset core x.method (record { slots = b.slots; notes = ts })) (sym c.in_ok-push.ensures.ok) l
+    subst (λ ts. InferenceLeavesUnset core x.method (record { slots = b.slots; notes = ts })) (sym c.in_ok-push.ensures.ok) l
 
 pub loop-number-preserved : goal.loop-number-preserved
 loop-number-preserved c =

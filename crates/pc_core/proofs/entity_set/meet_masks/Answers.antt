@@ -1,7 +1,7 @@
 use Rattle.std.proofs.Common.{rules, ◌≡◌, ◌↔◌, ℕ, ◌+◌, ◌∷◌, ◌++◌, [], length, sym, subst, arith}
 use Rattle.std.specs.Prelude.{List}
 use Rattle.std.proofs.lemmas.List.{length_push}
-use Rattle.pc_masks.specs.Masks.{IsIn}
+use Rattle.pc_masks.specs.Masks.{IsInMask}
 use Rattle.pc_masks.specs.declared.mask.Mask.{Mask}
 use Rattle.pc_core.specs.EntitySets.{mask_at}
 use Rattle.pc_core.proofs.EntitySets.{MetTo, met_push, met_all}
@@ -15,7 +15,7 @@ loop-place-preserved c =
     let long = length_push c.loop-place.masks c.meet.result in
     let before = c.loop-place.invariant.long in
     let pushed : c.push.new.self ≡ c.loop-place.masks ++ c.meet.result ∷ [] = c.in_ok-push.ensures.ok in
-    let here : (j : ℕ) → (IsIn c.meet.result j) ↔ (IsIn (mask_at first n) j × IsIn (mask_at second n) j) = search rules in
+    let here : (j : ℕ) → (IsInMask c.meet.result j) ↔ (IsInMask (mask_at first n) j × IsInMask (mask_at second n) j) = search rules in
     record {
       long = subst (λ (ms : List Mask). length ms ≡ n + 1) (sym pushed) (omega (arith, long, before));
       met = subst (λ (ms : List Mask). MetTo first second ms (n + 1)) (sym pushed) (met_push first second c.loop-place.masks n c.meet.result before c.loop-place.invariant.met here);

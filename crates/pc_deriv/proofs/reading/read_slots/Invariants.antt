@@ -1,10 +1,10 @@
 use Rattle.std.proofs.Common.{length, ◌-◌, ◌≤◌}
 use Rattle.pc_deriv.specs.Text.{slot_line, SlotFits}
-use Rattle.pc_deriv.specs.Faults.{Begins}
+use Rattle.pc_deriv.specs.Faults.{BeginsLine}
 use Rattle.pc_deriv.proofs.reading.read_slots.Given as goal
 
 abbrev pub invariant-loop-rest : goal.invariant-loop-rest
-invariant-loop-rest l = (length l.slots ≤ l.count) × Begins slot_line SlotFits l.text l.slots l.rest
+invariant-loop-rest l = (length l.slots ≤ l.count) × BeginsLine slot_line SlotFits l.text l.slots l.rest
 
 abbrev pub decreases-loop-rest : goal.decreases-loop-rest
 decreases-loop-rest l = l.count - length l.slots

@@ -1,7 +1,7 @@
 use Rattle.std.proofs.Common.{◌≡◌, ◌++◌, drop, take}
 use Rattle.std.specs.List.{AllByRecursion}
-use Rattle.pc_deriv.specs.Text.{lines, slot_line, SlotFits}
+use Rattle.pc_deriv.specs.Text.{each_line, slot_line, SlotFits}
 use Rattle.pc_deriv.proofs.writing.push_slots.Given as goal
 
 abbrev pub invariant-loop-slot : goal.invariant-loop-slot
-invariant-loop-slot l = AllByRecursion SlotFits (take l.slot-index l.slots) × (l.out.items ++ lines slot_line (drop l.slot-index l.slots) ≡ l.initial.out.items ++ lines slot_line l.slots)
+invariant-loop-slot l = AllByRecursion SlotFits (take l.slot-index l.slots) × (l.out.items ++ each_line slot_line (drop l.slot-index l.slots) ≡ l.initial.out.items ++ each_line slot_line l.slots)

@@ -9,7 +9,7 @@ use Rattle.pc_elab.proofs.parts.check_member.Goals as goal
 
 pub returns-in-Err : goal.returns-in-Err
 returns-in-Err c =
-    subst (λ (n : NameFault). spec.Passes (Err n) (spec.before_nodes c.args.context.now (entity_view c.args.entity.now) (member_view c.args.member) c.args.locals.now)) (sym c.name_fault.ensures)
+    subst (λ (n : NameFault). spec.PassesOrStops (Err n) (spec.before_nodes c.args.context.now (entity_view c.args.entity.now) (member_view c.args.member) c.args.locals.now)) (sym c.name_fault.ensures)
     (fault_passes c.args.context.now (entity_view c.args.entity.now) (member_view c.args.member) c.args.locals.now c.in-Err.fault c.in-Err.ensures)
 
 pub returns-in-Some : goal.returns-in-Some

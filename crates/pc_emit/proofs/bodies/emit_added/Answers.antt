@@ -3,7 +3,7 @@ use Rattle.pc_tree.specs.View.{field_view}
 use Rattle.pc_body_spec.specs.Bodies as spec
 use Rattle.pc_body_spec.specs.Expressions.{added_none}
 use Rattle.pc_body_spec.specs.Roses.{Roses, one, puts}
-use Rattle.pc_emit.specs.Giving.{Gives}
+use Rattle.pc_emit.specs.Giving.{GivesNodes}
 use Rattle.pc_emit.specs.Closing.{body_closes}
 use Rattle.pc_emit.proofs.Walks.{inner_gives}
 use Rattle.pc_emit.proofs.Wholes.{body_on}
@@ -15,7 +15,7 @@ returns c =
     let name = c.args.name in
     let rest : Roses = one (added_none name 0) in
     let there : puts m rest c.initials.new.nodes ≡ Some (c.in_ok-none.none ∷ [], c.leaf.new.nodes) = rw c.in_ok-none.ensures refl in
-    let gave = subst (λ l. Gives c.close_body.result c.close_body.new.nodes (body_closes m 0 name name l c.leaf.new.nodes)) c.in_ok-push.ensures.ok c.close_body.ensures in
+    let gave = subst (λ l. GivesNodes c.close_body.result c.close_body.new.nodes (body_closes m 0 name name l c.leaf.new.nodes)) c.in_ok-push.ensures.ok c.close_body.ensures in
     record {
       gives = inner_gives c.close_body.result c.leaf.new.nodes c.close_body.new.nodes (c.in_ok-none.none ∷ []) (puts m rest c.initials.new.nodes) (λ own. body_closes m 0 name name (c.in_ok-items.items ++ own)) _
           (body_on m name name (spec.initials_then c.args.context.now (map field_view c.args.fields.now) rest) rest c.in_ok-items.items c.args.nodes.now c.initials.new.nodes (c.in_ok-items.ensures rest)) there gave;

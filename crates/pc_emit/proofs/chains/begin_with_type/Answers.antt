@@ -4,7 +4,7 @@ use Rattle.pc_resolve.specs.Meanings.{type_view}
 use Rattle.pc_body_spec.specs.Scopes.{no_value, type_meaning}
 use Rattle.pc_body_spec.specs.Expressions.{with_type}
 use Rattle.pc_emit.specs.declared.chains.Beginning.TheVariants as begins
-use Rattle.pc_emit.specs.Closing.{Begins}
+use Rattle.pc_emit.specs.Closing.{BeginsChain}
 use Rattle.pc_emit.proofs.Suffixes.{begins_with_nothing}
 use Rattle.pc_emit.proofs.chains.begin_with_type.Goals as goal
 
@@ -13,16 +13,17 @@ returns-in-NoValue-clause-begins c =
     let cx = c.args.context.now in
     let ss = map suffix_view c.args.suffixes.now in
     let none : type_meaning cx c.args.name.now.text ≡ no_value = ap (type_meaning cx) (sym c.as_slice.ensures) ∙ sym c.type_meaning.ensures ∙ ap type_view c.in-NoValue.is in
-    subst (λ w. Begins cx (with_type w) ss begins.Value) (sym none) (begins_with_nothing cx ss)
+    subst (λ w. BeginsChain cx (with_type w) ss begins.Value) (sym none) (begins_with_nothing cx ss)
 
 pub returns-in-Created-clause-begins : goal.returns-in-Created-clause-begins
 returns-in-Created-clause-begins c =
     let cx = c.args.context.now in
     let is = ap (type_meaning cx) (sym c.as_slice.ensures) ∙ sym c.type_meaning.ensures ∙ ap type_view c.in-Created.is in
-    subst (λ w. Begins cx (with_type w) (map suffix_view c.args.suffixes.now) c.begin_with_object.result) (sym is) c.begin_with_object.ensures.begins
+    subst (λ w. BeginsChain cx (with_type w) (map suffix_view c.args.suffixes.now) c.begin_with_object.result) (sym is) c.begin_with_object.ensures.begins
 
 pub returns-in-Primitive-clause-begins : goal.returns-in-Primitive-clause-begins
 returns-in-Primitive-clause-begins c =
     let cx = c.args.context.now in
     let is = ap (type_meaning cx) (sym c.as_slice.ensures) ∙ sym c.type_meaning.ensures ∙ ap type_view c.in-Primitive.is in
-    subst (λ w. Begins cx (with_type w) (map suffix_view c.args.suffixes.now) c.begin_with_primitive.result) (sym is) c.begin_with_primitive.ensures.begins
+    subst (λ w. BeginsChain cx (with_type w) (map suffix_view c.args.suffixes.now) c.begin_with_primitive.result)
+        (sym is) c.begin_with_primitive.ensures.begins

@@ -13,8 +13,9 @@ use Rattle.pc_body_spec.specs.Roses.{leaf, rose, two, put, puts, push, three, an
 use Rattle.pc_core.specs.declared.nodes.NodeKind.{NodeKind}
 use Rattle.pc_core.specs.declared.nodes.NodeKind.TheVariants as kinds
 use Rattle.pc_emit.specs.declared.waiting.OpenArm.{OpenArm}
-use Rattle.pc_emit.specs.Giving.{Gives}
-use Rattle.pc_emit.specs.Closing.{closing, arm_closes, seq_closes, link_closes, this_closes, name_closes, names_none, link_of, first_of, begun, begun_by, rest_of, taken, behind_tops, Opens, OpensOne}
+use Rattle.pc_emit.specs.Giving.{GivesNodes}
+use Rattle.pc_emit.specs.Closing.{closing, arm_closes, seq_closes, link_closes, this_closes, name_closes, names_none, link_of, first_of, begun, begun_by}
+use Rattle.pc_emit.specs.Closing.{rest_of, taken, behind_tops, OpensInnerPart, OpensOne}
 use Rattle.pc_emit.specs.Closing.{is_missing as misses}
 use Rattle.pc_emit.proofs.Suffixes.{chain_opens, write_opens, begun_first, begun_value, cut_behind}
 use Rattle.pc_emit.proofs.Walks.{arm_parts, seq_parts, sequence_is, inner_stops, inner_gives, links_stop, beginning_stops, begins_with_atom, begins_with_first, chain_stops, write_start, name_written, assign_none, wait_on, arms_from, stops, stops_one, stops_still, operands_none, right_none, push_none, exprs_from, called_is, arm_is, cond_none, body_none, arm_stops, opens_stop, scope_kept, items_from, on_ok}
@@ -33,11 +34,11 @@ open_arms-loop-a-preserved t c =
     let body = subst (λ s. put m (spec.whole_of c.args.setting.now.context.now s c.args.setting.now.depth (seq_view a.body)) c.whole.new.nodes ≡ Some (c.in_ok-body.body, c.whole-in-loop-a.new.nodes)) (c.in_ok-cond.ensures.scope ∙ c.loop-a.invariant.scope) c.in_ok-body.ensures.gives in
     record {
       going = λ last.
-          let rest = spec.arms_of c.args.setting.now.context.now sc c.args.setting.now.depth c.args.span false (arms_view (drop (c.loop-a.a-index + 1) c.args.arms.now)) last in
+          let rest = spec.rose_of_arms c.args.setting.now.context.now sc c.args.setting.now.depth c.args.span false (arms_view (drop (c.loop-a.a-index + 1) c.args.arms.now)) last in
           let place : Span = spec.arm_place c.loop-a.first c.args.span a.span in
           let made : Span → OpenArm = λ s. record { cond = c.in_ok-cond.cond; body = c.in_ok-body.body; first = c.loop-a.first; span = s } in
           wait_on (arm_closes m c.args.setting.now.depth) c.loop-a.waiting c.push.new.self (made place) _ _ (put m rest c.whole-in-loop-a.new.nodes)
-          (c.loop-a.invariant.going last ∙ ap (λ xs. and_then (put m (spec.arms_of c.args.setting.now.context.now sc c.args.setting.now.depth c.args.span c.loop-a.first xs last) c.loop-a.nodes) (closing (arm_closes m c.args.setting.now.depth) c.loop-a.waiting)) (as2 ∙ ap (λ y. tree.arm y (arms_view (drop (c.loop-a.a-index + 1) c.args.arms.now))) (arm_parts a)))
+          (c.loop-a.invariant.going last ∙ ap (λ xs. and_then (put m (spec.rose_of_arms c.args.setting.now.context.now sc c.args.setting.now.depth c.args.span c.loop-a.first xs last) c.loop-a.nodes) (closing (arm_closes m c.args.setting.now.depth) c.loop-a.waiting)) (as2 ∙ ap (λ y. tree.arm y (arms_view (drop (c.loop-a.a-index + 1) c.args.arms.now))) (arm_parts a)))
           (arm_is m c.args.setting.now.depth c.loop-a.first place (spec.whole_of c.args.setting.now.context.now sc c.args.setting.now.depth (seq_view a.cond)) (spec.whole_of c.args.setting.now.context.now sc c.args.setting.now.depth (seq_view a.body)) rest c.in_ok-cond.cond c.in_ok-body.body c.loop-a.nodes c.whole.new.nodes c.whole-in-loop-a.new.nodes cond body)
           (c.in_ok-push.ensures.ok ∙ ap (λ s. c.loop-a.waiting ++ made s ∷ []) c.arm_place-place.ensures);
       scope = c.in_ok-body.ensures.scope ∙ c.in_ok-cond.ensures.scope ∙ c.loop-a.invariant.scope;
@@ -59,18 +60,19 @@ infix-returns-in_err-right-clause-gives t c =
     let e = c.in_err-right.field-0.0 in
     let ns = c.expr-in-loop-i.new.nodes in
     let part = λ (sc : List Visible). put c.args.setting.now.number (spec.expr_of c.args.setting.now.context.now sc c.args.setting.now.depth (expr_view x)) c.loop-i.nodes in
-    let stopped : Gives (Err e) ns (part c.args.scope.now) = subst (λ sc. Gives (Err e) ns (part sc)) c.loop-i.invariant.scope c.in_err-right.ensures.gives in
+    let stopped : GivesNodes (Err e) ns (part c.args.scope.now) =
+        subst (λ sc. GivesNodes (Err e) ns (part sc)) c.loop-i.invariant.scope c.in_err-right.ensures.gives in
     rw (p.1, p.2, g.same, es) (stops e ns ns (part c.args.scope.now) _ stopped (right_none c.args.setting.now.context.now c.args.scope.now c.args.setting.now.depth c.args.op c.args.span c.args.setting.now.number (expr_view x) (exprs_view (drop (c.loop-i.i + 1) c.args.terms.now)) g.left c.loop-i.left c.args.nodes.now c.loop-i.nodes g.there))
 
 pub link-returns-in_err-tops-in-Args-clause-gives : goal.link-returns-in_err-tops-in-Args-clause-gives
 link-returns-in_err-tops-in-Args-clause-gives t c = λ origin.
     let p = err_from_is_err_and c.from_residual.result c.from_residual.ensures.1 in
-    rw (p.1, p.2, c.in-Args.is, view_args c.in-Args.args c.in-Args.end, sym c.as_slice.ensures, called_is c.args.setting.now.number c.args.setting.now.depth (kinds.Call c.args.text) (spec.join c.args.span c.in-Args.end) (spec.exprs_of c.args.setting.now.context.now c.args.scope.now c.args.setting.now.depth (exprs_view c.as_slice.result.now)) origin c.args.nodes.now) (stops_one _ _ _ _ _ _ _ c.in_err-tops-in-Args.ensures.gives (λ e. rw e refl))
+    rw (p.1, p.2, c.in-Args.is, view_args c.in-Args.args c.in-Args.end, sym c.as_slice.ensures, called_is c.args.setting.now.number c.args.setting.now.depth (kinds.Call c.args.text) (spec.joined_span c.args.span c.in-Args.end) (spec.roses_of_exprs c.args.setting.now.context.now c.args.scope.now c.args.setting.now.depth (exprs_view c.as_slice.result.now)) origin c.args.nodes.now) (stops_one _ _ _ _ _ _ _ c.in_err-tops-in-Args.ensures.gives (λ e. rw e refl))
 
 pub link-returns-in_ok-tops-in-Args-clause-gives : goal.link-returns-in_ok-tops-in-Args-clause-gives
 unfolding link_closes
 link-returns-in_ok-tops-in-Args-clause-gives t c = λ origin.
-    rw (c.in-Args.is, view_args c.in-Args.args c.in-Args.end, sym c.as_slice.ensures, called_is c.args.setting.now.number c.args.setting.now.depth (kinds.Call c.args.text) (spec.join c.args.span c.in-Args.end) (spec.exprs_of c.args.setting.now.context.now c.args.scope.now c.args.setting.now.depth (exprs_view c.as_slice.result.now)) origin c.args.nodes.now, c.in_ok-tops-in-Args.ensures.gives, c.join-in-Args.ensures) refl
+    rw (c.in-Args.is, view_args c.in-Args.args c.in-Args.end, sym c.as_slice.ensures, called_is c.args.setting.now.number c.args.setting.now.depth (kinds.Call c.args.text) (spec.joined_span c.args.span c.in-Args.end) (spec.roses_of_exprs c.args.setting.now.context.now c.args.scope.now c.args.setting.now.depth (exprs_view c.as_slice.result.now)) origin c.args.nodes.now, c.in_ok-tops-in-Args.ensures.gives, c.join-in-Args.ensures) refl
 
 pub open_chain-returns-in_err-links-clause-gives : goal.open_chain-returns-in_err-links-clause-gives
 open_chain-returns-in_err-links-clause-gives t c = λ atom.
@@ -84,7 +86,7 @@ open_chain-returns-in_err-links-clause-gives t c = λ atom.
     let b = begun cx sc d c.args.span beg (map suffix_view xs) atom in
     let want = λ (k : ℕ). put m (rest_of cx sc d c.args.span b (map suffix_view (take c.args.count (drop k xs)))) c.args.nodes.now in
     let e = c.in_err-links.field-0.0 in
-    let stopped : Opens (Err e) c.links.new.nodes (link_closes m d) (put m b) (want (taken beg)) = subst (λ k. Opens (Err e) c.links.new.nodes (link_closes m d) (put m b) (want k)) c.count_taken-taken.ensures (c.in_err-links.ensures.gives b) in
+    let stopped : OpensInnerPart (Err e) c.links.new.nodes (link_closes m d) (put m b) (want (taken beg)) = subst (λ k. OpensInnerPart (Err e) c.links.new.nodes (link_closes m d) (put m b) (want k)) c.count_taken-taken.ensures (c.in_err-links.ensures.gives b) in
     rw (p.1, p.2) (links_stop e c.links.new.nodes c.links.new.nodes (link_closes m d) (put m b) (put m atom) (want (taken beg)) stopped)
 
 pub open_chain-returns-in-Value-clause-gives : goal.open_chain-returns-in-Value-clause-gives
@@ -165,7 +167,7 @@ chain-returns-in_err-origin-clause-gives t c =
     let part = λ (z : List Visible). begun_by o.origin (put m (spec.expr_of cx z d (expr_view h))) c.open_chain.new.nodes in
     let e = c.in_err-origin.field-0.0 in
     let n2 = c.chain_origin.new.nodes in
-    let stopped : Gives (Err e) n2 (part sc) = subst (λ z. Gives (Err e) n2 (part z)) c.in_ok-opened.ensures.scope c.in_err-origin.ensures.gives in
+    let stopped : GivesNodes (Err e) n2 (part sc) = subst (λ z. GivesNodes (Err e) n2 (part z)) c.in_ok-opened.ensures.scope c.in_err-origin.ensures.gives in
     rw (p.1, p.2, w) (inner_stops e n2 n2 (part sc) (closing (link_closes m d) o.links) _ (c.in_ok-opened.ensures.gives a) stopped)
 
 pub chain-returns-clause-gives : goal.chain-returns-clause-gives
@@ -221,7 +223,7 @@ store-returns-in_err-origin-clause-gives t c = λ v before there first.
     let part = λ (z : List Visible). begun_by o.origin (put m (spec.expr_of cx z d (expr_view h))) c.open_chain.new.nodes in
     let e = c.in_err-origin.field-0.0 in
     let n2 = c.chain_origin.new.nodes in
-    let stopped : Gives (Err e) n2 (part sc) = subst (λ z. Gives (Err e) n2 (part z)) c.in_ok-opened.ensures.scope c.in_err-origin.ensures.gives in
+    let stopped : GivesNodes (Err e) n2 (part sc) = subst (λ z. GivesNodes (Err e) n2 (part z)) c.in_ok-opened.ensures.scope c.in_err-origin.ensures.gives in
     rw (p.1, p.2) (inner_stops e n2 n2 (put m r c.args.nodes.now) _ _ begin (inner_stops e n2 n2 (part sc) (closing (link_closes m d) o.links) _ (c.in_ok-opened.ensures.gives a) stopped))
 
 pub store-returns-clause-gives : goal.store-returns-clause-gives
@@ -251,7 +253,7 @@ store_alone-returns-in-Name-clause-gives t c = λ v before there first.
     let n = c.in-Name.name in
     let e : expr_view c.args.left.now ≡ tree.name n = ap expr_view c.in-Name.is ∙ view_name n in
     let known : names_none (resolve cx sc n.text) ≡ false = subst (λ z. misses cx sc z ≡ false) e there in
-    let gave = subst (λ z. Gives c.write_name.result c.write_name.new.nodes (name_closes cx c.args.setting.now.number c.args.setting.now.depth c.args.span n (resolve cx z n.text) c.args.value c.args.nodes.now)) c.as_slice.ensures c.write_name.ensures in
+    let gave = subst (λ z. GivesNodes c.write_name.result c.write_name.new.nodes (name_closes cx c.args.setting.now.number c.args.setting.now.depth c.args.span n (resolve cx z n.text) c.args.value c.args.nodes.now)) c.as_slice.ensures c.write_name.ensures in
     rw (e, name_written cx c.args.setting.now.number c.args.setting.now.depth c.args.span n (resolve cx sc n.text) v c.args.value before c.args.nodes.now known first) gave
 
 pub expr-returns-in_err-value-in-Assign-clause-gives : goal.expr-returns-in_err-value-in-Assign-clause-gives
@@ -270,21 +272,21 @@ first_args-returns-in_err-children-in-OnThis-clause-gives t c =
     let p = err_from_is_err_and c.from_residual-in_err-children-in-OnThis.result c.from_residual-in_err-children-in-OnThis.ensures.1 in
     rw (p.1, p.2, c.in-OnThis.is, c.in-Args.is, view_args c.in-Args.args c.in-Args.end, sym c.as_slice-in-OnThis.ensures)
     (inner_stops c.in_err-children-in-OnThis.field-0.0 c.exprs-in-OnThis.new.nodes c.exprs-in-OnThis.new.nodes _ _ _
-    (called_is c.args.setting.now.number c.args.setting.now.depth (kinds.Call c.in-OnThis.text) (spec.join c.args.span c.in-Args.end) (spec.exprs_of c.args.setting.now.context.now c.args.scope.now c.args.setting.now.depth (exprs_view c.as_slice-in-OnThis.result.now)) (leaf kinds.This c.in-OnThis.place c.args.setting.now.depth) c.args.nodes.now) c.in_err-children-in-OnThis.ensures.gives)
+    (called_is c.args.setting.now.number c.args.setting.now.depth (kinds.Call c.in-OnThis.text) (spec.joined_span c.args.span c.in-Args.end) (spec.roses_of_exprs c.args.setting.now.context.now c.args.scope.now c.args.setting.now.depth (exprs_view c.as_slice-in-OnThis.result.now)) (leaf kinds.This c.in-OnThis.place c.args.setting.now.depth) c.args.nodes.now) c.in_err-children-in-OnThis.ensures.gives)
 
 pub first_args-returns-in_ok-children-in-OnThis-clause-gives : goal.first_args-returns-in_ok-children-in-OnThis-clause-gives
 unfolding this_closes
 first_args-returns-in_ok-children-in-OnThis-clause-gives t c =
-    let gave = subst (λ s. Gives c.call_this.result c.call_this.new.nodes (this_closes c.args.setting.now.number c.args.setting.now.depth s c.in-OnThis.text c.in-OnThis.place c.in_ok-children-in-OnThis.children c.exprs-in-OnThis.new.nodes)) c.join-in-OnThis.ensures c.call_this.ensures in
+    let gave = subst (λ s. GivesNodes c.call_this.result c.call_this.new.nodes (this_closes c.args.setting.now.number c.args.setting.now.depth s c.in-OnThis.text c.in-OnThis.place c.in_ok-children-in-OnThis.children c.exprs-in-OnThis.new.nodes)) c.join-in-OnThis.ensures c.call_this.ensures in
     rw (c.in-OnThis.is, c.in-Args.is, view_args c.in-Args.args c.in-Args.end, sym c.as_slice-in-OnThis.ensures)
     (inner_gives c.call_this.result c.exprs-in-OnThis.new.nodes c.call_this.new.nodes c.in_ok-children-in-OnThis.children _ _ _
-    (called_is c.args.setting.now.number c.args.setting.now.depth (kinds.Call c.in-OnThis.text) (spec.join c.args.span c.in-Args.end) (spec.exprs_of c.args.setting.now.context.now c.args.scope.now c.args.setting.now.depth (exprs_view c.as_slice-in-OnThis.result.now)) (leaf kinds.This c.in-OnThis.place c.args.setting.now.depth) c.args.nodes.now) c.in_ok-children-in-OnThis.ensures.gives gave)
+    (called_is c.args.setting.now.number c.args.setting.now.depth (kinds.Call c.in-OnThis.text) (spec.joined_span c.args.span c.in-Args.end) (spec.roses_of_exprs c.args.setting.now.context.now c.args.scope.now c.args.setting.now.depth (exprs_view c.as_slice-in-OnThis.result.now)) (leaf kinds.This c.in-OnThis.place c.args.setting.now.depth) c.args.nodes.now) c.in_ok-children-in-OnThis.ensures.gives gave)
 
 pub sequence-returns-clause-gives : goal.sequence-returns-clause-gives
 sequence-returns-clause-gives t c =
-    let items = subst (λ is. puts c.args.setting.now.number (spec.items_of c.args.setting.now.context.now c.args.scope.now c.args.setting.now.depth (items_view is)) c.args.nodes.now ≡ Some (c.in_ok-tops.tops, c.items.new.nodes)) c.as_slice.ensures c.in_ok-tops.ensures.gives in
+    let items = subst (λ is. puts c.args.setting.now.number (spec.roses_of_items c.args.setting.now.context.now c.args.scope.now c.args.setting.now.depth (items_view is)) c.args.nodes.now ≡ Some (c.in_ok-tops.tops, c.items.new.nodes)) c.as_slice.ensures c.in_ok-tops.ensures.gives in
     rw (seq_parts c.args.seq.now)
-    (inner_gives c.close_sequence.result c.items.new.nodes c.close_sequence.new.nodes c.in_ok-tops.tops _ _ _ (sequence_is c.args.setting.now.number c.args.setting.now.depth c.args.span (spec.items_of c.args.setting.now.context.now c.args.scope.now c.args.setting.now.depth (items_view c.args.seq.now.items)) c.args.nodes.now) items c.close_sequence.ensures)
+    (inner_gives c.close_sequence.result c.items.new.nodes c.close_sequence.new.nodes c.in_ok-tops.tops _ _ _ (sequence_is c.args.setting.now.number c.args.setting.now.depth c.args.span (spec.roses_of_items c.args.setting.now.context.now c.args.scope.now c.args.setting.now.depth (items_view c.args.seq.now.items)) c.args.nodes.now) items c.close_sequence.ensures)
 
 pub infix-returns-in_err-left-2-clause-gives : goal.infix-returns-in_err-left-2-clause-gives
 infix-returns-in_err-left-2-clause-gives t c =
@@ -296,10 +298,10 @@ infix-returns-in_err-left-2-clause-gives t c =
     let e = c.in_err-left-2.field-0.0 in
     let m = c.args.setting.now.number in
     let part = λ (k : NodeKind) (s : Span). push m k s c.args.setting.now.depth (c.loop-i.left ∷ c.in_ok-right.right ∷ []) c.expr-in-loop-i.new.nodes in
-    let place : Span = spec.join c.args.span (tree.span_of (expr_view x)) in
-    let reach : c.join-reach.result ≡ place = c.join-reach.ensures ∙ ap (spec.join c.args.span) c.span_of.ensures in
+    let place : Span = spec.joined_span c.args.span (tree.span_of (expr_view x)) in
+    let reach : c.join-reach.result ≡ place = c.join-reach.ensures ∙ ap (spec.joined_span c.args.span) c.span_of.ensures in
     let kind : c.operation-kind.result ≡ spec.operation c.args.op = c.operation-kind.ensures in
-    let stopped : Gives {A = ℕ} (Err e) c.double.new.nodes (part (spec.operation c.args.op) place) = subst (λ k. Gives {A = ℕ} (Err e) c.double.new.nodes (part k place)) kind (subst (λ s. Gives {A = ℕ} (Err e) c.double.new.nodes (part c.operation-kind.result s)) reach c.in_err-left-2.ensures) in
+    let stopped : GivesNodes {A = ℕ} (Err e) c.double.new.nodes (part (spec.operation c.args.op) place) = subst (λ k. GivesNodes {A = ℕ} (Err e) c.double.new.nodes (part k place)) kind (subst (λ s. GivesNodes {A = ℕ} (Err e) c.double.new.nodes (part c.operation-kind.result s)) reach c.in_err-left-2.ensures) in
     let there = subst (λ s. put m (spec.expr_of c.args.setting.now.context.now s c.args.setting.now.depth (expr_view x)) c.loop-i.nodes ≡ Some (c.in_ok-right.right, c.expr-in-loop-i.new.nodes)) c.loop-i.invariant.scope c.in_ok-right.ensures.gives in
     rw (p.1, p.2, g.same, es) (stops e c.double.new.nodes c.double.new.nodes (part (spec.operation c.args.op) place) _ stopped (push_none c.args.setting.now.context.now c.args.scope.now c.args.setting.now.depth c.args.op c.args.span m (expr_view x) (exprs_view (drop (c.loop-i.i + 1) c.args.terms.now)) g.left c.loop-i.left c.in_ok-right.right c.args.nodes.now c.loop-i.nodes c.expr-in-loop-i.new.nodes g.there there))
 
@@ -344,13 +346,13 @@ open_arms-returns-in_err-cond-clause-gives t c = λ last.
     let after = arms_view (drop (c.loop-a.a-index + 1) c.args.arms.now) in
     let x = spec.whole_of cx sc d (seq_view a.cond) in
     let y = spec.whole_of cx sc d (seq_view a.body) in
-    let z = spec.arms_of cx sc d c.args.span false after last in
+    let z = spec.rose_of_arms cx sc d c.args.span false after last in
     let place : Span = spec.arm_place c.loop-a.first c.args.span a.span in
     let e = c.in_err-cond.field-0.0 in
     let n1 = c.whole.new.nodes in
-    let stopped : Gives {A = ℕ} (Err e) n1 (put m x c.loop-a.nodes) = subst (λ s. Gives {A = ℕ} (Err e) n1 (put m (spec.whole_of cx s d (seq_view a.cond)) c.loop-a.nodes)) c.loop-a.invariant.scope c.in_err-cond.ensures.gives in
+    let stopped : GivesNodes {A = ℕ} (Err e) n1 (put m x c.loop-a.nodes) = subst (λ s. GivesNodes {A = ℕ} (Err e) n1 (put m (spec.whole_of cx s d (seq_view a.cond)) c.loop-a.nodes)) c.loop-a.invariant.scope c.in_err-cond.ensures.gives in
     rw (p.1, p.2) (arm_stops e n1 n1 (arm_closes m d) c.loop-a.waiting (put m last) (put m x c.loop-a.nodes) (put m (spec.if_of c.loop-a.first place d (three x y z)) c.loop-a.nodes) _
-    (c.loop-a.invariant.going last ∙ ap (λ l. and_then (put m (spec.arms_of cx sc d c.args.span c.loop-a.first l last) c.loop-a.nodes) (closing (arm_closes m d) c.loop-a.waiting)) (as2 ∙ ap (λ l. tree.arm l after) (arm_parts a)))
+    (c.loop-a.invariant.going last ∙ ap (λ l. and_then (put m (spec.rose_of_arms cx sc d c.args.span c.loop-a.first l last) c.loop-a.nodes) (closing (arm_closes m d) c.loop-a.waiting)) (as2 ∙ ap (λ l. tree.arm l after) (arm_parts a)))
     stopped (cond_none m d c.loop-a.first place x y z c.loop-a.nodes))
 
 pub open_arms-returns-in_err-body-clause-gives : goal.open_arms-returns-in_err-body-clause-gives
@@ -366,15 +368,15 @@ open_arms-returns-in_err-body-clause-gives t c = λ last.
     let after = arms_view (drop (c.loop-a.a-index + 1) c.args.arms.now) in
     let x = spec.whole_of cx sc d (seq_view a.cond) in
     let y = spec.whole_of cx sc d (seq_view a.body) in
-    let z = spec.arms_of cx sc d c.args.span false after last in
+    let z = spec.rose_of_arms cx sc d c.args.span false after last in
     let place : Span = spec.arm_place c.loop-a.first c.args.span a.span in
     let e = c.in_err-body.field-0.0 in
     let n1 = c.whole.new.nodes in
     let n2 = c.whole-in-loop-a.new.nodes in
     let cond : put m x c.loop-a.nodes ≡ Some (c.in_ok-cond.cond, n1) = subst (λ s. put m (spec.whole_of cx s d (seq_view a.cond)) c.loop-a.nodes ≡ Some (c.in_ok-cond.cond, n1)) c.loop-a.invariant.scope c.in_ok-cond.ensures.gives in
-    let stopped : Gives {A = ℕ} (Err e) n2 (put m y n1) = subst (λ s. Gives {A = ℕ} (Err e) n2 (put m (spec.whole_of cx s d (seq_view a.body)) n1)) (c.in_ok-cond.ensures.scope ∙ c.loop-a.invariant.scope) c.in_err-body.ensures.gives in
+    let stopped : GivesNodes {A = ℕ} (Err e) n2 (put m y n1) = subst (λ s. GivesNodes {A = ℕ} (Err e) n2 (put m (spec.whole_of cx s d (seq_view a.body)) n1)) (c.in_ok-cond.ensures.scope ∙ c.loop-a.invariant.scope) c.in_err-body.ensures.gives in
     rw (p.1, p.2) (arm_stops e n2 n2 (arm_closes m d) c.loop-a.waiting (put m last) (put m y n1) (put m (spec.if_of c.loop-a.first place d (three x y z)) c.loop-a.nodes) _
-    (c.loop-a.invariant.going last ∙ ap (λ l. and_then (put m (spec.arms_of cx sc d c.args.span c.loop-a.first l last) c.loop-a.nodes) (closing (arm_closes m d) c.loop-a.waiting)) (as2 ∙ ap (λ l. tree.arm l after) (arm_parts a)))
+    (c.loop-a.invariant.going last ∙ ap (λ l. and_then (put m (spec.rose_of_arms cx sc d c.args.span c.loop-a.first l last) c.loop-a.nodes) (closing (arm_closes m d) c.loop-a.waiting)) (as2 ∙ ap (λ l. tree.arm l after) (arm_parts a)))
     stopped (body_none m d c.loop-a.first place x y z c.in_ok-cond.cond c.loop-a.nodes n1 cond))
 
 pub exprs-loop-x-preserved : goal.exprs-loop-x-preserved
@@ -389,7 +391,7 @@ exprs-loop-x-preserved t c =
     let n1 = c.expr.new.nodes in
     let gave : put m (spec.expr_of cx sc d (expr_view x)) c.loop-x.nodes ≡ Some (c.in_ok-top.top, n1) = subst (λ s. put m (spec.expr_of cx s d (expr_view x)) c.loop-x.nodes ≡ Some (c.in_ok-top.top, n1)) c.loop-x.invariant.scope c.in_ok-top.ensures.gives in
     record {
-      going = c.loop-x.invariant.going ∙ ap (λ l. behind_tops c.loop-x.tops (puts m (spec.exprs_of cx sc d l) c.loop-x.nodes)) es ∙ behind_more m (spec.expr_of cx sc d (expr_view x)) (spec.exprs_of cx sc d (exprs_view (drop (c.loop-x.x-index + 1) c.args.xs.now))) c.loop-x.tops c.push.new.self c.in_ok-top.top c.loop-x.nodes n1 gave c.in_ok-push.ensures.ok;
+      going = c.loop-x.invariant.going ∙ ap (λ l. behind_tops c.loop-x.tops (puts m (spec.roses_of_exprs cx sc d l) c.loop-x.nodes)) es ∙ behind_more m (spec.expr_of cx sc d (expr_view x)) (spec.roses_of_exprs cx sc d (exprs_view (drop (c.loop-x.x-index + 1) c.args.xs.now))) c.loop-x.tops c.push.new.self c.in_ok-top.top c.loop-x.nodes n1 gave c.in_ok-push.ensures.ok;
       scope = c.in_ok-top.ensures.scope ∙ c.loop-x.invariant.scope;
     }
 
@@ -404,7 +406,7 @@ block-returns-in_err-waiting-in-If-clause-gives t c =
 
 pub exprs-loop-x-init : goal.exprs-loop-x-init
 exprs-loop-x-init t c =
-    let all = puts c.args.setting.now.number (spec.exprs_of c.args.setting.now.context.now c.args.scope.now c.args.setting.now.depth (exprs_view c.args.xs.now)) c.args.nodes.now in
+    let all = puts c.args.setting.now.number (spec.roses_of_exprs c.args.setting.now.context.now c.args.scope.now c.args.setting.now.depth (exprs_view c.args.xs.now)) c.args.nodes.now in
     record {
       going = sym (behind_none all) ∙ ap (λ l. behind_tops l all) (sym c.new-tops.ensures);
       scope = refl;
@@ -421,7 +423,7 @@ block-returns-in_err-last-in-If-clause-gives t c =
     let n1 = c.open_arms.new.nodes in
     let n2 = c.otherwise.new.nodes in
     let e = c.in_err-last-in-If.field-0.0 in
-    let stopped : Gives {A = ℕ} (Err e) n2 (put m (last sc) n1) = subst (λ s. Gives {A = ℕ} (Err e) n2 (put m (last s) n1)) c.in_ok-waiting-in-If.ensures.scope c.in_err-last-in-If.ensures.gives in
+    let stopped : GivesNodes {A = ℕ} (Err e) n2 (put m (last sc) n1) = subst (λ s. GivesNodes {A = ℕ} (Err e) n2 (put m (last s) n1)) c.in_ok-waiting-in-If.ensures.scope c.in_err-last-in-If.ensures.gives in
     rw (p.1, p.2, c.in-If.is, view_if c.in-If.arms c.in-If.other c.in-If.span, sym c.as_slice.ensures) (inner_stops e n2 n2 (put m (last sc) n1) (closing (arm_closes m d) c.in_ok-waiting-in-If.waiting) _ (c.in_ok-waiting-in-If.ensures.gives (last sc)) stopped)
 
 pub block-returns-in_ok-last-in-If-clause-gives : goal.block-returns-in_ok-last-in-If-clause-gives
@@ -453,11 +455,11 @@ sequence-returns-in_err-tops-clause-gives t c =
     let d = c.args.setting.now.depth in
     let sc = c.args.scope.now in
     let cx = c.args.setting.now.context.now in
-    let items = λ (l : List Item). spec.items_of cx sc d (items_view l) in
+    let items = λ (l : List Item). spec.roses_of_items cx sc d (items_view l) in
     let is = c.args.seq.now.items in
     let e = c.in_err-tops.field-0.0 in
     let n1 = c.items.new.nodes in
-    let stopped : Gives {A = List ℕ} (Err e) n1 (puts m (items is) c.args.nodes.now) = subst (λ l. Gives {A = List ℕ} (Err e) n1 (puts m (items l) c.args.nodes.now)) c.as_slice.ensures c.in_err-tops.ensures.gives in
+    let stopped : GivesNodes {A = List ℕ} (Err e) n1 (puts m (items is) c.args.nodes.now) = subst (λ l. GivesNodes {A = List ℕ} (Err e) n1 (puts m (items l) c.args.nodes.now)) c.as_slice.ensures c.in_err-tops.ensures.gives in
     rw (p.1, p.2, seq_parts c.args.seq.now) (inner_stops e n1 n1 (puts m (items is) c.args.nodes.now) (seq_closes m d c.args.span) _ (sequence_is m d c.args.span (items is) c.args.nodes.now) stopped)
 
 pub infix-loop-i-init : goal.infix-loop-i-init
@@ -489,8 +491,8 @@ infix-loop-i-preserved t c =
     let n1 = c.expr-in-loop-i.new.nodes in
     let n2 = c.double.new.nodes in
     let part = λ (k : NodeKind) (s : Span). push m k s d (c.loop-i.left ∷ c.in_ok-right.right ∷ []) n1 in
-    let place : Span = spec.join c.args.span (tree.span_of (expr_view x)) in
-    let reach : c.join-reach.result ≡ place = c.join-reach.ensures ∙ ap (spec.join c.args.span) c.span_of.ensures in
+    let place : Span = spec.joined_span c.args.span (tree.span_of (expr_view x)) in
+    let reach : c.join-reach.result ≡ place = c.join-reach.ensures ∙ ap (spec.joined_span c.args.span) c.span_of.ensures in
     let made : part (spec.operation c.args.op) place ≡ Some (c.in_ok-left-2.left, n2) = subst (λ k. part k place ≡ Some (c.in_ok-left-2.left, n2)) c.operation-kind.ensures (subst (λ s. part c.operation-kind.result s ≡ Some (c.in_ok-left-2.left, n2)) reach c.in_ok-left-2.ensures) in
     let there : put m (spec.expr_of cx sc d (expr_view x)) c.loop-i.nodes ≡ Some (c.in_ok-right.right, n1) = subst (λ s. put m (spec.expr_of cx s d (expr_view x)) c.loop-i.nodes ≡ Some (c.in_ok-right.right, n1)) c.loop-i.invariant.scope c.in_ok-right.ensures.gives in
     record {
@@ -513,7 +515,7 @@ block-returns-in_err-turn-in-While-clause-gives t c =
     let n1 = c.whole.new.nodes in
     let n2 = c.whole-in-While.new.nodes in
     let e = c.in_err-turn-in-While.field-0.0 in
-    let stopped : Gives {A = ℕ} (Err e) n2 (put m (turn sc) n1) = subst (λ s. Gives {A = ℕ} (Err e) n2 (put m (turn s) n1)) c.in_ok-test-in-While.ensures.scope c.in_err-turn-in-While.ensures.gives in
+    let stopped : GivesNodes {A = ℕ} (Err e) n2 (put m (turn sc) n1) = subst (λ s. GivesNodes {A = ℕ} (Err e) n2 (put m (turn s) n1)) c.in_ok-test-in-While.ensures.scope c.in_err-turn-in-While.ensures.gives in
     rw (p.1, p.2, c.in-While.is, view_while c.in-While.cond c.in-While.body c.in-While.span, sym c.deref-in-While.ensures, sym c.deref-in-While-2.ensures) (stops e n2 n2 (put m (turn sc) n1) _ stopped (λ h. rw (c.in_ok-test-in-While.ensures.gives, h) refl))
 
 pub block-returns-in_ok-turn-in-While-clause-gives : goal.block-returns-in_ok-turn-in-While-clause-gives
@@ -539,7 +541,7 @@ links-returns-clause-gives t c = λ origin.
 
 pub items-loop-x-init : goal.items-loop-x-init
 items-loop-x-init t c =
-    let all = puts c.args.setting.now.number (spec.items_of c.args.setting.now.context.now c.args.scope.now c.args.setting.now.depth (items_view c.args.xs.now)) c.args.nodes.now in
+    let all = puts c.args.setting.now.number (spec.roses_of_items c.args.setting.now.context.now c.args.scope.now c.args.setting.now.depth (items_view c.args.xs.now)) c.args.nodes.now in
     record {
       going = sym (behind_none all) ∙ ap (λ l. behind_tops l all) (sym c.new-tops.ensures);
       scope = take_whole c.args.scope.now;
@@ -554,10 +556,10 @@ items-loop-x-preserved t c =
     let x = c.x-item.result in
     let at = slice_get_read c.args.xs.now _ c.loop-x.x-index x refl (omega (arith, c.loop-x-test.true)) c.x-item.is in
     let is = items_from c.args.xs.now c.loop-x.x-index (c.loop-x.x-index + 1) x at refl in
-    let rest = λ (s : List Visible). spec.items_of cx s d (items_view (drop (c.loop-x.x-index + 1) c.args.xs.now)) in
+    let rest = λ (s : List Visible). spec.roses_of_items cx s d (items_view (drop (c.loop-x.x-index + 1) c.args.xs.now)) in
     let n1 = c.item.new.nodes in
     record {
-      going = c.loop-x.invariant.going ∙ ap (λ l. behind_tops c.loop-x.tops (puts m (spec.items_of cx sc d l) c.loop-x.nodes)) is ∙ behind_more m (spec.item_of cx sc d (item_view x)) (rest (scope_after cx sc (item_view x))) c.loop-x.tops c.push.new.self c.in_ok-top.top c.loop-x.nodes n1 c.in_ok-top.ensures.gives c.in_ok-push.ensures.ok ∙ ap (λ s. behind_tops c.push.new.self (puts m (rest s) n1)) (sym c.in_ok-top.ensures.scope);
+      going = c.loop-x.invariant.going ∙ ap (λ l. behind_tops c.loop-x.tops (puts m (spec.roses_of_items cx sc d l) c.loop-x.nodes)) is ∙ behind_more m (spec.item_of cx sc d (item_view x)) (rest (scope_after cx sc (item_view x))) c.loop-x.tops c.push.new.self c.in_ok-top.top c.loop-x.nodes n1 c.in_ok-top.ensures.gives c.in_ok-push.ensures.ok ∙ ap (λ s. behind_tops c.push.new.self (puts m (rest s) n1)) (sym c.in_ok-top.ensures.scope);
       scope = subst (λ s. take (length c.args.scope.now) s ≡ c.args.scope.now) (sym c.in_ok-top.ensures.scope) (scope_kept cx sc c.args.scope.now (item_view x) c.loop-x.invariant.scope);
     }
 
@@ -607,7 +609,7 @@ exprs-returns-clause-gives t c =
     let sc = c.args.scope.now in
     let cx = c.args.setting.now.context.now in
     let none = drop_all c.loop-x.x-index c.args.xs.now c.loop-x-test.false in
-    c.loop-x.invariant.going ∙ ap (λ l. behind_tops c.loop-x.tops (puts m (spec.exprs_of cx sc d (exprs_view l)) c.loop-x.nodes)) none ∙ ap (λ l. Some (l, c.loop-x.nodes)) (append-nil c.loop-x.tops)
+    c.loop-x.invariant.going ∙ ap (λ l. behind_tops c.loop-x.tops (puts m (spec.roses_of_exprs cx sc d (exprs_view l)) c.loop-x.nodes)) none ∙ ap (λ l. Some (l, c.loop-x.nodes)) (append-nil c.loop-x.tops)
 
 pub items-returns-clause-gives : goal.items-returns-clause-gives
 items-returns-clause-gives t c =
@@ -615,7 +617,7 @@ items-returns-clause-gives t c =
     let d = c.args.setting.now.depth in
     let cx = c.args.setting.now.context.now in
     let none = drop_all c.loop-x.x-index c.args.xs.now c.loop-x-test.false in
-    c.loop-x.invariant.going ∙ ap (λ l. behind_tops c.loop-x.tops (puts m (spec.items_of cx c.loop-x.scope d (items_view l)) c.loop-x.nodes)) none ∙ ap (λ l. Some (l, c.loop-x.nodes)) (append-nil c.loop-x.tops)
+    c.loop-x.invariant.going ∙ ap (λ l. behind_tops c.loop-x.tops (puts m (spec.roses_of_items cx c.loop-x.scope d (items_view l)) c.loop-x.nodes)) none ∙ ap (λ l. Some (l, c.loop-x.nodes)) (append-nil c.loop-x.tops)
 
 pub exprs-returns-in_err-top-clause-gives : goal.exprs-returns-in_err-top-clause-gives
 exprs-returns-in_err-top-clause-gives t c =
@@ -630,7 +632,7 @@ exprs-returns-in_err-top-clause-gives t c =
     let part = λ (s : List Visible). put m (spec.expr_of cx s d (expr_view x)) c.loop-x.nodes in
     let e = c.in_err-top.field-0.0 in
     let n1 = c.expr.new.nodes in
-    let stopped : Gives {A = ℕ} (Err e) n1 (part sc) = subst (λ s. Gives {A = ℕ} (Err e) n1 (part s)) c.loop-x.invariant.scope c.in_err-top.ensures.gives in
+    let stopped : GivesNodes {A = ℕ} (Err e) n1 (part sc) = subst (λ s. GivesNodes {A = ℕ} (Err e) n1 (part s)) c.loop-x.invariant.scope c.in_err-top.ensures.gives in
     rw (p.1, p.2, c.loop-x.invariant.going, es) (stops e n1 n1 (part sc) _ stopped (λ h. rw h refl))
 
 pub items-returns-in_err-top-clause-gives : goal.items-returns-in_err-top-clause-gives
@@ -675,15 +677,15 @@ open_arms-returns-clause-gives t c = λ last.
     let sc = c.args.scope.now in
     let cx = c.args.setting.now.context.now in
     let none = drop_all c.loop-a.a-index c.args.arms.now c.loop-a-test.false in
-    c.loop-a.invariant.going last ∙ ap (λ l. and_then (put m (spec.arms_of cx sc d c.args.span c.loop-a.first (arms_view l) last) c.loop-a.nodes) (closing (arm_closes m d) c.loop-a.waiting)) none
+    c.loop-a.invariant.going last ∙ ap (λ l. and_then (put m (spec.rose_of_arms cx sc d c.args.span c.loop-a.first (arms_view l) last) c.loop-a.nodes) (closing (arm_closes m d) c.loop-a.waiting)) none
 
 pub first_args-returns-in_ok-children-in-Made-clause-gives : goal.first_args-returns-in_ok-children-in-Made-clause-gives
 first_args-returns-in_ok-children-in-Made-clause-gives t c =
-    let gave = subst (λ s. Gives c.push.result c.push.new.nodes (push c.args.setting.now.number c.in-Made.kind s c.args.setting.now.depth c.in_ok-children-in-Made.children c.exprs.new.nodes)) c.join-in-Made.ensures c.push.ensures in
+    let gave = subst (λ s. GivesNodes c.push.result c.push.new.nodes (push c.args.setting.now.number c.in-Made.kind s c.args.setting.now.depth c.in_ok-children-in-Made.children c.exprs.new.nodes)) c.join-in-Made.ensures c.push.ensures in
     rw (c.in-Made.is, c.in-Args.is, view_args c.in-Args.args c.in-Args.end, sym c.as_slice.ensures, c.in_ok-children-in-Made.ensures.gives) gave
 
 pub first_args-returns-in_err-children-in-Made-clause-gives : goal.first_args-returns-in_err-children-in-Made-clause-gives
 first_args-returns-in_err-children-in-Made-clause-gives t c =
     let p = err_from_is_err_and c.from_residual.result c.from_residual.ensures.1 in
     let n1 = c.exprs.new.nodes in
-    rw (p.1, p.2, c.in-Made.is, c.in-Args.is, view_args c.in-Args.args c.in-Args.end, sym c.as_slice.ensures) (stops c.in_err-children-in-Made.field-0.0 n1 n1 (puts c.args.setting.now.number (spec.exprs_of c.args.setting.now.context.now c.args.scope.now c.args.setting.now.depth (exprs_view c.as_slice.result.now)) c.args.nodes.now) _ c.in_err-children-in-Made.ensures.gives (λ h. rw h refl))
+    rw (p.1, p.2, c.in-Made.is, c.in-Args.is, view_args c.in-Args.args c.in-Args.end, sym c.as_slice.ensures) (stops c.in_err-children-in-Made.field-0.0 n1 n1 (puts c.args.setting.now.number (spec.roses_of_exprs c.args.setting.now.context.now c.args.scope.now c.args.setting.now.depth (exprs_view c.as_slice.result.now)) c.args.nodes.now) _ c.in_err-children-in-Made.ensures.gives (λ h. rw h refl))

@@ -8,13 +8,13 @@ use Rattle.pc_emit.proofs.walk.+walk.Given as goal
 
 abbrev pub invariant-items-loop-x : goal.invariant-items-loop-x
 invariant-items-loop-x l = record {
-  going : Going l.setting.number (puts l.setting.number (spec.items_of l.setting.context.now l.fn.scope l.setting.depth (items_view l.xs)) l.fn.nodes) (spec.items_of l.setting.context.now l.scope l.setting.depth (items_view (drop l.x-index l.xs))) l.tops l.nodes;
+  going : Going l.setting.number (puts l.setting.number (spec.roses_of_items l.setting.context.now l.fn.scope l.setting.depth (items_view l.xs)) l.fn.nodes) (spec.roses_of_items l.setting.context.now l.scope l.setting.depth (items_view (drop l.x-index l.xs))) l.tops l.nodes;
   scope : take (length l.fn.scope) l.scope ≡ l.fn.scope;
 }
 
 abbrev pub invariant-exprs-loop-x : goal.invariant-exprs-loop-x
 invariant-exprs-loop-x l = record {
-  going : Going l.setting.number (puts l.setting.number (spec.exprs_of l.setting.context.now l.fn.scope l.setting.depth (exprs_view l.xs)) l.fn.nodes) (spec.exprs_of l.setting.context.now l.fn.scope l.setting.depth (exprs_view (drop l.x-index l.xs))) l.tops l.nodes;
+  going : Going l.setting.number (puts l.setting.number (spec.roses_of_exprs l.setting.context.now l.fn.scope l.setting.depth (exprs_view l.xs)) l.fn.nodes) (spec.roses_of_exprs l.setting.context.now l.fn.scope l.setting.depth (exprs_view (drop l.x-index l.xs))) l.tops l.nodes;
   scope : l.scope ≡ l.fn.scope;
 }
 
@@ -26,7 +26,7 @@ invariant-infix-loop-i l = record {
 
 abbrev pub invariant-open_arms-loop-a : goal.invariant-open_arms-loop-a
 invariant-open_arms-loop-a l = record {
-  going : (last : Rose) → put l.setting.number (spec.arms_of l.setting.context.now l.fn.scope l.setting.depth l.span true (arms_view l.arms) last) l.fn.nodes ≡ and_then (put l.setting.number (spec.arms_of l.setting.context.now l.fn.scope l.setting.depth l.span l.first (arms_view (drop l.a-index l.arms)) last) l.nodes) (closing (arm_closes l.setting.number l.setting.depth) l.waiting);
+  going : (last : Rose) → put l.setting.number (spec.rose_of_arms l.setting.context.now l.fn.scope l.setting.depth l.span true (arms_view l.arms) last) l.fn.nodes ≡ and_then (put l.setting.number (spec.rose_of_arms l.setting.context.now l.fn.scope l.setting.depth l.span l.first (arms_view (drop l.a-index l.arms)) last) l.nodes) (closing (arm_closes l.setting.number l.setting.depth) l.waiting);
   scope : l.scope ≡ l.fn.scope;
 }
 

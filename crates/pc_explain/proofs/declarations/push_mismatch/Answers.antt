@@ -3,7 +3,7 @@ use Rattle.std.specs.Prelude.{Option, None, slice_get}
 use Rattle.std.proofs.lemmas.List.{append-nil}
 use Rattle.pc_core.specs.CoreData.{CoreData}
 use Rattle.pc_core.specs.declared.declarations.Method.{Method}
-use Rattle.pc_explain.specs.Declarations.{method_line, mismatch_lines, provided_by, stands_lines, wanted_from, wanted_of}
+use Rattle.pc_explain.specs.Declarations.{method_node_line, mismatch_lines, provided_by, stands_lines, wanted_from, wanted_of}
 use Rattle.pc_explain.proofs.declarations.push_mismatch.Goals as goal
 
 pub returns-in-None : goal.returns-in-None
@@ -14,6 +14,6 @@ returns-in-None c =
     let list = c.provided_by.ensures ∙ ap (λ (k : CoreData). provided_by (slice_get k.entities c.args.entity)) c.core-core.ensures in
     let none = c.in-None.ensures ∙ ap (λ (k : CoreData). wanted_from k given c.provided_by.result.now) c.core-core.ensures ∙ ap (wanted_from s.core given) list in
     let wanted : wanted_of s.core c.args.entity given ≡ None = sym none in
-    let line = method_line s given in
+    let line = method_node_line s given in
     c.in_ok-push_method_line.ensures
     ∙ ap (λ (l : List ℕ). c.args.out.now.items ++ l) (sym (ap (λ (w : Option Method). line ++ stands_lines s given w) wanted ∙ append-nil line))

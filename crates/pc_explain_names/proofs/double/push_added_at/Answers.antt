@@ -2,7 +2,7 @@ use Rattle.std.proofs.Common.{◌++◌, codes, ap, ◌∙◌}
 use Rattle.pc_lists.specs.Texts.{line_end}
 use Rattle.pc_tree.specs.View.{entity_view}
 use Rattle.pc_window.proofs.Appends.{ok_after}
-use Rattle.pc_window.specs.Places.{place}
+use Rattle.pc_window.specs.Places.{line_and_column}
 use Rattle.pc_window.specs.Quoting.{piece}
 use Rattle.pc_explain_names.specs.NameLines.{added_at}
 use Rattle.pc_explain_names.proofs.double.push_added_at.Goals as goal
@@ -12,7 +12,7 @@ unfolding added_at
 returns c =
     let r = c.push_bytes-3.result in
     let whole = c.push_bytes-3.new.out.items in
-    let here = place c.args.bytes.now c.args.at in
+    let here = line_and_column c.args.bytes.now c.args.at in
     let words = codes ", and a constructor `create` is added to " in
     let name = piece (entity_view c.args.entity.now).name.text in
     let last = codes ", which has none" ++ line_end in

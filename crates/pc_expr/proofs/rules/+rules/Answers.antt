@@ -199,7 +199,8 @@ expr-returns-in_ok-assigned-in-Ok-clause-gives t c =
     let e = expr_view c.in_ok-e.e in
     let follows : reading.assigns c.look.result.now e ≡ true = sym c.assigns.ensures ∙ c.if-assigns.true in
     let read = reads_becomes c.args.left (reading.inner c.args.left) e c.look.result.now _ _ _ c.in_ok-e.ensures.gives c.look.ensures.here follows in
-    let made = ap (λ o. reading.and_then o (λ r. reading.pure (tree.assign e r (spells.join (tree.span_of e) (tree.span_of r))))) c.in-Ok.ensures.gives in
+    let made = ap (λ o. reading.and_then o
+        (λ r. reading.pure (tree.assign e r (spells.span_from_to (tree.span_of e) (tree.span_of r))))) c.in-Ok.ensures.gives in
     read ∙ made ∙ ap (λ v. Ok (v, drop c.in-Ok.to c.args.tokens.now)) (sym c.in_ok-assigned-in-Ok.ensures.ok)
 
 pub expr-returns-in-Err-clause-gives : goal.expr-returns-in-Err-clause-gives
@@ -207,12 +208,12 @@ expr-returns-in-Err-clause-gives t c =
     let e = expr_view c.in_ok-e.e in
     let follows : reading.assigns c.look.result.now e ≡ true = sym c.assigns.ensures ∙ c.if-assigns.true in
     let read = reads_becomes c.args.left (reading.inner c.args.left) e c.look.result.now _ _ _ c.in_ok-e.ensures.gives c.look.ensures.here follows in
-    rw read (stops_first c.args.tokens.now c.in-Err.stop _ (λ r. reading.pure (tree.assign e r (spells.join (tree.span_of e) (tree.span_of r)))) c.in-Err.ensures.gives)
+    rw read (stops_first c.args.tokens.now c.in-Err.stop _ (λ r. reading.pure (tree.assign e r (spells.span_from_to (tree.span_of e) (tree.span_of r)))) c.in-Err.ensures.gives)
 
 pub arm-returns-in-Ok-clause-gives : goal.arm-returns-in-Ok-clause-gives
 arm-returns-in-Ok-clause-gives t c =
     let made = arm_made c.args.word (reading.seq_in c.args.left (reading.inner c.args.left)) _ _ _ _ _ _ _ c.in_ok-opener.ensures.gives c.in_ok-cond.ensures.gives c.in-Ok.ensures.gives in
-    let spans : spells.join c.in_ok-opener.opener.now.span (tree.seq_span (seq_view c.in-Ok.body)) ≡ c.join-span.result = ap (spells.join c.in_ok-opener.opener.now.span) (seq_spans c.in-Ok.body) ∙ sym c.join-span.ensures in
+    let spans : spells.span_from_to c.in_ok-opener.opener.now.span (tree.seq_span (seq_view c.in-Ok.body)) ≡ c.join-span.result = ap (spells.span_from_to c.in_ok-opener.opener.now.span) (seq_spans c.in-Ok.body) ∙ sym c.join-span.ensures in
     made
     ∙ ap (λ s. Ok (tree.arm_of (seq_view c.in_ok-cond.cond) (seq_view c.in-Ok.body) s, drop c.in-Ok.to c.args.tokens.now)) spans
     ∙ ap (λ a. Ok (a, drop c.in-Ok.to c.args.tokens.now)) (sym (view_arm c.in_ok-cond.cond c.in-Ok.body c.join-span.result))

@@ -4,7 +4,7 @@ use Rattle.pc_token.specs.declared.words.Word.TheVariants as w
 use Rattle.pc_token.specs.declared.signs.Sign.TheVariants as s
 use Rattle.pc_token.specs.Asking.{is_sign, is_word}
 use Rattle.pc_grammar.specs.Reading as r
-use Rattle.pc_expr.specs.Gives.{At}
+use Rattle.pc_expr.specs.Gives.{StandsAtToken}
 use Rattle.pc_expr.specs.Onto as onto
 use Rattle.pc_expr.proofs.Loops.{Loop, Turn}
 use Rattle.pc_expr.proofs.rules.+rules.Given as goal
@@ -93,7 +93,7 @@ decreases-term l = 16 * (length l.tokens.now - l.at) + 6
 abbrev pub invariant-some_args-more : goal.invariant-some_args-more
 invariant-some_args-more l = record {
   past : l.at ≤ l.to;
-  there : At l.tokens l.to;
+  there : StandsAtToken l.tokens l.to;
   reads : Turn (r.after (is_sign s.Comma)) (r.expr_in l.left (r.inner l.left)) (onto.some_args (r.expr_in l.left (r.inner l.left)) (drop l.at l.tokens)) (drop l.to l.tokens) (map expr_view l.args);
 }
 
@@ -103,7 +103,7 @@ decreases-some_args-more l = length l.tokens - l.to
 abbrev pub invariant-more_arms-more : goal.invariant-more_arms-more
 invariant-more_arms-more l = record {
   past : l.at ≤ l.to;
-  there : At l.tokens l.to;
+  there : StandsAtToken l.tokens l.to;
   reads : Loop (r.at (is_word w.ElseifWord)) (r.arm w.ElseifWord (r.seq_in l.left (r.inner l.left))) (onto.more_arms (r.seq_in l.left (r.inner l.left)) (map arm_view l.fn.so_far) (drop l.at l.tokens)) (drop l.to l.tokens) (map arm_view l.arms);
 }
 
@@ -113,7 +113,7 @@ decreases-more_arms-more l = length l.tokens - l.to
 abbrev pub invariant-items-more : goal.invariant-items-more
 invariant-items-more l = record {
   past : l.at ≤ l.to;
-  there : At l.tokens l.to;
+  there : StandsAtToken l.tokens l.to;
   reads : Turn r.next_item (r.item (r.expr_in l.left (r.inner l.left))) (r.and_then (r.item (r.expr_in l.left (r.inner l.left)) (drop l.at l.tokens)) (λ x. onto.more_items l.left (r.inner l.left) (x ∷ []))) (drop l.to l.tokens) (map item_view l.items);
 }
 
@@ -123,7 +123,7 @@ decreases-items-more l = length l.tokens - l.to
 abbrev pub invariant-more_suffixes-more : goal.invariant-more_suffixes-more
 invariant-more_suffixes-more l = record {
   past : l.at ≤ l.to;
-  there : At l.tokens l.to;
+  there : StandsAtToken l.tokens l.to;
   reads : Loop (r.at r.begins_suffix) (r.suffix l.left (r.inner l.left).expr) (onto.more_suffixes l.left (r.inner l.left) (map suffix_view l.fn.so_far) (drop l.at l.tokens)) (drop l.to l.tokens) (map suffix_view l.suffixes);
 }
 
@@ -133,7 +133,7 @@ decreases-more_suffixes-more l = length l.tokens - l.to
 abbrev pub invariant-more_terms-more : goal.invariant-more_terms-more
 invariant-more_terms-more l = record {
   past : l.at ≤ l.to;
-  there : At l.tokens l.to;
+  there : StandsAtToken l.tokens l.to;
   reads : Loop (r.after (r.is_op l.op)) (r.term l.left (r.inner l.left)) (onto.more_terms l.left (r.inner l.left) l.op (map expr_view l.fn.so_far) (drop l.at l.tokens)) (drop l.to l.tokens) (map expr_view l.terms);
 }
 

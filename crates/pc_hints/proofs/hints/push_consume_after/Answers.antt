@@ -1,7 +1,7 @@
 use Rattle.std.proofs.Common.{◌≡◌, ◌++◌, ℕ, List, OnOk, ap, subst, ◌∙◌, Bool}
 use Rattle.std.specs.Prelude.{codes}
 use Rattle.pc_core.specs.declared.nodes.Node.{Node}
-use Rattle.pc_words.specs.Scene.{SceneData, is_var}
+use Rattle.pc_words.specs.Scene.{SceneData, is_var_slot}
 use Rattle.pc_window.proofs.Appends.{ok_after}
 use Rattle.pc_sentences.specs.Stop.{own_slot}
 use Rattle.pc_hints.specs.Hints.{again, consume_after}
@@ -11,8 +11,8 @@ pub returns : goal.returns
 unfolding consume_after
 returns c =
     let m = c.node.result.now.method in
-    let scene = c.is_var-variable.ensures ∙ ap (λ (s : SceneData). is_var s m c.args.slot) c.scene.ensures in
-    let variable = scene ∙ ap (λ (x : Node). is_var c.args.stop.now.scene x.method c.args.slot) c.node.ensures in
+    let scene = c.is_var-variable.ensures ∙ ap (λ (s : SceneData). is_var_slot s m c.args.slot) c.scene.ensures in
+    let variable = scene ∙ ap (λ (x : Node). is_var_slot c.args.stop.now.scene x.method c.args.slot) c.node.ensures in
     ok_after _ _ _ _ _ _ c.in_ok-push_bytes.ensures
     (subst (λ (b : Bool). OnOk c.push_again.result (c.push_again.new.out.items ≡ c.push_bytes.new.out.items ++ again b (own_slot c.args.stop.now c.args.slot) (codes " again in the body")))
     variable

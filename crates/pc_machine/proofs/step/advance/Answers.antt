@@ -2,7 +2,7 @@ use Rattle.std.proofs.Common.{◌≡◌, [], sym, subst}
 use Rattle.std.specs.Prelude.{Option, IsSomeAnd, slice_get}
 use Rattle.pc_semantics.specs.declared.actors.Actor.{Actor}
 use Rattle.pc_tasks.specs.Inside.{amid}
-use Rattle.pc_machine.specs.Plans.{Reaches}
+use Rattle.pc_machine.specs.Plans.{ReachesActor}
 use Rattle.pc_machine.proofs.Allowed.{reached}
 use Rattle.pc_machine.proofs.Stepped.{none_first}
 use Rattle.pc_machine.proofs.step.advance.Goals as goal
@@ -14,5 +14,5 @@ take-requires c =
 pub make_move-requires-clause-reaches : goal.make_move-requires-clause-reaches
 make_move-requires-clause-reaches c =
     let frame = c.in-Some-top.frame.now in
-    subst (λ n. Reaches c.in_ok-plan.plan n) c.len.ensures
+    subst (λ n. ReachesActor c.in_ok-plan.plan n) c.len.ensures
     (reached c.args.core.now (amid c.args.state.now.heap.objects c.args.actor c.len.result) frame (slice_get frame.tasks 0) c.in_ok-plan.plan (c.in_ok-plan.ensures.means c.args.actor))

@@ -1,9 +1,9 @@
 use Rattle.std.proofs.Common.{sym, ◌∙◌, subst}
 use Rattle.std.proofs.lemmas.Result.{err_from_is_err_and}
 use Rattle.pc_tree.specs.View.{file_view}
-use Rattle.pc_members.specs.Chains.{Closes}
+use Rattle.pc_members.specs.Chains.{IsTransitiveClosure}
 use Rattle.pc_members.proofs.Closings.{closes}
-use Rattle.pc_names.specs.Faults.{IsFirst}
+use Rattle.pc_names.specs.Faults.{IsFirstNameFault}
 use Rattle.pc_names.proofs.Passes.{fault_of_names, fault_of_declarations, fault_of_above, want_of_memory, is_collected, own_faults}
 use Rattle.pc_names.proofs.collecting.collect.Goals as goal
 
@@ -23,14 +23,14 @@ returns-in_err-above-clause-err c =
     rw (p.1, p.2) (want_of_memory (file_view c.args.file.now))
 
 pub check_above-requires-clause-closes : goal.check_above-requires-clause-closes
-check_above-requires-clause-closes c = subst (Closes (file_view c.args.file.now)) (sym (c.as_slice.ensures ∙ c.in_ok-above.ensures)) (closes (file_view c.args.file.now))
+check_above-requires-clause-closes c = subst (IsTransitiveClosure (file_view c.args.file.now)) (sym (c.as_slice.ensures ∙ c.in_ok-above.ensures)) (closes (file_view c.args.file.now))
 
 pub returns-in_err-check_above-clause-err : goal.returns-in_err-check_above-clause-err
 returns-in_err-check_above-clause-err c =
     let p = err_from_is_err_and c.from_residual-in_err-check_above.result c.from_residual-in_err-check_above.ensures.1 in
     let f = c.in_err-check_above.field-0.0 in
     let same = own_faults (file_view c.args.file.now) c.as_slice.result.now (c.as_slice.ensures ∙ c.in_ok-above.ensures) in
-    rw (p.1, p.2) (fault_of_above (file_view c.args.file.now) f c.in_ok-entities.ensures.tells c.in_ok-check_declarations.ensures (subst (IsFirst f) same c.in_err-check_above.ensures))
+    rw (p.1, p.2) (fault_of_above (file_view c.args.file.now) f c.in_ok-entities.ensures.tells c.in_ok-check_declarations.ensures (subst (IsFirstNameFault f) same c.in_err-check_above.ensures))
 
 pub returns-in_err-texts-clause-err : goal.returns-in_err-texts-clause-err
 returns-in_err-texts-clause-err c =

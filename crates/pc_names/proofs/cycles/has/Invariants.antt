@@ -1,7 +1,7 @@
 use Rattle.std.proofs.Common.{◌≡◌, drop}
-use Rattle.pc_members.specs.Reach.{has}
+use Rattle.pc_members.specs.Reach.{has_number}
 use Rattle.pc_names.proofs.cycles.has.Given as goal
 
 abbrev pub invariant-loop-number : goal.invariant-loop-number
 invariant-loop-number l =
-    has l.numbers l.wanted ≡ has (drop l.number-index l.numbers) l.wanted
+    has_number l.numbers l.wanted ≡ has_number (drop l.number-index l.numbers) l.wanted

@@ -2,8 +2,8 @@ use Rattle.std.proofs.Common.{◌≤◌, ◌<◌, ◌+◌, ◌∙◌, ℕ, refl,
 use Rattle.std.specs.Prelude.{position}
 use Rattle.pc_outcomes.specs.declared.entry.Entry.{Entry}
 use Rattle.pc_outcomes.specs.declared.entry.Play.{Play}
-use Rattle.pc_outcomes.specs.Plays.{IsPlay}
-use Rattle.pc_outcomes.specs.Tables.{shows, steps_limit}
+use Rattle.pc_outcomes.specs.Plays.{IsPlayOfSeed}
+use Rattle.pc_outcomes.specs.Tables.{shows_outcome, steps_limit}
 use Rattle.pc_outcomes.specs.Under.{Under}
 use Rattle.pc_outcomes.proofs.Adding.{steps_pass, adds_found}
 use Rattle.pc_outcomes.proofs.Finding.{same_play}
@@ -18,7 +18,7 @@ pub returns-in-Some : goal.returns-in-Some
 returns-in-Some c core u is =
     let l : c.args.totals.steps + c.args.play.steps ≤ steps_limit = omega (arith, c.if-steps-gt-STEPS_LIMIT.false, c.from.ensures) in
     let same = same_play c.outcome_of-outcome.result c.args.play c.outcome_of-outcome.ensures.text c.outcome_of-outcome.ensures.ending in
-    let found = sym (c.in-Some.ensures ∙ ap (λ (p : Play). position (λ (e : Entry). shows e p) c.args.entries.now) same) in
+    let found = sym (c.in-Some.ensures ∙ ap (λ (p : Play). position (λ (e : Entry). shows_outcome e p) c.args.entries.now) same) in
     subst (λ (n : ℕ). Under core (c.args.seed + 1) c.count_at.new.self (record { steps = c.args.totals.steps + n; texts = c.args.totals.texts })) (sym c.from.ensures)
     (adds_found core c.args.seed c.args.entries.now c.args.totals u c.args.play is l c.in-Some.at found c.count_at.new.self c.count_at.ensures)
 
@@ -26,4 +26,5 @@ pub returns-in-None : goal.returns-in-None
 returns-in-None c core u is =
     let l : c.args.totals.steps + c.from.result ≤ steps_limit = omega (arith, c.if-steps-gt-STEPS_LIMIT.false) in
     let same = same_play c.outcome_of-outcome.result c.args.play c.outcome_of-outcome.ensures.text c.outcome_of-outcome.ensures.ending in
-    c.add_new.ensures core c.args.totals.steps u (subst (IsPlay core c.args.seed) (sym same) is) (ap (λ (n : ℕ). c.args.totals.steps + n) c.from.ensures) l
+    c.add_new.ensures core c.args.totals.steps u (subst (IsPlayOfSeed core c.args.seed) (sym same) is)
+        (ap (λ (n : ℕ). c.args.totals.steps + n) c.from.ensures) l

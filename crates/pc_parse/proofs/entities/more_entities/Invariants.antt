@@ -2,7 +2,7 @@ use Rattle.std.proofs.Common.{◌-◌, ◌≤◌, length, drop, map}
 use Rattle.pc_tree.specs.View.{entity_view}
 use Rattle.pc_grammar.specs.Reading as r
 use Rattle.pc_grammar.specs.ReadingFile as f
-use Rattle.pc_expr.specs.Gives.{At}
+use Rattle.pc_expr.specs.Gives.{StandsAtToken}
 use Rattle.pc_expr.proofs.Loops.{Loop}
 use Rattle.pc_parse.specs.Parts as parts
 use Rattle.pc_parse.proofs.entities.more_entities.Given as goal
@@ -10,7 +10,7 @@ use Rattle.pc_parse.proofs.entities.more_entities.Given as goal
 abbrev pub invariant-more : goal.invariant-more
 invariant-more l = record {
   past : l.at ≤ l.to;
-  there : At l.tokens l.to;
+  there : StandsAtToken l.tokens l.to;
   reads : Loop (r.at f.begins_entity) (f.entity 199) (parts.more_entities (map entity_view l.fn.so_far) (drop l.at l.tokens)) (drop l.to l.tokens) (map entity_view l.entities);
 }
 

@@ -3,7 +3,7 @@ use Rattle.pc_semantics.specs.Text.{lines}
 use Rattle.pc_io.specs.Change.{change}
 use Rattle.pc_run.specs.declared.counts.Progress.{Progress}
 use Rattle.pc_run.specs.declared.counts.Progress.TheVariants.{Going, TooLong}
-use Rattle.pc_run.specs.Underway.{Reached}
+use Rattle.pc_run.specs.Underway.{ReachedSoFar}
 use Rattle.pc_run.proofs.Whole.{answers_stopped, cut_writes, going_answers, going_writes, summary_stopped, texts_stopped}
 use Rattle.pc_run.proofs.running.put_run.Goals as goal
 
@@ -22,7 +22,7 @@ returns-in_err-put_texts-clause-writes g c list h =
 pub returns-in_err-put_summary-in-Going-clause-writes : goal.returns-in_err-put_summary-in-Going-clause-writes
 returns-in_err-put_summary-in-Going-clause-writes g c list h =
     let machine = c.args.machine.now in
-    let all : Reached machine.core list machine.configuration [] (Going c.in-Going.counts) = subst (Reached machine.core list machine.configuration []) c.in-Going.is h in
+    let all : ReachedSoFar machine.core list machine.configuration [] (Going c.in-Going.counts) = subst (ReachedSoFar machine.core list machine.configuration []) c.in-Going.is h in
     summary_stopped machine.core list machine.configuration c.in-Going.counts all
     c.as_slice.result.now (c.as_slice.ensures ∙ c.printed.ensures) (g.O.Sink.written c.args.out.now) (g.O.Sink.written c.put_texts.new.out) (g.O.Sink.written c.put_summary.new.out)
     (g.O.Sink.faults c.args.out.now) (g.O.Sink.faults c.put_texts.new.out) (g.O.Sink.faults c.put_summary.new.out) c.in_ok-put_texts.ensures.wrote c.in_ok-put_texts.ensures.later

@@ -1,7 +1,7 @@
 use Rattle.std.proofs.Common.{◌+◌, ℕ, List, [], sym, subst, arith}
 use Rattle.std.proofs.lemmas.Result.{IfOk-weaker}
 use Rattle.pc_core.specs.Members.{methods_within}
-use Rattle.pc_sends.specs.Growth.{Grown, Turns}
+use Rattle.pc_sends.specs.Growth.{Grown, TurnsBelow}
 use Rattle.pc_sends.specs.Reached.{ReachedUses, IsUsed}
 use Rattle.pc_sends.proofs.Sent.{entity_used, none_used}
 use Rattle.pc_sends.proofs.messages.used_by.Goals as goal
@@ -17,7 +17,7 @@ returns-in-Some c =
     let core = c.args.noted.now.core.now in
     let ents = c.args.noted.now.entities.now in
     let x = c.in-Some.found.now in
-    IfOk-weaker c.used_from.result (λ (used : List ℕ). Grown (Turns (ReachedUses core ents) x.first_method (x.first_method + x.methods)) [] used) (IsUsed core ents c.args.entity)
+    IfOk-weaker c.used_from.result (λ (used : List ℕ). Grown (TurnsBelow (ReachedUses core ents) x.first_method (x.first_method + x.methods)) [] used) (IsUsed core ents c.args.entity)
     (λ used g. entity_used core ents c.formed.ensures c.args.entity x used (sym c.in-Some.ensures) g) c.used_from.ensures
 
 pub returns-in-None : goal.returns-in-None

@@ -1,5 +1,5 @@
 use Rattle.std.proofs.Common.{◌≡◌, ℕ, [], sym, subst, arith}
-use Rattle.pc_sends.specs.Growth.{Grown, Turns}
+use Rattle.pc_sends.specs.Growth.{Grown, TurnsBelow}
 use Rattle.pc_sends.specs.Reached.{ReachedUses}
 use Rattle.pc_sends.proofs.Grows.{grown_none, grown_turn}
 use Rattle.pc_sends.proofs.Walking.{known_none}
@@ -9,7 +9,7 @@ pub loop-number-init : goal.loop-number-init
 loop-number-init c = record {
   grown =
       let Q = ReachedUses c.args.noted.now.core.now c.args.noted.now.entities.now in
-      subst (Grown (Turns Q c.args.first c.args.first) []) (sym c.new-walk.ensures.found) (grown_none Q c.args.first []);
+      subst (Grown (TurnsBelow Q c.args.first c.args.first) []) (sym c.new-walk.ensures.found) (grown_none Q c.args.first []);
   known = known_none _ _ _ c.new-walk.ensures.calls;
 }
 
@@ -27,4 +27,4 @@ returns c =
     let low = c.loop-number.auto.number-end in
     let ordered = c.requires.ordered in
     let same : c.loop-number.number ≡ c.args.end = omega (arith, high, low ordered) in
-    subst (λ (n : ℕ). Grown (Turns (ReachedUses c.args.noted.now.core.now c.args.noted.now.entities.now) c.args.first n) [] c.loop-number.walk.found) same c.loop-number.invariant.grown
+    subst (λ (n : ℕ). Grown (TurnsBelow (ReachedUses c.args.noted.now.core.now c.args.noted.now.entities.now) c.args.first n) [] c.loop-number.walk.found) same c.loop-number.invariant.grown

@@ -1,11 +1,11 @@
 use Rattle.std.proofs.Common.{[]}
-use Rattle.pc_sends.specs.Growth.{Grown, Turns}
-use Rattle.pc_sends.specs.Uses.{Known}
+use Rattle.pc_sends.specs.Growth.{Grown, TurnsBelow}
+use Rattle.pc_sends.specs.Uses.{CallsAreFound}
 use Rattle.pc_sends.specs.Reached.{ReachedUses}
 use Rattle.pc_sends.proofs.messages.used_from.Given as goal
 
 abbrev pub invariant-loop-number : goal.invariant-loop-number
 invariant-loop-number l = record {
-  grown : Grown (Turns (ReachedUses l.noted.core.now l.noted.entities.now) l.first l.number) [] l.walk.found;
-  known : Known l.noted.core.now l.walk.calls l.walk.found;
+  grown : Grown (TurnsBelow (ReachedUses l.noted.core.now l.noted.entities.now) l.first l.number) [] l.walk.found;
+  known : CallsAreFound l.noted.core.now l.walk.calls l.walk.found;
 }

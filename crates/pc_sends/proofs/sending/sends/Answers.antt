@@ -3,7 +3,7 @@ use Rattle.std.proofs.lemmas.Result.{IfOk-weaker}
 use Rattle.pc_semantics.specs.Runs.{after}
 use Rattle.pc_sends.specs.Entities.{ListsMayBe}
 use Rattle.pc_sends.specs.declared.table.Table.{Table}
-use Rattle.pc_sends.specs.Tables.{IsTable, Tells}
+use Rattle.pc_sends.specs.Tables.{IsTable, TableTells}
 use Rattle.pc_sends.proofs.Tabled.{table_tells}
 use Rattle.pc_sends.proofs.sending.sends.Goals as goal
 
@@ -23,5 +23,5 @@ pub returns-clause-tells : goal.returns-clause-tells
 returns-clause-tells c =
     let core = c.args.core.now in
     let ents = c.args.entities.now in
-    IfOk-weaker c.table_of.result (IsTable core ents) (λ (table : Table). (list : List ℕ) → Tells core table (after core list))
+    IfOk-weaker c.table_of.result (IsTable core ents) (λ (table : Table). (list : List ℕ) → TableTells core table (after core list))
     (λ table is list. table_tells core ents table (after core list) is (c.held_covers.ensures core ents c.formed.ensures c.requires.held list)) c.table_of.ensures

@@ -1,7 +1,7 @@
-use Rattle.pc_sends.specs.Growth.{Grown, Turns}
+use Rattle.pc_sends.specs.Growth.{Grown, TurnsBelow}
 use Rattle.pc_sends.proofs.Grows.{At}
 use Rattle.pc_sends.proofs.Walking.{CalledIn}
 use Rattle.pc_sends.proofs.walk.find_all.Given as goal
 
 abbrev pub invariant-loop-entity : goal.invariant-loop-entity
-invariant-loop-entity l = Grown (Turns (At (CalledIn l.core l.name) l.entities) 0 l.entity-index) l.fn.found l.found
+invariant-loop-entity l = Grown (TurnsBelow (At (CalledIn l.core l.name) l.entities) 0 l.entity-index) l.fn.found l.found

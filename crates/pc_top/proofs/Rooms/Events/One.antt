@@ -5,18 +5,18 @@ use Rattle.pc_core.specs.CoreData.{CoreData}
 use Rattle.pc_lists.specs.Places.{Has}
 use Rattle.pc_lists.specs.Texts.{Text}
 use Rattle.pc_run_events.specs.Events.{AllEvents, Does, EventAt}
-use Rattle.pc_run_events.specs.Lines.{run_text}
+use Rattle.pc_run_events.specs.Lines.{events_text_of_run}
 use Rattle.pc_run_events.specs.declared.events.Deed.{Deed}
 use Rattle.pc_run_events.specs.declared.events.RunEvent.{RunEvent}
 use Rattle.pc_run_events.proofs.One.{one_deed}
 use Rattle.pc_semantics.specs.Runs.{outcomes}
 use Rattle.pc_semantics.specs.Text.{end_of}
 use Rattle.pc_semantics.specs.declared.outcome.Outcome.TheVariants as outcome
-use Rattle.pc_refusals.specs.After.{IsOne}
+use Rattle.pc_refusals.specs.After.{HasOneEnd}
 use Rattle.pc_refusals.specs.Lines.{many_actors_line, too_long_line}
 use Rattle.pc_refusals.specs.Verdict.{refused}
-use Rattle.pc_top.specs.Commands.Events.{Telling}
-use Rattle.pc_top.specs.Commands.Events.Telling.{tells, too_long, too_many}
+use Rattle.pc_top.specs.Commands.Events.{EventsTelling}
+use Rattle.pc_top.specs.Commands.Events.EventsTelling.{tells, too_long, too_many}
 use Rattle.pc_top.proofs.InOrder.{less_apart, order_one}
 use Rattle.pc_top.proofs.Rooms.Trace.Crowding.{one_crowd}
 use Rattle.pc_top.proofs.Rooms.Trace.One.{crowd_apart, one_clock, step_same}
@@ -57,8 +57,9 @@ module _ (core : CoreData) (list : List ℕ) where
   one_list : (xs ys : List RunEvent) → AllEvents core list xs → AllEvents core list ys → xs ≡ ys
   one_list xs ys a b = order_one (λ (t u : RunEvent). t.place < u.place) apart xs ys a.order b.order (within xs ys a b) (within ys xs b a)
 
-  pub one_telling : (name : Text) → IsOne (Telling name core list)
-  one_telling name _ _ (tells xs x h e) (tells ys y k f) = ap (λ (text : Text). Ok text) (e ∙ ap (run_text core) (one_list xs ys h.1 k.1) ∙ sym f)
+  pub one_telling : (name : Text) → HasOneEnd (EventsTelling name core list)
+  one_telling name _ _ (tells xs x h e) (tells ys y k f) =
+      ap (λ (text : Text). Ok text) (e ∙ ap (events_text_of_run core) (one_list xs ys h.1 k.1) ∙ sym f)
   one_telling name _ _ (tells xs x h e) (too_long n k) = absurd (none-some (n, outcome.TooLong) (sym h.0.goes_on ∙ k.0))
   one_telling name _ _ (tells xs x h e) (too_many n k) = absurd (crowd_apart core list n k h.0.few)
   one_telling name _ _ (too_long n h) (tells ys y k f) = absurd (none-some (n, outcome.TooLong) (sym k.0.goes_on ∙ h.0))

@@ -7,11 +7,11 @@ use Rattle.pc_core_relation.specs.Files.{IsCoreOf}
 use Rattle.pc_core_relation.proofs.Ones.{standing_cores_are_made, standing_cores_are_one}
 use Rattle.pc_lex.specs.Answers.{TokenList}
 use Rattle.pc_lists.specs.Texts.{Text}
-use Rattle.pc_names.specs.Names.{OfFile}
+use Rattle.pc_names.specs.Names.{IsNotMemory}
 use Rattle.pc_names.specs.declared.fault.NameFault.{NameFault}
 use Rattle.pc_token.specs.declared.kinds.Token.{Token}
 use Rattle.pc_tree.specs.Tree as t
-use Rattle.pc_refusals.specs.After.{IsOne}
+use Rattle.pc_refusals.specs.After.{HasOneEnd}
 use Rattle.pc_refusals.specs.Named.{Reading, whole}
 use Rattle.pc_refusals.specs.Source.{FileStage}
 use Rattle.pc_refusals.specs.Verdict.{Verdict}
@@ -44,11 +44,11 @@ module _ (laws : Laws) (name : Text) where
         let says = file_says read in
         (laws.refusing.formed says.0 core (record { short = says.2; tokens = says.3; file = file; lexed = says.4; parsed = says.5; stands = stands })).0
 
-    no_fault : {C : Type 0} (core : CoreData) (f : NameFault) → IsCoreOf file core → OfFile f → IsFileFault file f → C
+    no_fault : {C : Type 0} (core : CoreData) (f : NameFault) → IsCoreOf file core → IsNotMemory f → IsFileFault file f → C
     no_fault core f s o (inl h) = let made = standing_cores_are_made file core s in absurd (laws.source.misnamed file f made.0 o h made.1)
     no_fault core f s o (inr h) = absurd (laws.source.misused file core f (standing_cores_are_made file core s) h)
 
-    one_fault : (f g : NameFault) → OfFile f → OfFile g → IsFileFault file f → IsFileFault file g → f ≡ g
+    one_fault : (f g : NameFault) → IsNotMemory f → IsNotMemory g → IsFileFault file f → IsFileFault file g → f ≡ g
     one_fault f g o p (inl h) (inl i) = laws.source.name_fault file f g o p h i
     one_fault f g o p (inl h) (inr i) = absurd (laws.source.misnamed file f i.0 o h i.1)
     one_fault f g o p (inr h) (inl i) = absurd (laws.source.misnamed file g h.0 p i h.1)
@@ -62,7 +62,7 @@ module _ (laws : Laws) (name : Text) where
         let same : CoreText name bytes ts c y = subst (λ (q : List Token). CoreText name bytes q c y) tokens (subst (λ (q : CoreData). CoreText name bytes us q y) cores k) in
         one_core_text bytes ts c (formed c s) x y h same
 
-    one_explaining : IsOne (Explaining name bytes file)
+    one_explaining : HasOneEnd (Explaining name bytes file)
     one_explaining _ _ (has_core {tokens = t} {core = c} {text = x} l s h) (has_core {tokens = u} {core = d} {text = y} m r k) =
         ap (λ (q : Text). Ok q) (one_text t u c d x y l m s r h k)
     one_explaining _ _ (has_core {core = c} l s h) (has_fault f o g) = no_fault c f s o g
@@ -71,7 +71,7 @@ module _ (laws : Laws) (name : Text) where
 
   -- ---- a source
 
-  pub one_explained : (r : Reading) → IsOne (ExplainedStage name r)
+  pub one_explained : (r : Reading) → HasOneEnd (ExplainedStage name r)
   one_explained _ x y (has_tree {bytes = b} {file = f} a h) (has_tree {file = g} c k) =
       let same : g ≡ f = ok_same g f (Ok g) (Ok f) refl refl (one_file laws.source name (whole b) (Ok g) (Ok f) c a) in
       one_explaining b f a x y h (subst (λ (q : t.File). Explaining name b q y) same k)

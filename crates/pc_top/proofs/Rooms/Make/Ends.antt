@@ -12,11 +12,11 @@ use Rattle.pc_run.specs.Ends.{NeverLacks}
 use Rattle.pc_run.specs.Spreading.{spread}
 use Rattle.pc_lists.specs.Texts.{Text}
 use Rattle.pc_refusals.specs.Ends.{TellsPart}
-use Rattle.pc_refusals.specs.Inner.Answering.{Ends, CommandStops}
+use Rattle.pc_refusals.specs.Inner.Answering.{EndsCommand, CommandStops}
 use Rattle.pc_top.specs.Commands.Make.{MadeRun, made_line, made_name}
 use Rattle.pc_refusals.specs.Named.{FailedAt, text_as}
 use Rattle.pc_top.specs.Commands.Run.{Ran}
-use Rattle.pc_refusals.specs.Inner.Stages.{WriteStops}
+use Rattle.pc_refusals.specs.Inner.Stages.{StageWriteStops}
 use Rattle.pc_refusals.specs.Verdict.{Verdict, headed}
 use Rattle.pc_refusals.specs.declared.typing.Accepted.{Accepted}
 use Rattle.pc_refusals.specs.declared.stop.Stop.{Stop}
@@ -54,14 +54,14 @@ module _ (seed size : ℕ) (accepted : Accepted) (safe : NeverLacks accepted.sou
       (headed line v.0, (v.0, v.1, refl), grows_more out.before out.now line v.0.out (length line, subst (λ (t : Text). Appends out.before out.now t) (sym (take-length line)) w))
 
   -- the line was not written
-  unwritten : (out : Change) (s : Stop) → WriteStops line out s → CommandStops (MadeRun seed size accepted) (λ n. ⊥) out s
+  unwritten : (out : Change) (s : Stop) → StageWriteStops line out s → CommandStops (MadeRun seed size accepted) (λ n. ⊥) out s
   unwritten out (Refused status text) w = absurd w
   unwritten out (File n) w = absurd w
   unwritten out Sink w = (w.0, line_part out w.1)
   unwritten out Memory w = inl w
 
-  pub line_stops : (out : Change) (text : Text) (s : Stop) → text ≡ line → WriteStops text out s → CommandStops (MadeRun seed size accepted) (λ n. ⊥) out s
-  line_stops out text s e w = unwritten out s (subst (λ (t : Text). WriteStops t out s) e w)
+  pub line_stops : (out : Change) (text : Text) (s : Stop) → text ≡ line → StageWriteStops text out s → CommandStops (MadeRun seed size accepted) (λ n. ⊥) out s
+  line_stops out text s e w = unwritten out s (subst (λ (t : Text). StageWriteStops t out s) e w)
 
   -- the line was written, and then the run ended so
   module _ (out : Change) (mid : Option Text) (g : ℕ) (later : out.faults_before ≤ g) (written : Appends out.before mid line) where
@@ -74,6 +74,6 @@ module _ (seed size : ℕ) (accepted : Accepted) (safe : NeverLacks accepted.sou
     run_stops Memory (inl k) = inr (line_whole out (Appends-kept out.before mid out.now line written k))
     run_stops Memory (inr v) = inr (behind out mid v.0 v.1 written v.2)
 
-    pub run_ends : (result : Result (Unit {0}) Stop) → Ends Runs (λ n. ⊥) (change mid out.now g out.faults_now) result → Ends (MadeRun seed size accepted) (λ n. ⊥) out result
+    pub run_ends : (result : Result (Unit {0}) Stop) → EndsCommand Runs (λ n. ⊥) (change mid out.now g out.faults_now) result → EndsCommand (MadeRun seed size accepted) (λ n. ⊥) out result
     run_ends (Ok x) t = (headed line t.0, (t.0, t.1, refl), t.2, t.3, Appends-trans out.before mid out.now line t.0.out written t.4)
     run_ends (Err s) t = run_stops s t

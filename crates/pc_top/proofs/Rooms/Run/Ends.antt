@@ -16,7 +16,7 @@ use Rattle.pc_semantics.specs.declared.outcome.Outcome.TheVariants.{Moved, Skipp
 use Rattle.pc_lists.specs.Texts.{Text}
 use Rattle.pc_io.specs.Change.{Change}
 use Rattle.pc_refusals.specs.Ends.{TellsPart}
-use Rattle.pc_refusals.specs.Inner.Answering.{Tells}
+use Rattle.pc_refusals.specs.Inner.Answering.{WritesVerdict}
 use Rattle.pc_refusals.specs.Lines.{too_long_line}
 use Rattle.pc_top.specs.Commands.Run.{Ran}
 use Rattle.pc_top.specs.Commands.Run.Ran.{whole, cut}
@@ -56,11 +56,11 @@ module _ (name : Text) (core : CoreData) (list : List ℕ) where
   -- ---- the answers
 
   module _ (out : Change) where
-    pub run_told : (report : Report) → IsAnswer core list out.faults_before out.faults_now (Ok report) → Appends out.before out.now (run_text core list) → Tells (Ran name core list) out 0 []
+    pub run_told : (report : Report) → IsAnswer core list out.faults_before out.faults_now (Ok report) → Appends out.before out.now (run_text core list) → WritesVerdict (Ran name core list) out 0 []
     run_told report a w = (done (run_text core list), whole a.0, refl, refl, w)
 
     pub cut_told : (n : ℕ) (line : Text) → end_of (outcomes core list) ≡ Some (n, TooLong) → line ≡ too_long_line name n → Appends out.before out.now (run_text core list)
-        → Tells (Ran name core list) out 12 line
+        → WritesVerdict (Ran name core list) out 12 line
     cut_told n line a e w = (stopped 12 (run_text core list) (too_long_line name n), cut n a, refl, sym e, w)
 
     -- the text is there, but for the line of the step

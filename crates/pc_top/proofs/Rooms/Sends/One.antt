@@ -1,8 +1,8 @@
 -- Any two verdicts on who sends what are equal: there is only one table that is exact and in order.
 use Rattle.std.proofs.Common.{◌≡◌, ◌<◌, ℕ, List, ◌++◌, Option, inl, inr, sym, ap, ap₂, ◌∙◌, arith}
 use Rattle.pc_core.specs.CoreData.{CoreData}
-use Rattle.pc_noted_receivers.specs.Noted.{entities}
-use Rattle.pc_sends.specs.Tables.{Before, IsTable}
+use Rattle.pc_noted_receivers.specs.Noted.{noted_entities}
+use Rattle.pc_sends.specs.Tables.{RowBefore, IsTable}
 use Rattle.pc_sends.specs.declared.table.Row.{Row}
 use Rattle.pc_sends.specs.declared.table.Table.{Table}
 use Rattle.pc_refusals.specs.Verdict.{Verdict, done}
@@ -10,7 +10,7 @@ use Rattle.pc_refusals.specs.declared.typing.Accepted.{Accepted}
 use Rattle.pc_top.specs.Commands.Sends.{Sent, never_text, rows_text, table_text}
 use Rattle.pc_top.proofs.InOrder.{less_apart, order_one}
 
-before_apart : (a b : Row) → Before a b → Before b a → ⊥
+before_apart : (a b : Row) → RowBefore a b → RowBefore b a → ⊥
 before_apart a b (inl l) (inl m) = omega (arith, l, m)
 before_apart a b (inl l) (inr m) = let e = m.0 in omega (arith, l, e)
 before_apart a b (inr l) (inl m) = let e = l.0 in omega (arith, m, e)
@@ -19,7 +19,7 @@ before_apart a b (inr l) (inr m) = let p = l.1 in let q = m.1 in omega (arith, p
 module _ (core : CoreData) (ents : List (Option ℕ)) (one other : Table) (t : IsTable core ents one) (u : IsTable core ents other) where
   same_rows : one.rows ≡ other.rows
   same_rows =
-      order_one Before before_apart one.rows other.rows t.order u.order
+      order_one RowBefore before_apart one.rows other.rows t.order u.order
       (λ x h. (u.rows x.from x.target).1 ((t.rows x.from x.target).0 h)) (λ x h. (t.rows x.from x.target).1 ((u.rows x.from x.target).0 h))
 
   same_never : one.never ≡ other.never
@@ -32,4 +32,4 @@ module _ (core : CoreData) (ents : List (Option ℕ)) (one other : Table) (t : I
 
 pub one_sent : (a : Accepted) (v w : Verdict) → Sent a v → Sent a w → v ≡ w
 one_sent a v w (text, (table, t, is), e) (other, (also, u, was), f) =
-    e ∙ ap done (is ∙ same_text a.source.core (entities a.ann) table also t u ∙ sym was) ∙ sym f
+    e ∙ ap done (is ∙ same_text a.source.core (noted_entities a.ann) table also t u ∙ sym was) ∙ sym f

@@ -8,7 +8,7 @@ use Rattle.pc_core.specs.Formed.{Formed}
 use Rattle.pc_core.specs.declared.declarations.Method.{Method}
 use Rattle.pc_lists.proofs.Gets.{get_within}
 use Rattle.pc_noted_receivers.specs.Laws.{AcceptedHeld}
-use Rattle.pc_noted_receivers.specs.Noted.{entities, noted_in}
+use Rattle.pc_noted_receivers.specs.Noted.{noted_entities, noted_in}
 use Rattle.pc_valid.specs.Valid.{Valid}
 use Rattle.pc_semantics.specs.Runs.{after}
 use Rattle.pc_sends.specs.Covering.{HeldCovers}
@@ -19,18 +19,20 @@ use Rattle.pc_sends.proofs.Tabled.{table_tells}
 use Rattle.pc_sends.proofs.There.{reach_below}
 use Rattle.pc_lists.specs.Texts.{Text}
 use Rattle.pc_top.specs.CoresFormed.{CoresAreFormed}
-use Rattle.pc_top.specs.Commands.Sends.{HasName, IsSendsText, NamesAreThere, TablesTell, table_text}
+use Rattle.pc_run_events.specs.Names.{MethodHasName}
+use Rattle.pc_top.specs.Commands.Sends.{IsSendsText, NamesAreThere, TablesTell, table_text}
 
 -- ---- what is noted
 
 -- A valid annotation notes an entity, or none, for each node.
-pub noted_whole : (core : CoreData) (ann : Ann) (ents : List (Option ℕ)) → Valid core ann → ents ≡ entities ann → length ents ≡ length core.nodes
+pub noted_whole : (core : CoreData) (ann : Ann) (ents : List (Option ℕ)) → Valid core ann → ents ≡ noted_entities ann
+    → length ents ≡ length core.nodes
 noted_whole core ann ents v e = ap (λ (l : List (Option ℕ)). length l) e ∙ length-map ann.notes noted_in ∙ v.notes
 
 -- ---- the text
 
 -- The lines of a table are the text of who sends what.
-pub lines_tell : {E : Type 0} (core : CoreData) (ann : Ann) (ents : List (Option ℕ)) (table : Table) (result : Result Text E) → ents ≡ entities ann → IsTable core ents table
+pub lines_tell : {E : Type 0} (core : CoreData) (ann : Ann) (ents : List (Option ℕ)) (table : Table) (result : Result Text E) → ents ≡ noted_entities ann → IsTable core ents table
     → IfOk result (λ text. text ≡ table_text core table) → IfOk result (IsSendsText core ann)
 lines_tell core ann ents table (Ok text) e t is = (table, subst (λ (x : List (Option ℕ)). IsTable core x table) e t, is)
 lines_tell core ann ents table (Err f) e t is = tt
@@ -44,7 +46,7 @@ some_below : {T : Type 0} (xs : List T) (n : ℕ) → n < length xs → IsSome (
 some_below xs n l = let there = get_within xs n l in is_some (slice_get xs n) there.0 there.1
 
 module _ (core : CoreData) (ents : List (Option ℕ)) (formed : Formed core) where
-  method_there : (t : ℕ) (m : Method) → slice_get core.methods t ≡ Some m → HasName core t
+  method_there : (t : ℕ) (m : Method) → slice_get core.methods t ≡ Some m → MethodHasName core t
   method_there t m e =
       let fits = formed.methods t m e in
       (m, e, is_some (slice_get core.entities m.entity) fits.owner fits.is_owner, some_below core.names m.name fits.name)
@@ -55,7 +57,7 @@ module _ (core : CoreData) (ents : List (Option ℕ)) (formed : Formed core) whe
   sender_there : (e t : ℕ) → Sends core ents e t → IsSome (slice_get core.entities e)
   sender_there e t s = subst (λ (k : ℕ). IsSome (slice_get core.entities k)) s.entity (owner_there s.from s.method s.is_method)
 
-  target_there : (e t : ℕ) → Sends core ents e t → HasName core t
+  target_there : (e t : ℕ) → Sends core ents e t → MethodHasName core t
   target_there e t s =
       let below = reach_below core ents formed t (next s.reached s.posts.0) in
       let there = get_within core.methods t below in
@@ -72,6 +74,6 @@ module _ (core : CoreData) (ents : List (Option ℕ)) (formed : Formed core) whe
 pub tables_tell : CoresAreFormed → AcceptedHeld → HeldCovers → TablesTell
 tables_tell formed held covers bytes core ann table of_bytes v is =
     let fits = (formed bytes core of_bytes).0 in (
-      names_there core (entities ann) fits table is,
-      λ list. table_tells core (entities ann) table (after core list) is (covers core (entities ann) fits (held core ann fits v) list),
+      names_there core (noted_entities ann) fits table is,
+      λ list. table_tells core (noted_entities ann) table (after core list) is (covers core (noted_entities ann) fits (held core ann fits v) list),
     )

@@ -13,7 +13,7 @@ use Rattle.pc_swap.specs.Laws.{KeptAreNotApart}
 use Rattle.pc_swap.specs.declared.kept.Kept.{Kept}
 use Rattle.pc_swap.specs.declared.kept.Kept.TheVariants.{SameActor, NotMoved, OneMailbox, BothSpawn}
 use Rattle.pc_lists.specs.Texts.{Text}
-use Rattle.pc_refusals.specs.After.{IsOne}
+use Rattle.pc_refusals.specs.After.{HasOneEnd}
 use Rattle.pc_refusals.specs.Lines.{too_long_line}
 use Rattle.pc_top.specs.Commands.Swap.{IsPlace, Neighbours, SwapText, Swapping, kept_line}
 use Rattle.pc_top.specs.Commands.Swap.SwapText.{exchanged, stay}
@@ -56,7 +56,7 @@ module _ (apart : KeptAreNotApart) (line : LinesAreOne) where
   one_text core t x y (stay reason end k is) (stay other last m was) =
       is ∙ ap kept_line (one_reason core (after core t.front) t.i t.j reason other k m) ∙ sym was
 
-  pub one_swapping : (name : Text) (core : CoreData) (list : List ℕ) (place : ℕ) → IsOne (Swapping name core list place)
+  pub one_swapping : (name : Text) (core : CoreData) (list : List ℕ) (place : ℕ) → HasOneEnd (Swapping name core list place)
   one_swapping name core list place _ _ (tells t x a h) (tells u y b k) =
       ap (λ (text : Text). Ok text) (one_text core t x y h (subst (λ (n : Neighbours). SwapText core n y) (neighbours_one list place u t b a) k))
   one_swapping name core list place _ _ (tells t x a h) (no_place past) = let within = stands_within list place t a in absurd (omega (arith, within, past))

@@ -15,7 +15,7 @@ use Rattle.pc_semantics.specs.declared.outcome.Outcome.TheVariants as outcome
 use Rattle.pc_trace.specs.Traces.{AllTouches, TooManyAt, TouchAt, actor_limit}
 use Rattle.pc_trace.specs.declared.touch.Touch.{Touch}
 use Rattle.pc_lists.specs.Texts.{Text}
-use Rattle.pc_refusals.specs.After.{IsOne}
+use Rattle.pc_refusals.specs.After.{HasOneEnd}
 use Rattle.pc_refusals.specs.Lines.{many_actors_line, too_long_line}
 use Rattle.pc_top.specs.Commands.Trace.{Tracing, trace_text}
 use Rattle.pc_top.specs.Commands.Trace.Tracing.{tells, too_long, too_many}
@@ -97,7 +97,7 @@ module _ (core : CoreData) (list : List ℕ) where
   pub crowd_apart : (n : ℕ) → TooManyAt core list n → length (after core list).actors ≤ actor_limit → ⊥
   crowd_apart n m few = let many = crowded core list n m in omega (arith, many, few)
 
-  pub one_tracing : (name : Text) → IsOne (Tracing name core list)
+  pub one_tracing : (name : Text) → HasOneEnd (Tracing name core list)
   one_tracing name _ _ (tells xs x h e) (tells ys y k f) = ap (λ (text : Text). Ok text) (e ∙ ap trace_text (one_list xs ys h.1 k.1) ∙ sym f)
   one_tracing name _ _ (tells xs x h e) (too_long n k) = absurd (none-some (n, outcome.TooLong) (sym h.0.goes_on ∙ k.0))
   one_tracing name _ _ (tells xs x h e) (too_many n k) = absurd (crowd_apart n k h.0.few)

@@ -11,7 +11,7 @@ use Rattle.pc_refusals.specs.Verdict.{EndsWith}
 use Rattle.pc_refusals.specs.declared.typing.Accepted.{Accepted}
 use Rattle.pc_refusals.proofs.Ending.{both_answer, both_stop, last_ends}
 use Rattle.pc_refusals.proofs.Scheduled.{few_turns}
-use Rattle.pc_top.specs.Commands.Events.{Telling}
+use Rattle.pc_top.specs.Commands.Events.{EventsTelling}
 use Rattle.pc_top.specs.Shapes.{UnreadScheduled}
 use Rattle.pc_top.proofs.Deriving.{accepted_core_safe}
 use Rattle.pc_top.proofs.commands.events.tell_events.Goals as goal
@@ -22,7 +22,7 @@ returns-in_err-read-clause-answers g c =
     let s = c.args.source.now in
     let d = c.args.schedule.now in
     let files = files_change (g.F.Files.bytes c.args.files.now) (g.F.Files.faults c.args.files.now) (g.F.Files.faults c.read_scheduled.new.files) (g.F.Files.taken c.read_scheduled.new.files) in
-    rw (p.1, p.2) (both_stop source_limit schedule_limit (AcceptedStage s) (ScheduleStage d) (λ (a : Accepted) (turns : List Turn). EndsWith (Telling d a.source.core (spread turns))) _ (named files s) (named files d) _ (λ n f. inl f) (λ n p f. inr (p, f)) c.in_err-read.ensures.reads)
+    rw (p.1, p.2) (both_stop source_limit schedule_limit (AcceptedStage s) (ScheduleStage d) (λ (a : Accepted) (turns : List Turn). EndsWith (EventsTelling d a.source.core (spread turns))) _ (named files s) (named files d) _ (λ n f. inl f) (λ n p f. inr (p, f)) c.in_err-read.ensures.reads)
 
 pub tell_turns-requires-clause-safe : goal.tell_turns-requires-clause-safe
 tell_turns-requires-clause-safe g c = accepted_core_safe c.cores_of_sources_are_formed.ensures c.valid_is_safe.ensures c.in_ok-read.ensures.reads.0.2
@@ -36,5 +36,6 @@ returns-clause-answers g c =
     let d = c.args.schedule.now in
     let files = files_change (g.F.Files.bytes c.args.files.now) (g.F.Files.faults c.args.files.now) (g.F.Files.faults c.read_scheduled.new.files) (g.F.Files.taken c.read_scheduled.new.files) in
     let read = c.in_ok-read.read in
-    both_answer source_limit schedule_limit (AcceptedStage s) (ScheduleStage d) (λ (a : Accepted) (turns : List Turn). EndsWith (Telling d a.source.core (spread turns))) (UnreadScheduled (named files s) (named files d)) (named files s) (named files d) read.accepted read.turns c.in_ok-read.ensures.reads c.tell_turns.result
-    (last_ends (Telling d read.accepted.source.core (spread read.turns)) (λ n. ⊥) c.tell_turns.result (rw (← c.as_slice.ensures) c.tell_turns.ensures))
+    both_answer source_limit schedule_limit (AcceptedStage s) (ScheduleStage d) (λ (a : Accepted) (turns : List Turn). EndsWith (EventsTelling d a.source.core (spread turns))) (UnreadScheduled (named files s) (named files d)) (named files s) (named files d) read.accepted read.turns c.in_ok-read.ensures.reads c.tell_turns.result
+    (last_ends (EventsTelling d read.accepted.source.core (spread read.turns)) (λ n. ⊥) c.tell_turns.result
+        (rw (← c.as_slice.ensures) c.tell_turns.ensures))

@@ -1,4 +1,4 @@
-use Rattle.pc_top.specs.Commands.Events.Telling.{tells}
+use Rattle.pc_top.specs.Commands.Events.EventsTelling.{tells}
 use Rattle.pc_top.proofs.Rooms.Events.Stops.{long_told, many_told}
 use Rattle.pc_top.proofs.commands.events.tell_list.Goals as goal
 

@@ -8,7 +8,7 @@ use Rattle.pc_run.specs.Spreading.{spread}
 use Rattle.pc_sched.specs.declared.turns.Turn.{Turn}
 use Rattle.pc_lists.specs.Texts.{Text}
 use Rattle.pc_refusals.specs.Accepting.{AcceptedStage}
-use Rattle.pc_refusals.specs.Inner.Answering.{Ends}
+use Rattle.pc_refusals.specs.Inner.Answering.{EndsCommand}
 use Rattle.pc_refusals.specs.Lines.{counts_line}
 use Rattle.pc_top.specs.Commands.Make.{IsMade, MadeRun, made_line, made_name, made_text}
 use Rattle.pc_refusals.specs.Named.{text_as}
@@ -57,7 +57,7 @@ returns-clause-ends g c =
     c.as_slice.ensures ∙ (c.in_ok-line.ensures ∙ ap (λ (nodes : List Node). counts_line seed size (length nodes)) c.nodes.ensures) in
     let written = subst (λ (t : Text). Appends (g.O.Sink.written c.args.out.now) mid t) line c.in_ok-put_text.ensures.wrote in
     let turns : c.as_slice-2.result.now ≡ schedule size = c.as_slice-2.ensures ∙ c.in_ok-turns.ensures.turns in
-    let ran = subst (λ (ts : List Turn). Ends (Ran made_name core (spread ts)) (λ n. ⊥) (change mid now faults (g.O.Sink.faults c.run_turns.new.out)) c.run_turns.result) turns c.run_turns.ensures.ends in
+    let ran = subst (λ (ts : List Turn). EndsCommand (Ran made_name core (spread ts)) (λ n. ⊥) (change mid now faults (g.O.Sink.faults c.run_turns.new.out)) c.run_turns.result) turns c.run_turns.ensures.ends in
     let safe = accepted_lacks_nothing c.cores_of_sources_are_formed.ensures c.accepted_never_lacks.ensures c.in_ok-accepted.ensures.2 in
     part_ends source_limit (AcceptedStage made_name) (MadeRun seed size) (λ n. ⊥) (text_as made_name (made_text seed size)) (λ n. ⊥) accepted (λ n f. f) c.in_ok-accepted.ensures out c.run_turns.result
     (run_ends seed size accepted safe out mid faults c.in_ok-put_text.ensures.later written c.run_turns.result ran)

@@ -2,7 +2,7 @@ use Rattle.std.proofs.lemmas.Result.{err_from_is_err_and}
 use Rattle.std.proofs.Common.{arith}
 use Rattle.pc_refusals.specs.Named.{files_change}
 use Rattle.pc_refusals.proofs.Ending.{last_ends}
-use Rattle.pc_top.specs.Commands.Outcomes.{IsCount, Tabled, Telling}
+use Rattle.pc_top.specs.Commands.Outcomes.{IsCount, Tabled, OutcomesTelling}
 use Rattle.pc_top.proofs.Deriving.{accepted_lacks_nothing}
 use Rattle.pc_top.proofs.NumberRoom.{is_number, number_answers, number_stops}
 use Rattle.pc_top.proofs.commands.outcomes.tell_outcomes.Goals as goal
@@ -29,4 +29,4 @@ returns-clause-answers g c =
     let files = files_change (g.F.Files.bytes c.args.files.now) (g.F.Files.faults c.args.files.now) (g.F.Files.faults c.accept_numbered.new.files) (g.F.Files.taken c.accept_numbered.new.files) in
     let read = c.in_ok-read.read in
     number_answers (IsCount c.args.count.now) (Tabled source) files source c.count_of.result c.count_of.ensures read c.in_ok-read.ensures.reads _
-    (last_ends (Telling source read.accepted.source.core read.number) (λ n. ⊥) _ c.write_outcomes.ensures)
+    (last_ends (OutcomesTelling source read.accepted.source.core read.number) (λ n. ⊥) _ c.write_outcomes.ensures)

@@ -5,7 +5,7 @@ use Rattle.pc_run.specs.Ends.{NeverLacks}
 use Rattle.pc_run.specs.Spreading.{spread}
 use Rattle.pc_io.specs.Change.{change}
 use Rattle.pc_refusals.specs.Ends.{TellsPart}
-use Rattle.pc_refusals.specs.Inner.Answering.{Tells}
+use Rattle.pc_refusals.specs.Inner.Answering.{WritesVerdict}
 use Rattle.pc_top.specs.Commands.Run.{Ran}
 use Rattle.pc_top.proofs.Rooms.Run.Ends.{cut_part, cut_told, run_part, run_told}
 use Rattle.pc_top.proofs.commands.run.run_turns.Goals as goal
@@ -17,7 +17,7 @@ pub returns-in-Ok-clause-ends : goal.returns-in-Ok-clause-ends
 returns-in-Ok-clause-ends g c =
     let list = spread c.args.turns.now in
     let out = change (g.O.Sink.written c.args.out.now) (g.O.Sink.written c.run.new.out) (g.O.Sink.faults c.args.out.now) (g.O.Sink.faults c.run.new.out) in
-    subst (λ (x : CoreData). Tells (Ran c.args.name.now x list) out 0 []) c.in_ok-machine.ensures.core
+    subst (λ (x : CoreData). WritesVerdict (Ran c.args.name.now x list) out 0 []) c.in_ok-machine.ensures.core
     (run_told c.args.name.now c.in_ok-machine.machine.core list out c.in-Ok.field-0 c.in-Ok.ensures.answers c.in-Ok.ensures.writes)
 
 pub returns-in_err-make_too_long_line-in-Err-TooLong-clause-ends :
@@ -39,7 +39,7 @@ returns-in-Err-TooLong-clause-ends g c =
     let out = change (g.O.Sink.written c.args.out.now) (g.O.Sink.written c.run.new.out) (g.O.Sink.faults c.args.out.now) (g.O.Sink.faults c.run.new.out) in
     let answers = rw c.in-Err-TooLong.field-0-is at c.in-Err-TooLong.ensures.answers in
     let writes = rw c.in-Err-TooLong.field-0-is at c.in-Err-TooLong.ensures.writes in
-    subst (λ (x : CoreData). Tells (Ran c.args.name.now x list) out 12 line) c.in_ok-machine.ensures.core
+    subst (λ (x : CoreData). WritesVerdict (Ran c.args.name.now x list) out 12 line) c.in_ok-machine.ensures.core
     (cut_told c.args.name.now c.in_ok-machine.machine.core list out c.in-Err-TooLong.step line answers c.in_ok-make_too_long_line-in-Err-TooLong.ensures writes)
 
 pub returns-in-Err-Sink-clause-ends : goal.returns-in-Err-Sink-clause-ends

@@ -2,7 +2,7 @@
 ghost use Rattle.std.specs.Prelude.{◌≡◌, ◌≤◌, drop, IfOk, Ok};
 ghost use Rattle.pc_tree.specs.View.{expr_view};
 ghost use Rattle.pc_grammar.specs.Reading as reading;
-ghost use Rattle.pc_expr.specs.Gives.{At, Moves, Gives};
+ghost use Rattle.pc_expr.specs.Gives.{StandsAtToken, Moves, GivesReading};
 ghost use Rattle.pc_expr.specs.Onto as onto;
 
 use crate::stop::ParseStop;
@@ -16,8 +16,8 @@ use std::alloc::Global;
 /// A name.
 #[tactic(auto, unfolding(pc_grammar::specs::Reading::name, pc_grammar::specs::Reading::peek, pc_grammar::specs::Reading::take_if))]
 pub fn name(alloc: Global, tokens: &[Token], at: usize) -> Result<(Name, usize), ParseStop>
-    requires { At tokens.now at }
-    ensures gives { Gives (λ m. m) tokens.now result (reading.name (drop at tokens.now)) }
+    requires { StandsAtToken tokens.now at }
+    ensures gives { GivesReading (λ m. m) tokens.now result (reading.name (drop at tokens.now)) }
     ensures moves { IfOk result (λ r. Moves tokens.now at r.1) }
 {
     let token = look(tokens, at);
@@ -40,8 +40,8 @@ pub fn name(alloc: Global, tokens: &[Token], at: usize) -> Result<(Name, usize),
 /// A type name.
 #[tactic(auto, unfolding(pc_grammar::specs::Reading::type_name, pc_grammar::specs::Reading::peek, pc_grammar::specs::Reading::take_if))]
 pub fn type_name(alloc: Global, tokens: &[Token], at: usize) -> Result<(Name, usize), ParseStop>
-    requires { At tokens.now at }
-    ensures gives { Gives (λ m. m) tokens.now result (reading.type_name (drop at tokens.now)) }
+    requires { StandsAtToken tokens.now at }
+    ensures gives { GivesReading (λ m. m) tokens.now result (reading.type_name (drop at tokens.now)) }
     ensures moves { IfOk result (λ r. Moves tokens.now at r.1) }
 {
     let token = look(tokens, at);
@@ -64,9 +64,9 @@ pub fn type_name(alloc: Global, tokens: &[Token], at: usize) -> Result<(Name, us
 /// A capability, if one is written, and the place after it.
 #[tactic(auto, using(crate::proofs::Ends::is_cap_not_end), unfolding(pc_grammar::specs::Reading::maybe_cap, pc_grammar::specs::Reading::peek, pc_grammar::specs::Reading::take_if))]
 pub fn maybe_cap(tokens: &[Token], at: usize) -> (Option<Cap>, usize)
-    requires { At tokens.now at }
+    requires { StandsAtToken tokens.now at }
     ensures gives { reading.maybe_cap (drop at tokens.now) ≡ Ok (result.0, drop result.1 tokens.now) }
-    ensures moves { (at ≤ result.1) × At tokens.now result.1 }
+    ensures moves { (at ≤ result.1) × StandsAtToken tokens.now result.1 }
 {
     match cap_of(look(tokens, at)) {
         Some(cap) => (Some(cap), at + 1),
@@ -81,8 +81,8 @@ pub fn written_type(
     tokens: &[Token],
     at: usize,
 ) -> Result<(TypeRef, usize), ParseStop>
-    requires { At tokens.now at }
-    ensures gives { Gives (λ m. m) tokens.now result (reading.written_type (drop at tokens.now)) }
+    requires { StandsAtToken tokens.now at }
+    ensures gives { GivesReading (λ m. m) tokens.now result (reading.written_type (drop at tokens.now)) }
     ensures moves { IfOk result (λ r. Moves tokens.now at r.1) }
 {
     let (name, to) = type_name(alloc, tokens, at)?;
@@ -98,9 +98,9 @@ pub fn maybe_type(
     tokens: &[Token],
     at: usize,
 ) -> Result<(Option<TypeRef>, usize), ParseStop>
-    requires { At tokens.now at }
-    ensures gives { Gives (λ m. m) tokens.now result (reading.maybe_type (drop at tokens.now)) }
-    ensures moves { IfOk result (λ r. (at ≤ r.1) × At tokens.now r.1) }
+    requires { StandsAtToken tokens.now at }
+    ensures gives { GivesReading (λ m. m) tokens.now result (reading.maybe_type (drop at tokens.now)) }
+    ensures moves { IfOk result (λ r. (at ≤ r.1) × StandsAtToken tokens.now r.1) }
 {
     if !is_sign(look(tokens, at), Sign::Colon) {
         return Ok((None, at));
@@ -113,8 +113,8 @@ pub fn maybe_type(
 /// A name as an expression.
 #[tactic(auto, using(pc_tree::proofs::Views::view_name), unfolding(crate::specs::Onto::named))]
 pub fn named(alloc: Global, tokens: &[Token], at: usize) -> Result<(Expr, usize), ParseStop>
-    requires { At tokens.now at }
-    ensures gives { Gives expr_view tokens.now result (onto.named (drop at tokens.now)) }
+    requires { StandsAtToken tokens.now at }
+    ensures gives { GivesReading expr_view tokens.now result (onto.named (drop at tokens.now)) }
     ensures moves { IfOk result (λ r. Moves tokens.now at r.1) }
 {
     let (name, to) = name(alloc, tokens, at)?;
@@ -124,8 +124,8 @@ pub fn named(alloc: Global, tokens: &[Token], at: usize) -> Result<(Expr, usize)
 /// A type name as an expression.
 #[tactic(auto, using(pc_tree::proofs::Views::view_type_name), unfolding(crate::specs::Onto::type_named))]
 pub fn type_named(alloc: Global, tokens: &[Token], at: usize) -> Result<(Expr, usize), ParseStop>
-    requires { At tokens.now at }
-    ensures gives { Gives expr_view tokens.now result (onto.type_named (drop at tokens.now)) }
+    requires { StandsAtToken tokens.now at }
+    ensures gives { GivesReading expr_view tokens.now result (onto.type_named (drop at tokens.now)) }
     ensures moves { IfOk result (λ r. Moves tokens.now at r.1) }
 {
     let (name, to) = type_name(alloc, tokens, at)?;
@@ -135,8 +135,8 @@ pub fn type_named(alloc: Global, tokens: &[Token], at: usize) -> Result<(Expr, u
 /// `consume` and a name.
 #[tactic(auto, using(pc_tree::proofs::Views::view_consume), unfolding(pc_grammar::specs::Reading::consume))]
 pub fn consume(alloc: Global, tokens: &[Token], at: usize) -> Result<(Expr, usize), ParseStop>
-    requires { At tokens.now at }
-    ensures gives { Gives expr_view tokens.now result (reading.consume (drop at tokens.now)) }
+    requires { StandsAtToken tokens.now at }
+    ensures gives { GivesReading expr_view tokens.now result (reading.consume (drop at tokens.now)) }
     ensures moves { IfOk result (λ r. Moves tokens.now at r.1) }
 {
     let (opener, begin) = take_word(tokens, at, Word::ConsumeWord)?;
@@ -148,8 +148,8 @@ pub fn consume(alloc: Global, tokens: &[Token], at: usize) -> Result<(Expr, usiz
 /// A text literal.
 #[tactic(auto, using(pc_tree::proofs::Views::view_text), unfolding(crate::specs::Onto::text_at, pc_grammar::specs::Reading::peek, pc_grammar::specs::Reading::take_if))]
 pub fn text(alloc: Global, tokens: &[Token], at: usize) -> Result<(Expr, usize), ParseStop>
-    requires { At tokens.now at }
-    ensures gives { Gives expr_view tokens.now result (onto.text_at (drop at tokens.now)) }
+    requires { StandsAtToken tokens.now at }
+    ensures gives { GivesReading expr_view tokens.now result (onto.text_at (drop at tokens.now)) }
     ensures moves { IfOk result (λ r. Moves tokens.now at r.1) }
 {
     let token = look(tokens, at);

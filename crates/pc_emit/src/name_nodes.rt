@@ -3,9 +3,9 @@ ghost use Rattle.std.specs.Prelude.{◌≡◌, ◌∷◌, [], if◌then◌else�
 ghost use Rattle.pc_core.specs.declared.nodes.NodeKind.TheVariants as kinds;
 ghost use Rattle.pc_body_spec.specs.Roses as roses;
 ghost use Rattle.pc_body_spec.specs.Roses.{put};
-ghost use Rattle.pc_body_spec.specs.Scopes.{resolve, type_meaning, slot_of as slot_in, constructor_named as constructor_in, text_of as text_in};
+ghost use Rattle.pc_body_spec.specs.Scopes.{resolve, type_meaning, slot_named as slot_in, constructor_named as constructor_in, number_of_text as text_in};
 ghost use Rattle.pc_body_spec.specs.Expressions as spec;
-ghost use Rattle.pc_emit.specs.Giving.{Gives};
+ghost use Rattle.pc_emit.specs.Giving.{GivesNodes};
 ghost use Rattle.pc_emit.specs.Closing.{name_closes};
 
 use crate::nodes::{double, gap, leaf, single};
@@ -23,7 +23,7 @@ pub(crate) fn read_name(
     nodes: &mut List<Node>,
     name: &Name,
 ) -> Result<u32, EmitStop>
-    ensures { Gives result nodes.new (put setting.now.number (spec.read_name setting.now.context.now name.now setting.now.depth (resolve setting.now.context.now scope.now name.now.text)) nodes.old) }
+    ensures { GivesNodes result nodes.new (put setting.now.number (spec.read_name setting.now.context.now name.now setting.now.depth (resolve setting.now.context.now scope.now name.now.text)) nodes.old) }
 {
     match setting.context.resolve(scope, name.text.as_slice()) {
         Meaning::Local(slot) => leaf(setting, nodes, NodeKind::Local(slot), name.span),
@@ -34,7 +34,7 @@ pub(crate) fn read_name(
 
 // Reading a field of `this`.
 fn read_field(setting: &Setting, nodes: &mut List<Node>, name: &Name) -> Result<u32, EmitStop>
-    ensures { Gives result nodes.new (put setting.now.number (spec.read_field setting.now.context.now name.now.span name.now setting.now.depth (spec.added_this name.now setting.now.depth)) nodes.old) }
+    ensures { GivesNodes result nodes.new (put setting.now.number (spec.read_field setting.now.context.now name.now.span name.now setting.now.depth (spec.added_this name.now setting.now.depth)) nodes.old) }
 {
     let this = leaf(setting, nodes, NodeKind::This, name.span)?;
     let kind = NodeKind::Field(setting.context.text_of(name.text.as_slice()));
@@ -51,7 +51,7 @@ pub(crate) fn write_name(
     name: &Name,
     value: u32,
 ) -> Result<u32, EmitStop>
-    ensures { Gives result nodes.new (name_closes setting.now.context.now setting.now.number setting.now.depth span name.now (resolve setting.now.context.now scope.now name.now.text) value nodes.old) }
+    ensures { GivesNodes result nodes.new (name_closes setting.now.context.now setting.now.number setting.now.depth span name.now (resolve setting.now.context.now scope.now name.now.text) value nodes.old) }
 {
     match setting.context.resolve(scope, name.text.as_slice()) {
         Meaning::Local(slot) => single(setting, nodes, NodeKind::Assign(slot), span, value),
@@ -69,7 +69,7 @@ pub(crate) fn write_field(
     name: &Name,
     value: u32,
 ) -> Result<u32, EmitStop>
-    ensures { Gives result nodes.new (roses.and_then (roses.push setting.now.number kinds.This name.now.span setting.now.depth [] nodes.old) (λ this. roses.push setting.now.number (kinds.SetField (text_in setting.now.context.now name.now.text)) span setting.now.depth (value ∷ this ∷ []))) }
+    ensures { GivesNodes result nodes.new (roses.and_then (roses.push setting.now.number kinds.This name.now.span setting.now.depth [] nodes.old) (λ this. roses.push setting.now.number (kinds.SetField (text_in setting.now.context.now name.now.text)) span setting.now.depth (value ∷ this ∷ []))) }
 {
     let this = leaf(setting, nodes, NodeKind::This, name.span)?;
     let kind = NodeKind::SetField(setting.context.text_of(name.text.as_slice()));
@@ -83,7 +83,7 @@ pub(crate) fn read_text(
     bytes: &SharedList<u8>,
     span: Span,
 ) -> Result<u32, EmitStop>
-    ensures { Gives result nodes.new (put setting.now.number (roses.leaf (kinds.Text bytes.now) span setting.now.depth) nodes.old) }
+    ensures { GivesNodes result nodes.new (put setting.now.number (roses.leaf (kinds.Text bytes.now) span setting.now.depth) nodes.old) }
 {
     leaf(setting, nodes, NodeKind::Text(bytes.share()?), span)
 }
@@ -94,7 +94,7 @@ pub(crate) fn read_type(
     nodes: &mut List<Node>,
     name: &Name,
 ) -> Result<u32, EmitStop>
-    ensures { Gives result nodes.new (put setting.now.number (spec.read_type name.now setting.now.depth (type_meaning setting.now.context.now name.now.text)) nodes.old) }
+    ensures { GivesNodes result nodes.new (put setting.now.number (spec.read_type name.now setting.now.depth (type_meaning setting.now.context.now name.now.text)) nodes.old) }
 {
     match setting.context.type_meaning(name.text.as_slice()) {
         TypeMeaning::Primitive(entity) => {
@@ -117,7 +117,7 @@ fn create(
     actor: bool,
     constructors: &Constructors,
 ) -> Result<u32, EmitStop>
-    ensures { Gives result nodes.new (put setting.now.number (spec.new_object actor span setting.now.depth roses.no_roses (constructor_in constructors.now spec.create_name)) nodes.old) }
+    ensures { GivesNodes result nodes.new (put setting.now.number (spec.new_object_rose actor span setting.now.depth roses.no_roses (constructor_in constructors.now spec.create_name)) nodes.old) }
 {
     match constructors.find(b"create") {
         Some(method) => leaf(setting, nodes, object_kind(actor, method), span),
@@ -144,7 +144,7 @@ pub(crate) fn consume(
     name: &Name,
     span: Span,
 ) -> Result<u32, EmitStop>
-    ensures { Gives result nodes.new (put setting.now.number (spec.consumed span setting.now.depth (slot_in scope.now name.now.text)) nodes.old) }
+    ensures { GivesNodes result nodes.new (put setting.now.number (spec.consumed span setting.now.depth (slot_in scope.now name.now.text)) nodes.old) }
 {
     match slot_of(scope, name.text.as_slice()) {
         Some(slot) => leaf(setting, nodes, NodeKind::Consume(slot), span),

@@ -178,9 +178,9 @@ impl Named for Form {
 }
 
 /// What follows these bytes.
-#[tactic(auto, unfolding(crate::specs::Reading::after))]
+#[tactic(auto, unfolding(crate::specs::Reading::after_bytes))]
 pub fn after<'a>(text: &'a [u8], word: &[u8]) -> Option<&'a [u8]>
-    ensures { option_map (λ r. r.now) result ≡ reading.after word.now text.now }
+    ensures { option_map (λ r. r.now) result ≡ reading.after_bytes word.now text.now }
 {
     if text.starts_with(word) {
         Some(&text[word.len()..])
@@ -201,7 +201,7 @@ fn after_word<'a>(text: &'a [u8], word: &str, end: u8) -> Option<&'a [u8]>
 // The first of these whose name, followed by the byte that ends it, is at the start, and what follows.
 #[tactic(auto, using(crate::proofs::NameSteps::named_here, crate::proofs::NameSteps::named_on))]
 fn first_named<'a, T: Named>(things: &[T], end: u8, text: &'a [u8]) -> Option<(T, &'a [u8])>
-    ensures { option_map (λ r. (r.0, r.1.now)) result ≡ reading.named_at T.spelling end things.now text.now }
+    ensures { option_map (λ r. (r.0, r.1.now)) result ≡ reading.read_named T.spelling end things.now text.now }
 {
     for thing in things {
         if let Some(rest) = after_word(text, thing.name(), end) {

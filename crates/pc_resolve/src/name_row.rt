@@ -43,7 +43,7 @@ impl NameRow {
     /// Whether the name is one of these.
     #[tactic(auto, using(crate::proofs::Found::is_among_table))]
     pub(crate) fn has(&self, name: &[u8]) -> bool
-        ensures { result ≡ spec.is_among self.now name.now }
+        ensures { result ≡ spec.is_among_names self.now name.now }
     {
         self.names.has(name)
     }

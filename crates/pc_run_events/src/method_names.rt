@@ -7,7 +7,7 @@ use std::alloc::AllocError;
 
 /// Appends the name of an entity, by its number; nothing if there is no such entity.
 pub fn push_entity(text: &mut Vec<u8>, core: &Core, entity: u32) -> Result<(), AllocError>
-    ensures { OnOk result (text.new.items ≡ text.old.items ++ spec.entity_name (slice_get core.now.entities entity)) }
+    ensures { OnOk result (text.new.items ≡ text.old.items ++ spec.name_of_entity (slice_get core.now.entities entity)) }
 {
     match core.entity_at(entity) {
         Some(found) => text.extend_from_slice(found.name.as_slice()),
@@ -17,7 +17,7 @@ pub fn push_entity(text: &mut Vec<u8>, core: &Core, entity: u32) -> Result<(), A
 
 // Appends the name with this number.
 fn push_name(text: &mut Vec<u8>, core: &Core, name: u32) -> Result<(), AllocError>
-    ensures { OnOk result (text.new.items ≡ text.old.items ++ spec.name_text (slice_get core.now.names name)) }
+    ensures { OnOk result (text.new.items ≡ text.old.items ++ spec.name_or_nothing (slice_get core.now.names name)) }
 {
     match core.name_at(name) {
         Some(found) => text.extend_from_slice(found.as_slice()),

@@ -1,6 +1,6 @@
 use Rattle.std.proofs.Common.{◌∙◌}
 use Rattle.pc_deriv.proofs.RuleLetters.{any_letter, letter_a, letter_b, letter_c, letter_d, letter_e, letter_g, letter_i, letter_j, letter_l, letter_n, letter_p, letter_r, letter_s, letter_t, letter_w}
-use Rattle.pc_deriv.proofs.names.rule_at.Goals as goal
+use Rattle.pc_deriv.proofs.vocabulary.rule_at.Goals as goal
 
 pub returns-then-is_empty : goal.returns-then-is_empty
 returns-then-is_empty c = c.first_named.ensures ∙ any_letter c.args.text.now
