@@ -62,7 +62,7 @@ swap_taken c d b rest more last plain also behind = simp plain (simp also (simp 
 
 swap_found : (c d b : ℕ) (rest more last : Text) → nat_eq c 45 ≡ false → nat_eq d 45 ≡ false → nat_eq b 45 ≡ false
     → option_and_then asked_by_name (subcommand_of rcap (swap_words (c ∷ rest) (d ∷ more) (b ∷ last)))
-        ≡ Some (swap (c ∷ rest) (d ∷ more) (b ∷ last))
+    ≡ Some (swap (c ∷ rest) (d ∷ more) (b ∷ last))
 unfolding clap_on_literals
 swap_found c d b rest more last plain also behind = simp plain (simp also (simp behind refl))
 
@@ -338,7 +338,7 @@ here false s o words asks rest e = rest e
 
 found : (test : Shape → Bool) (words : List Text) (ss : List Shape) → AllAsk ss
     → option_and_then asked_by_name (option_map (λ x. rows_at x words) (find test ss)) ≡ None
-        → option_map (λ x. rows_at x words) (find test ss) ≡ None
+    → option_map (λ x. rows_at x words) (find test ss) ≡ None
 found test words [] all e = refl
 found test words (s ∷ ss) all e = here (test s) s (find test ss) words all.0 (found test words ss all.1) e
 

@@ -50,7 +50,7 @@ only : (words : List Text) → command_of words ≡ None → is_refused words �
 unfolding command_of is_refused
 only words e =
     without (takes rcap words) (fault_of rcap words) (option_and_then asked_by_name (subcommand_of rcap words))
-        (λ r. untaken_without words (nothing_asked words r))
+    (λ r. untaken_without words (nothing_asked words r))
     (λ r. missing words (nothing_asked words r)) e
 
 pub only_refused : OnlyRefusedAskForNothing

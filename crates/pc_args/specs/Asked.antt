@@ -60,7 +60,7 @@ asked_by_name p = if bytes_eq p.0 (codes "check") then Some (check (argument_val
     else if bytes_eq p.0 (codes "show") then Some (show (argument_value (codes "SRC") p.1))
     else if bytes_eq p.0 (codes "make") then Some (make (argument_value (codes "SEED") p.1) (argument_value (codes "SIZE") p.1))
     else if bytes_eq p.0 (codes "swap") then Some
-        (swap (argument_value (codes "SRC") p.1) (argument_value (codes "SCHED") p.1) (argument_value (codes "PLACE") p.1))
+    (swap (argument_value (codes "SRC") p.1) (argument_value (codes "SCHED") p.1) (argument_value (codes "PLACE") p.1))
     else if bytes_eq p.0 (codes "trace") then Some (trace (argument_value (codes "SRC") p.1) (argument_value (codes "SCHED") p.1))
     else if bytes_eq p.0 (codes "events") then Some (events (argument_value (codes "SRC") p.1) (argument_value (codes "SCHED") p.1))
     else if bytes_eq p.0 (codes "places") then Some (places (argument_value (codes "SRC") p.1))

@@ -60,7 +60,7 @@ module _ (c : Context) (some_text : 0 < length c.texts) where
       let x : Node = node_of m node.Body name 0 p.fst in
       let number = q.number in
       let kept : NewAre (NamesWhatIsThere c) before p.mid =
-          all_kept (NamesWhatIsThere c) m inside p.fst before p.mid (meaning.sequence_ok c some_text s 0 items fine, tt) p.first in
+      all_kept (NamesWhatIsThere c) m inside p.fst before p.mid (meaning.sequence_ok c some_text s 0 items fine, tt) p.first in
       record {
         stands = post m (body_around name s items) n before after h;
         root = x;
@@ -81,7 +81,7 @@ module _ (c : Context) (some_text : 0 < length c.texts) where
       let last = none_last (gives_none x.word x.result) x.name.span (roses_of_items c sc 0 is) in
       around x.name.span s (initials_then c (initial_fields x.word fs) last) m n before after
       (initials_shaped c (initial_fields x.word fs) last
-          (none_shaped (gives_none x.word x.result) x.name.span (roses_of_items c sc 0 is) (shape.items_ok c sc 0 is)))
+      (none_shaped (gives_none x.word x.result) x.name.span (roses_of_items c sc 0 is) (shape.items_ok c sc 0 is)))
       (initials_fine (initial_fields x.word fs) last f (none_fine (gives_none x.word x.result) x.name.span (roses_of_items c sc 0 is) (meaning.items_ok c some_text sc 0 is g)))
       h
 

@@ -46,7 +46,7 @@ numbers_own line column rest =
     let more : Text = decimal column ++ (58 ∷ (32 ∷ rest)) in
     bind_is (after_word (decimal line) (numbered line column rest)) (λ r. after_word (decimal column) r >>= after_bytes (codes " ")) more (word_own (decimal line) more)
     ∙ (bind_is (after_word (decimal column) more) (after_bytes (codes " ")) (32 ∷ rest) (word_own (decimal column) (32 ∷ rest))
-        ∙ after_own (codes " ") rest)
+    ∙ after_own (codes " ") rest)
 
 -- ---- a line
 

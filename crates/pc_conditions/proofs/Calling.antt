@@ -215,7 +215,7 @@ module _ (core : CoreData) (slots : Slots) (ns : List Note) (x : Node) (m : Mask
   pub call_at : (name : ℕ) (n : Masks) → through_notes ns m ≡ Some n → AtNode core slots ns x m rule.Call (node.Call name)
   call_at name n t =
       called_at name (λ o f. through_notes ns m >>= λ i. if calls core ns o f then Some (says_of (Some f.result) i) else None)
-          (asked.call_conditions receiver)
+      (asked.call_conditions receiver)
       (λ o f e. is_some (through_notes ns m) n t (λ w. Opposed (w >>= λ i. if calls core ns o f then Some (says_of (Some f.result) i) else None) (first_false (holds_of core slots ns x m) (asked.call_conditions receiver f))) (call_of o f n e))
 
   send_of : (f : Method) (n : Masks) → Opposed (if sends core ns f then Some (says_of (Some (0, form.Val)) n) else None) (first_false (holds_of core slots ns x m) (asked.send_conditions receiver f))
@@ -224,7 +224,7 @@ module _ (core : CoreData) (slots : Slots) (ns : List Note) (x : Node) (m : Mask
   pub send_at : (name : ℕ) (n : Masks) → through_notes ns m ≡ Some n → AtNode core slots ns x m rule.Send (node.Call name)
   send_at name n t =
       called_at name (λ o f. through_notes ns m >>= λ i. if sends core ns f then Some (says_of (Some (0, form.Val)) i) else None)
-          (asked.send_conditions receiver)
+      (asked.send_conditions receiver)
       (λ o f e. is_some (through_notes ns m) n t (λ w. Opposed (w >>= λ i. if sends core ns f then Some (says_of (Some (0, form.Val)) i) else None) (first_false (holds_of core slots ns x m) (asked.send_conditions receiver f))) (send_of f n))
 
   -- ---- a receiver that is lent

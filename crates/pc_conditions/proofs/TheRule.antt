@@ -179,7 +179,7 @@ module _ (core : CoreData) (ann : Ann) (n : ℕ) (x : Node) (m : Masks) (ns : Li
   lazy_rules ts l e k =
       with_two (λ ts. ns ≡ ts → Held ts rule.Lazy node.And) ts l
       (λ t u e. lazy_row t u (meet_masks (masks_after t) (masks_after u))
-          (ap (λ b. cond b (Some (meet_masks (masks_after t) (masks_after u))) None) (second_starts t u e k))) e
+      (ap (λ b. cond b (Some (meet_masks (masks_after t) (masks_after u))) None) (second_starts t u e k))) e
 
   while_rules : (ts : List Note) → length ts ≡ 2 → ns ≡ ts → is_else x.kind 1 ≡ false → Held ts rule.While node.While
   while_rules ts l e k = with_two (λ ts. ns ≡ ts → Held ts rule.While node.While) ts l (λ t u e. while_at core (with_inferred core ann x).slots x m t u t.ty (second_starts t u e k)) e
@@ -194,7 +194,7 @@ module _ (core : CoreData) (ann : Ann) (n : ℕ) (x : Node) (m : Masks) (ns : Li
       let b = starts_at u (masks_after t) (next_before core ann n x m ns at 0 u t (not_branch node.If k refl) (ap (λ ts. slice_get ts 1) e) (ap (λ ts. slice_get ts 0) e)) in
       let c = starts_at v (masks_after t) (else_before core ann n x m ns at v t k (ap (λ ts. slice_get ts 2) e) (ap (λ ts. slice_get ts 0) e)) in
       let all = both_true (starts t m) (starts u (masks_after t) && starts v (masks_after t)) a
-          (both_true (starts u (masks_after t)) (starts v (masks_after t)) b c) in
+      (both_true (starts u (masks_after t)) (starts v (masks_after t)) b c) in
       if_at core (with_inferred core ann x).slots x m t u v t.ty (meet_masks (masks_after u) (masks_after v)) (ap (λ b. cond b (Some (meet_masks (masks_after u) (masks_after v))) None) all))
       e
 

@@ -113,5 +113,5 @@ numbers_one names (n ∷ ns) [] d h = let e = h.0 in absurd (omega (arith, e))
 numbers_one names (n ∷ ns) (b ∷ bs) d h =
     let is : position (bytes_eq n.text) names ≡ Some b = get_position names n.text b d (h.1 0 n b refl refl) in
     let rest : entity_numbers names ns ≡ bs =
-        numbers_one names ns bs d (match_rest (λ (m : Name) (k : ℕ). slice_get names k ≡ Some m.text) n b ns bs h) in
+    numbers_one names ns bs d (match_rest (λ (m : Name) (k : ℕ). slice_get names k ≡ Some m.text) n b ns bs h) in
     ap (λ o. option_to_list o ++ entity_numbers names ns) is ∙ ap (λ ks. b ∷ ks) rest

@@ -163,7 +163,7 @@ module _ (v : Version) where
       let m = mapped_some head_of (head_at (pending ++ 10 ∷ [])) l e in
       let h = is_line head_at head_text HeadFits head_reads head_framed pending m.0.0 m.0.1 none m.1 in
       subst (Took v None [] [] 0 pending) m.2
-          (head_by pending m.0.0 (nat_le m.0.0.1.0 derivation_slot_limit && nat_le m.0.0.1.1 derivation_node_limit) refl none h.0 h.1)
+      (head_by pending m.0.0 (nat_le m.0.0.1.0 derivation_slot_limit && nat_le m.0.0.1.1 derivation_node_limit) refl none h.0 h.1)
 
   first_stage : Stage v None [] [] 0
   first_stage = record {

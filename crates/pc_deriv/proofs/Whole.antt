@@ -75,7 +75,7 @@ module _ (bytes : List ℕ) (ls : List Line) (t : Taken) (b : ℕ) (prefix : Lis
     end_by : Goes bytes ls b (answered (line_meaning t.version t.counts t.ended (t.pending ++ b ∷ [])), behind t (line_meaning t.version t.counts t.ended (t.pending ++ b ∷ [])))
     end_by =
         subst (λ (l : List ℕ). Goes bytes ls b (answered (line_meaning t.version t.counts t.ended l), behind t (line_meaning t.version t.counts t.ended l)))
-            (sym ended)
+        (sym ended)
         (line_by (line_in t.version t.counts t.ended (t.pending ++ 10 ∷ [])) refl)
 
   went_by : (ends : Bool) → (b == 10) ≡ ends

@@ -15,12 +15,12 @@ mod laws;
 mod line;
 mod line_state;
 mod lines;
-mod vocabulary;
 mod number_writing;
 mod numbers;
 mod pieces;
 mod reading;
 mod version;
+mod vocabulary;
 mod writing;
 
 pub use fault::DerivFault;

@@ -2,9 +2,9 @@
 ghost use Rattle.std.specs.Prelude.{◌≡◌, option_map};
 ghost use Rattle.pc_deriv.specs.Reading as reading;
 
-use crate::vocabulary::{after, cap_at, form_at, rule_at, version_at};
 use crate::numbers::{decimal_at, mask_at};
 use crate::version::{Version, shown_after};
+use crate::vocabulary::{after, cap_at, form_at, rule_at, version_at};
 use pc_ann::Note;
 use pc_caps::{Cap, Form};
 use pc_masks::Mask;

@@ -7,9 +7,9 @@ ghost use Rattle.pc_deriv.specs.declared.version.Version.TheVariants as version;
 ghost use Rattle.pc_deriv.specs.Faults.{IsText};
 ghost use Rattle.pc_deriv.specs.Limits.{derivation_slot_limit, derivation_node_limit};
 
-use crate::vocabulary::{cap_name, form_name, rule_name, version_name};
 use crate::number_writing::{push_decimal, push_hex};
 use crate::version::{Version, shown_after};
+use crate::vocabulary::{cap_name, form_name, rule_name, version_name};
 use pc_ann::{Ann, Note};
 use pc_caps::{Cap, Form, List};
 use pc_masks::Mask;

@@ -36,7 +36,7 @@ last_expr_is s (y ∷ z ∷ zs) x e = last_expr_is (t.span_of (expr_view y)) (z 
 
 pub items_joined : (xs : List Item) (x y : Item) → Some x ≡ slice_get xs 0 → Some y ≡ slice_get xs (length xs - 1)
     → span_from_to (t.item_span (item_view x)) (t.item_span (item_view y))
-        ≡ span_from_to (first_item (map item_view xs)) (last_item no_span (map item_view xs))
+    ≡ span_from_to (first_item (map item_view xs)) (last_item no_span (map item_view xs))
 items_joined xs x y first last = ap₂ span_from_to (first_item_is xs x first) (last_item_is no_span xs y last)
 
 pub terms_joined : (xs : List Expr) (x y : Expr) → Some x ≡ slice_get xs 0 → Some y ≡ slice_get xs (length xs - 1)

@@ -142,9 +142,9 @@ while_first : (body : Parser t.Seq) (opener : Token) (rest : List Token)
 while_first body opener rest =
     same_behind (body rest) _ _ (λ c more. sym (grouped (take_if (is_word w.DoWord) more) (λ _. body) (λ b. take_if (is_word w.EndWord) >>= λ close. pure (t.while_ c b (span_from_to opener.span close.span)))))
     ∙ closed_first (body rest) w.DoWord
-        (λ c _. body >>= λ b. take_if (is_word w.EndWord) >>= λ close. pure (t.while_ c b (span_from_to opener.span close.span)))
+    (λ c _. body >>= λ b. take_if (is_word w.EndWord) >>= λ close. pure (t.while_ c b (span_from_to opener.span close.span)))
     ∙ same_behind (closed_by body w.DoWord rest) _ _
-        (λ c more. closed_first (body more) w.EndWord (λ b sp. pure (t.while_ c.0 b (span_from_to opener.span sp))))
+    (λ c more. closed_first (body more) w.EndWord (λ b sp. pure (t.while_ c.0 b (span_from_to opener.span sp))))
 
 pub while_deep : (n : ℕ) (body : Parser t.Seq) (ts : List Token) → n ≡ 0 → while_ n body ts ≡ Err (too_deep, ts)
 unfolding while_
@@ -175,7 +175,7 @@ recover_reads n ts some =
 -- what is assigned is read, and then the assignment is made of it
 becomes_by_parts : (n : ℕ) (inner : Parser t.Expr) (e : t.Expr) (ts : List Token)
     → becomes n inner e ts
-        ≡ and_then (deeper n (take_if (is_sign s.Assign) >> inner) ts) (λ r. pure (t.assign e r (span_from_to (t.span_of e) (t.span_of r))))
+    ≡ and_then (deeper n (take_if (is_sign s.Assign) >> inner) ts) (λ r. pure (t.assign e r (span_from_to (t.span_of e) (t.span_of r))))
 unfolding becomes deeper
 becomes_by_parts zero inner e ts = refl
 becomes_by_parts (suc n) inner e ts = refl

@@ -7,8 +7,8 @@
 #![tactic(auto)]
 
 mod asking;
-mod fault;
 mod atoms;
+mod fault;
 pub mod parsers;
 mod parsing;
 mod rules;

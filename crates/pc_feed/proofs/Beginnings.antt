@@ -77,6 +77,6 @@ notes_begin ann slots notes more e l =
     let size : length (slots ++ k.0) ≡ length slots = ap (λ (xs : Slots). length xs) (sym k.1) ∙ sym l in
     let none = no_rest slots k.0 size in
     let nodes : map line.Node ann.notes ≡ map line.Node notes ++ more =
-        ap (λ (r : Slots). map line_of_slot r ++ map line.Node ann.notes) (sym none) ∙ k.2 in
+    ap (λ (r : Slots). map line_of_slot r ++ map line.Node ann.notes) (sym none) ∙ k.2 in
     let n = nodes_cut ann.notes notes more nodes in
     (n.0, k.1 ∙ ap (λ r. slots ++ r) none ∙ append-nil slots, n.1)

@@ -156,7 +156,7 @@ counted_slots c d n m ((e, k) ∷ slots) notes h =
 -- after the first line, the counts are its own, and the number is one more than that of slots and nodes
 pub counted_behind : (v a b : ℕ) (d : Option (ℕ × ℕ)) (m : ℕ) (slots : Slots) (notes : List Note)
     → Counted None 0 (line.Head v a b ∷ (map line_of_slot slots ++ map line.Node notes)) d m
-        → (Some (a, b) ≡ d) × (1 + length slots + length notes ≡ m)
+    → (Some (a, b) ≡ d) × (1 + length slots + length notes ≡ m)
 counted_behind v a b d m slots notes h =
     let k = counted_slots (Some (a, b)) d (0 + 1) m slots notes h.1 in
     let e = k.1 in

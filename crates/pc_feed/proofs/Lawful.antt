@@ -70,7 +70,7 @@ one_end core bytes (Err (fault.Invalid f)) (Ok u) formed x y = absurd (valid_and
 one_end core bytes (Err (fault.Invalid f)) (Err (fault.Text g)) formed x y = absurd (no_fault bytes x.0 (as_read g) x.1 y)
 one_end core bytes (Err (fault.Invalid f)) (Err (fault.Invalid g)) formed x y =
     ap (λ h. Err (fault.Invalid h))
-        (one_first core x.0 f g formed x.2 (subst (λ a. FirstAnnotationFault core a g) (one_annotation bytes y.0 x.0 y.1 x.1) y.2))
+    (one_first core x.0 f g formed x.2 (subst (λ a. FirstAnnotationFault core a g) (one_annotation bytes y.0 x.0 y.1 x.1) y.2))
 one_end core bytes (Err (fault.Invalid f)) (Err fault.Memory) formed x y = absurd y
 one_end core bytes (Err fault.Memory) b formed x y = absurd x
 

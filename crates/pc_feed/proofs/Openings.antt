@@ -164,6 +164,6 @@ module _ (core : CoreData) (ls : List Line) (j : Judging) (so : NothingWrong cor
       let right = slot_right (subst (λ i. MayHave core i ty) e may) in
       let pushed : Judging = record { slots = slots; waiting = j.waiting; right = j.right; fault = j.fault } in
       let judged : JudgedSoFar core (ls ++ line_of_slot ty ∷ []) pushed =
-          subst (λ o. JudgedBy core (ls ++ line_of_slot ty ∷ []) pushed o) (sym none) right in
+      subst (λ o. JudgedBy core (ls ++ line_of_slot ty ∷ []) pushed o) (sym none) right in
       (subst (λ (q : List (ℕ × Cap)). JudgedSoFar core (ls ++ line_of_slot ty ∷ []) (record { slots = q; waiting = j.waiting; right = j.right; fault = j.fault })) (sym same) judged, refl)
   slot_pushed n e may none s (Err f) same = (slot_lost, refl)

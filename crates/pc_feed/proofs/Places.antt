@@ -59,7 +59,7 @@ nothing_comes ls l c p =
 
 slot_stands : (core : CoreData) (ls : List Line) (slots : List (ℕ × Cap)) (notes : List Note) (e : ℕ) (k : Cap) → StandsForLines core ls slots notes → MayFollow ls (line.Slot e k)
     → (v : ℕ) × (ls ≡ line.Head v (length core.slots) (length core.nodes) ∷ map line_of_slot slots) × (notes ≡ [])
-        × (length slots < length core.slots)
+    × (length slots < length core.slots)
 slot_stands core ls slots notes e k (no_line p q r) c = absurd (nothing_comes ls (line.Slot e k) c p)
 slot_stands core ls slots notes e k (behind_head v p l m o) c =
     let h = counted_behind v (length core.slots) (length core.nodes) c.counts c.ended slots notes (subst (λ x. Counted None 0 x c.counts c.ended) p c.counted) in

@@ -40,7 +40,7 @@ all_found core ls j so (behind_head v p m n o) k l =
     let b : BeginsAnnotation (so_far ls) j.slots so.notes =
     subst (λ x. BeginsAnnotation (so_far x) j.slots so.notes) whole
     (subst (λ (ts : List Note). BeginsAnnotation (so_far (lines_with core v j.slots ts ++ [])) j.slots ts) (sym f.2)
-        (so_far_begins core v j.slots f.0 f.1 [])) in
+    (so_far_begins core v j.slots f.0 f.1 [])) in
     let full = full_of core j.slots so.notes k l o in
     record {
       opens = record {

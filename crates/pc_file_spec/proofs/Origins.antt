@@ -97,7 +97,7 @@ taken_has k known (m ∷ ms) x h = by (λ l g. taken_has k l ms x g) (is_takable
 
     by : ((l : List Text) → Has (methods_taken_over k l ms) x → Has ms x × (is_takable k x ≡ true)) → (b : Bool) → (is_takable k m && not (is_among m.name.text known)) ≡ b
         → Has (if b then m ∷ methods_taken_over k (known ++ m.name.text ∷ []) ms else methods_taken_over k known ms) x
-            → Has (m ∷ ms) x × (is_takable k x ≡ true)
+        → Has (m ∷ ms) x × (is_takable k x ≡ true)
     by rest true e g = first (methods_taken_over k (known ++ m.name.text ∷ []) ms) (first_true (is_takable k m) (not (is_among m.name.text known)) e) (rest (known ++ m.name.text ∷ [])) g
     by rest false e g = let r = rest known g in (has_on m ms x r.0, r.1)
 

@@ -48,7 +48,7 @@ taken_named k known (m ∷ ms) x able h = by (λ l g. taken_named k l ms x able 
   where
     by : ((l : List Text) → Has ms x → Has l x.name.text ⊎ Has (method_texts (methods_taken_over k l ms)) x.name.text) → (b : Bool) → (is_takable k m && not (is_among m.name.text known)) ≡ b → Has (m ∷ ms) x
         → Has known x.name.text
-            ⊎ Has (method_texts (if b then m ∷ methods_taken_over k (known ++ m.name.text ∷ []) ms else methods_taken_over k known ms)) x.name.text
+        ⊎ Has (method_texts (if b then m ∷ methods_taken_over k (known ++ m.name.text ∷ []) ms else methods_taken_over k known ms)) x.name.text
     by rest true e (zero, g) = inr (0, ap (λ (y : t.Method). Some y.name.text) (same_Some m x g))
     by rest true e (suc i, g) = elim (rest (known ++ m.name.text ∷ []) (i, g)) [
       | inl a ↦ elim (has_either known (m.name.text ∷ []) x.name.text a) [ inl b ↦ inl b | inr b ↦ inr (0, ap (λ (y : Text). Some y) (single m.name.text x.name.text b)) ]

@@ -76,7 +76,7 @@ module _ (u : Bool) (n : ℕ) where
       let y = h.4.0 in
       let cut : x ∷ a ≡ x ∷ y ∷ [] = ap (λ l. x ∷ l) (begins_one y a h.1 h.2 [] h.3 h.4.1 h.5.0) in
       subst (λ v. TermIn u n v (x ∷ a)) (sym h.5.1)
-          (refl, (x, y, cut, is, h.4.2, ap (span_from_to x.span) (sym h.4.2.1) ∙ sym (ap over cut)), fits_zero u n)
+      (refl, (x, y, cut, is, h.4.2, ap (span_from_to x.span) (sym h.4.2.1) ∙ sym (ap over cut)), fits_zero u n)
 
   explained_consume : (x : Token) (ts : List Token) → is_word w.ConsumeWord x ≡ true → Explained u (TermIn u n) (x ∷ ts) (consume (x ∷ ts))
   unfolding consume

@@ -147,7 +147,7 @@ module _ (u : Bool) (n : ℕ) where
         let cut = joined a h.1 h.2 g.1 h.3 (ends_nil h.2 g.1 g.2 g.3 g.5.0) in
         let items : SpellsItems (t.items_of (h.0 ∷ g.0)) a = (h.1, g.1, cut, h.4.0, more.0) in
         let span = ap (λ l. span_from_to (first_item l) (last_item no_span l)) (sym (items_list (h.0 ∷ g.0)))
-            ∙ items_span (t.items_of (h.0 ∷ g.0)) a items in
+        ∙ items_span (t.items_of (h.0 ∷ g.0)) a items in
         subst Q (sym g.5.1) ((items, span), fits_max u n (item_depth h.0) (items_depth (t.items_of g.0)) h.4.1 more.1)
 
     some_seq_rest : (i : t.Item) → Inhabited (SeqRest i)

@@ -106,7 +106,7 @@ concrete_is file above founded closed table i e has h =
     let these : taken_members e.kind known (named_all (entity_names file) table e.provides) ≡ map written (methods_taken_over e.kind (own_texts e) ms) =
     ap (taken_members e.kind known) (all_named file above founded closed table i e h has) ∙ taken_written e.kind known ms ∙ ap (map written) (taken_known e.kind known (own_texts e) ms (names_known [] (own_texts e))) in
     ap (λ xs. own_members e ++ xs) these
-        ∙ append_assoc (map written e.methods) (added_if (has_added e)) (map written (methods_taken_over e.kind (own_texts e) ms))
+    ∙ append_assoc (map written e.methods) (added_if (has_added e)) (map written (methods_taken_over e.kind (own_texts e) ms))
 
 completed_is : (file : t.File) (above : List (List ℕ)) → IsFounded file → IsTransitiveClosure file above → (table : List (List Member)) (i : ℕ) (e : t.Entity) → HasMethods file table → slice_get file.entities i ≡ Some e → completed (entity_names file) table i e ≡ members file.entities e
 completed_is file above founded closed table i e has h = by (is_abstract e.kind) refl

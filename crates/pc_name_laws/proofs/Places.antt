@@ -57,7 +57,7 @@ earlier_entity [] i j e d a b h l he hd ha hb = absurd (none-some e he)
 earlier_entity (x ∷ es) i zero e d a b h l he hd ha hb = absurd (omega (arith, l))
 earlier_entity (x ∷ es) zero (suc j) e d a b h l he hd ha hb =
     ascends_across (declared_places x) (all_places es) a b h (subst (λ (y : t.Entity). Has (declared_places y) a) (sym (same_Some x e he)) ha)
-        (has_place es j d b hd hb)
+    (has_place es j d b hd hb)
 earlier_entity (x ∷ es) (suc i) (suc j) e d a b h l he hd ha hb = earlier_entity es i j e d a b (ascends_right (declared_places x) (all_places es) h) (omega (arith, l)) he hd ha hb
 
 -- ---- each fault of an entity is at one of its places

@@ -34,7 +34,7 @@ pub method_stops : (entities fields before known : List Text) (all : List Method
     → method_faults entities fields before (map method_view all) ≡ method_faults entities fields known (map method_view (drop i all))
     → (is_among x.name.text fields || is_among x.name.text known) ≡ false
     → IsFirstNameFault e (signature_faults entities fields (method_view x))
-        → IsFirstNameFault e (method_faults entities fields before (map method_view all))
+    → IsFirstNameFault e (method_faults entities fields before (map method_view all))
 method_stops entities fields before known all i x e l is left fresh first =
     let rest : List NameFault = method_faults entities fields (known ++ x.name.text ∷ []) (map method_view (drop (suc i) all)) in
     let same = left ∙ ap (λ ys. method_faults entities fields known (map method_view ys)) (from_here all i x l is) ∙ ap (λ b. where_ b (fault.Double x.name.span) ++ (signature_faults entities fields (method_view x) ++ rest)) fresh in

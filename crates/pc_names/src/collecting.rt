@@ -11,13 +11,13 @@ ghost use Rattle.pc_names.specs.Names.{Collected, IsNameFault, above_faults, mem
 ghost use Rattle.pc_members.specs.Reach.{above_all};
 ghost use Rattle.pc_members.specs.Words.{built_in_names, entity_names};
 
+use crate::collected_names::Names;
 use crate::counts::check_counts;
 use crate::cycles::check_cycles;
 use crate::declarations::check_entities;
 use crate::entities::{table_entities, table_traits};
 use crate::fault::NameFault;
 use crate::mains::check_main;
-use crate::collected_names::Names;
 use crate::texts::table_texts;
 use pc_caps::List;
 use pc_member_counts::count_members;

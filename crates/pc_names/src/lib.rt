@@ -7,6 +7,7 @@
 //! Only tested: names and limits, at the limit and one past it.
 #![tactic(auto)]
 
+mod collected_names;
 mod collecting;
 mod counts;
 mod cycles;
@@ -15,11 +16,10 @@ mod entities;
 mod fault;
 mod laws;
 mod mains;
-mod collected_names;
 mod texts;
 
+pub use collected_names::Names;
 pub use collecting::collect;
 pub use fault::{NameFault, Which};
 pub use laws::{cycles_are_chains, first_is_least, names_are_one};
-pub use collected_names::Names;
 pub use texts::add_member_texts;

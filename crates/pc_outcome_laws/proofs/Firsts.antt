@@ -83,7 +83,7 @@ module _ (all : List Play) where
   first_new : (e : Entry) (p : Play) (seen : List Play) → IsEntry all e → IsFirstPlay e p → take e.seed all ≡ seen → list_any (has_outcome p.text p.ending) seen ≡ false
   first_new e p seen is f same =
       let none : list_any (shows_outcome e) seen ≡ false =
-          none_counted (shows_outcome e) seen (subst (λ (l : List Play). count_by (shows_outcome e) l ≡ 0) same is.none_before) in
+      none_counted (shows_outcome e) seen (subst (λ (l : List Play). count_by (shows_outcome e) l ≡ 0) same is.none_before) in
       ap (λ (t : List ℕ). list_any (λ (q : Play). bytes_eq t q.text && same_ending p.ending q.ending) seen) f.text
       ∙ ap (λ (a : Ending). list_any (λ (q : Play). bytes_eq e.text q.text && same_ending a q.ending) seen) f.ending ∙ none
 

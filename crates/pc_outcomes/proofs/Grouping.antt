@@ -186,7 +186,7 @@ module _ (ps : List Play) (p : Play) where
   every_counted es any a =
       all_push (λ q. list_any (λ f. shows_outcome f q) (counted es) ≡ true) ps p
       (all_map (λ q. list_any (λ f. shows_outcome f q) es ≡ true) (λ q. list_any (λ f. shows_outcome f q) (counted es) ≡ true)
-          (λ q h. any_counted q es ∙ h) ps a)
+      (λ q h. any_counted q es ∙ h) ps a)
       (any_counted p es ∙ any)
 
   pub counted_entries : (es : List Entry) → list_any (λ f. shows_outcome f p) es ≡ true → AreEntries ps es → AreEntries (ps ++ p ∷ []) (counted es)

@@ -93,7 +93,7 @@ mutual
   same_expr (t.assign l r sp) rest =
       let right = blank ∷ sign s.Assign ∷ blank ∷ p.expr r rest in
       then (text.printed_expr l) (codes " = " ++ text.printed_expr r) (joined rest) (joined right) (ap (λ l. codes " = " ++ l) (same_expr r rest))
-          ∙ same_expr l right
+      ∙ same_expr l right
 
   same_terms : (es : t.Exprs) (o : Op) (rest : List Piece) → text.printed_terms es o ++ joined rest ≡ joined (p.terms es o rest)
   same_terms t.no_exprs o rest = refl
@@ -173,7 +173,7 @@ same_value (Some e) rest = ap (λ l. codes " = " ++ l) (same_expr e rest)
 same_field : (f : t.Field) (rest : List Piece) → text.printed_field f ++ joined rest ≡ joined (p.field f rest)
 same_field f rest =
     let ty = then (text.printed_type_ref f.ty) (text.printed_value f.value) (joined rest) _ (same_value f.value rest)
-        ∙ same_type f.ty (p.value f.value rest) in
+    ∙ same_type f.ty (p.value f.value rest) in
     ap (λ l. 10 ∷ (codes "  " ++ l)) (then (word_text (local_word f.fixed)) _ (joined rest) _ (ap (λ l. codes " " ++ l) (then f.name.text _ (joined rest) _ (ap (λ l. codes ": " ++ l) ty))))
 
 same_fields : (fs : List t.Field) (rest : List Piece) → text.printed_fields fs ++ joined rest ≡ joined (p.fields fs rest)

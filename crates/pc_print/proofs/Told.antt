@@ -26,7 +26,7 @@ told_recover x k b sp is = ap (λ y. text.printed_expr (expr_view y)) is ∙ ap 
 
 pub told_while : (x : Expr) (c b : Box Seq Global) (sp : Span) → x ≡ e.While c b sp
     → text.printed_expr (expr_view x)
-        ≡ (codes "while " ++ (text.printed_seq (seq_view c.value) ++ codes " do ")) ++ (text.printed_seq (seq_view b.value) ++ codes " end")
+    ≡ (codes "while " ++ (text.printed_seq (seq_view c.value) ++ codes " do ")) ++ (text.printed_seq (seq_view b.value) ++ codes " end")
 told_while x c b sp is =
     ap (λ y. text.printed_expr (expr_view y)) is ∙ ap text.printed_expr (view_while c b sp) ∙ ap (λ l. codes "while " ++ l) (sym (append_assoc (text.printed_seq (seq_view c.value)) (codes " do ") (text.printed_seq (seq_view b.value) ++ codes " end")))
 
@@ -48,7 +48,7 @@ told_chain x b ss sp is = ap (λ y. text.printed_expr (expr_view y)) is ∙ ap t
 
 pub told_local : (x : Item) (fixed : Bool) (m : Name) (ty : Option TypeRef) (v : Expr) (sp : Span) → x ≡ i.Local fixed m ty v sp
     → text.printed_item (item_view x)
-        ≡ (word_text (local_word fixed) ++ codes " ") ++ (m.text ++ (text.printed_type ty ++ (codes " = " ++ text.printed_expr (expr_view v))))
+    ≡ (word_text (local_word fixed) ++ codes " ") ++ (m.text ++ (text.printed_type ty ++ (codes " = " ++ text.printed_expr (expr_view v))))
 told_local x fixed m ty v sp is =
     ap (λ y. text.printed_item (item_view y)) is ∙ ap text.printed_item (view_local fixed m ty v sp) ∙ sym (append_assoc (word_text (local_word fixed)) (codes " ") (m.text ++ (text.printed_type ty ++ (codes " = " ++ text.printed_expr (expr_view v)))))
 

@@ -113,7 +113,7 @@ module _ (core : CoreData) (ann : Ann) (needs : Needs core ann) (climb : ClimbLa
       let goal : entry_of x.node x.note ≡ at_depth d (Some ty) = ap (λ (k : ℕ). at_depth k x.note.ty) x.depth ∙ ap (at_depth d) type_is in
       rise core ann climb around.objects around.actors around.actor f.method base d s.active.holds.live x.below f.slots rest fs w pushes x.note.live_after (Some ty) v f.tasks
       (λ i h. x.live i (subst (λ (m : Mask). IsInMask m i) live h)) typed (plain_fits w _ ty.1 v plain)
-          (plain_alias w around.actor base (base + d) ty.1 v plain)
+      (plain_alias w around.actor base (base + d) ty.1 v plain)
       (subst (λ (y : Entry). Rises core f.method x.note.live_after y x.below (λ d l g. TasksRise core ann f.method f.tasks d l g)) goal x.follows)
 
   pub apply_goes : RegionMoveOk core ann w around fs (at_node (slice_get core.nodes n) (λ y. apply_task f y.kind))

@@ -83,7 +83,7 @@ module _ (core : CoreData) (ann : Ann) (flat : LiveShallow core ann) (m d : ℕ)
   pub items_rise : (cs : List ℕ) (ts : List Task) (n k : Masks) (l : Mask) (g : List Entry) (last : ℕ) (u : Note) (live : Mask) (way : List Ascent) → Each (λ i c. IsAt core m d c) cs → through ann cs n ≡ Some k
       → last_child cs ≡ Some last → slice_get ann.notes last ≡ Some u → Within n.0 l → Shallow g d → Within live k.0 → Climbs core way (at_depth d u.ty) → Shallow g (top_of way (at_depth d u.ty)).depth → SlotsShallow core m live (top_of way (at_depth d u.ty)).depth
       → TasksRise core ann m ts (top_of way (at_depth d u.ty)).depth live (top_of way (at_depth d u.ty) ∷ g)
-          → TasksRise core ann m (item_tasks cs ++ ts) d l g
+      → TasksRise core ann m (item_tasks cs ++ ts) d l g
   items_rise [] ts n k l g last u live way children e il at wl low ll climbs deep slots next = absurd (none-some last il)
   items_rise (c ∷ []) ts n k l g last u live way children e il at wl low ll climbs deep slots next =
       let f = first_of_them ann c [] n k e in

@@ -314,7 +314,7 @@ module _ (core : CoreData) (ann : Ann) (needs : Needs core ann) (flat : LiveShal
         (subst (λ (x : Entry). TasksRise core ann f.method f.tasks (top_of o.way x).depth o.live (top_of o.way x ∷ g)) (sym at) o.next)
         in
         evaluates core ann around f (task.Eval n ∷ f.tasks) fs w s (item_tasks e.node.children ++ f.tasks) all
-            (calm_sequence e.node.children q.last q.is_last)
+        (calm_sequence e.node.children q.last q.is_last)
       where
         calm_sequence : (cs : List ℕ) (last : ℕ) → last_child cs ≡ Some last → uses_top (item_tasks cs ++ f.tasks) ≡ false
         calm_sequence [] last il = absurd (none-some last il)

@@ -177,7 +177,7 @@ module _ (settle : SettleLaw) (take : TakeLaw) (core : CoreData) (climb : ClimbL
 
   own_put : (name : ℕ) (q : OwnPutRule core ann g.node g.note e.behind name) (v y : Value) (old : Option Value) (rest : List Value) (o : Origin core around.objects r.held.own.entity name q.index q.field v) → v ≡ r.held.this → f.stack ≡ v ∷ y ∷ rest → slice_get o.object.fields q.index ≡ Some old
       → HasFields around.objects r.held.set v
-          → RegionMoveOk core ann w around fs (Writes o.address q.index y (pushed (with_stack f rest) (value_or_none old)))
+      → RegionMoveOk core ann w around fs (Writes o.address q.index y (pushed (with_stack f rest) (value_or_none old)))
   own_put name q v y old rest o this at is has_them =
       let m : ℕ = length rest in
       let own : slice_get core.methods f.method ≡ Some q.own = ap (slice_get core.methods) (sym me.own) ∙ q.is_own in
@@ -201,7 +201,7 @@ module _ (settle : SettleLaw) (take : TakeLaw) (core : CoreData) (climb : ClimbL
             let ty : Ty = (q.field.entity, set.1) in
             let at_it : OfSome core around.objects (Some ty) was.0 = subst (λ (t : Option Ty). OfSome core around.objects t was.0) set.3 (subst (λ (z : Option Value). OfSome core around.objects q.old (value_or_none z)) was.1 typed) in
             subst (λ (z : Option Value). RegionMoveOk core ann w around fs (Writes o.address q.index y (pushed (with_stack f rest) (value_or_none z))))
-                (sym was.1)
+            (sym was.1)
             (put_ends r.held.own.entity name q.index q.field v o y rest stack.1.1 q.says.live w calm (Some ty) was.0
             (put_old settle take core ann around.objects around.actors i base d s.here h m o.address o.object o.stands q.index q.field.cap w form.Ref through q.value_ty.1 y less may value q.field.entity set.1 was.0 set.2 fits_field) (q.says.ty ∙ set.3) at_it)
       ]

@@ -171,7 +171,7 @@ module _ (ann : Ann) where
       ∙ cond_then (starts t.0 m) (masks_after t.0) _
       ∙ ap (λ o. cond (starts t.0 m) o None)
       (cond_then (starts t.1 (masks_after t.0)) (masks_after t.1) _
-          ∙ ap (λ o. cond (starts t.1 (masks_after t.0)) o None) (cond_then (starts t.2 (masks_after t.0)) (masks_after t.2) _)
+      ∙ ap (λ o. cond (starts t.1 (masks_after t.0)) o None) (cond_then (starts t.2 (masks_after t.0)) (masks_after t.2) _)
       ∙ cond_twice (starts t.1 (masks_after t.0)) (starts t.2 (masks_after t.0)) _)
       ∙ cond_twice (starts t.0 m) (starts t.1 (masks_after t.0) && starts t.2 (masks_after t.0)) _
 

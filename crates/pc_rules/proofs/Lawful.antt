@@ -28,9 +28,11 @@ rules_determine core ann x a b r m p q =
 pub consume_takes_out : ConsumeTakesOut
 consume_takes_out core ann x s m r e =
     let a = bind_some (used core ann x s m.0) _ r (by_number core ann x m rule.Consume (node.Consume s) r e) in
-    let same = same_Some _ r a.2 in
-    (λ i. subst (λ (q : Said). (IsInMask q.live i) ↔ ((i ≢ s) × IsInMask m.0 i)) same (without_number_bits m.0 s i), sym
-        (ap (λ (q : Said). q.set) same))
+    let same = same_Some _ r a.2 in (
+      λ i. subst (λ (q : Said). (IsInMask q.live i) ↔ ((i ≢ s) × IsInMask m.0 i)) same (without_number_bits m.0 s i),
+      sym
+          (ap (λ (q : Said). q.set) same),
+    )
 
 -- The result under a condition.
 kept : {A : Type 0} → (b : Bool) (o : Option A) (y : A) → cond b o None ≡ Some y → o ≡ Some y

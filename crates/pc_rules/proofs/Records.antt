@@ -493,15 +493,25 @@ module _ (core : CoreData) (formed : Formed core) (slots : Slots) (own : Note) (
   join_to o r = ((add_iff o).0 r.operator, operator_to 3 3 r.both r.type r.masks)
 
   to_join : (o : Op) → (o ≡ op.Add) × new.Operator own ns 3 3 → mirror.Join own ns o
-  to_join o m = record { operator = (add_iff o).1 m.0; both = to_both 3 3 m.1; type = m.1.type; masks =
-      (order_iff ns (before own) (masks_after own)).1 m.1.masks }
+  to_join o m = record {
+    operator = (add_iff o).1 m.0;
+    both = to_both 3 3 m.1;
+    type = m.1.type;
+    masks =
+        (order_iff ns (before own) (masks_after own)).1 m.1.masks;
+  }
 
   xor_to : (o : Op) → mirror.Xor own ns o → (o ≡ op.Xor) × new.Operator own ns 2 2
   xor_to o r = ((xor_iff o).0 r.operator, operator_to 2 2 r.both r.type r.masks)
 
   to_xor : (o : Op) → (o ≡ op.Xor) × new.Operator own ns 2 2 → mirror.Xor own ns o
-  to_xor o m = record { operator = (xor_iff o).1 m.0; both = to_both 2 2 m.1; type = m.1.type; masks =
-      (order_iff ns (before own) (masks_after own)).1 m.1.masks }
+  to_xor o m = record {
+    operator = (xor_iff o).1 m.0;
+    both = to_both 2 2 m.1;
+    type = m.1.type;
+    masks =
+        (order_iff ns (before own) (masks_after own)).1 m.1.masks;
+  }
 
   abbrev Equals : Type 0
   Equals = new.Operator own ns 1 2 ⊎ (new.Operator own ns 2 2 ⊎ new.Operator own ns 3 2)

@@ -50,7 +50,7 @@ pub data StartsFrom (core : CoreData) (ann : Ann) : ℕ → Masks → Type 0 whe
       → slice_get x.children 0 ≡ Some c → slice_get ann.notes c ≡ Some t → StartsFrom core ann n (masks_after t)
   next_child : {n : ℕ} (p c i : ℕ) (x : Node) (t : Note) → slice_get core.nodes p ≡ Some x → is_else x.kind (suc i) ≡ false
       → slice_get x.children (suc i) ≡ Some n → slice_get x.children i ≡ Some c → slice_get ann.notes c ≡ Some t
-          → StartsFrom core ann n (masks_after t)
+      → StartsFrom core ann n (masks_after t)
 
 -- ---- that no annotation is valid
 

@@ -39,7 +39,7 @@ Does core list p i (deed.Take m sent) =
     (ahead_of core (at_place core list p) i ≡ ahead.Take) × (method_waiting (at_place core list p) i 0 ≡ Some m) × SentAt core list p sent
 Does core list p i (deed.Send r m) =
     (ahead_of core (at_place core list p) i ≡ ahead.Send r)
-        × (method_waiting (at_place core list (suc p)) r (waiting_for (at_place core list p) r) ≡ Some m)
+    × (method_waiting (at_place core list (suc p)) r (waiting_for (at_place core list p) r) ≡ Some m)
 Does core list p i (deed.Make a m) =
     (ahead_of core (at_place core list p) i ≡ ahead.Spawn) × (a ≡ length (at_place core list p).actors) × (method_waiting (at_place core list (suc p)) a 0 ≡ Some m)
 Does core list p i (deed.New a e) =

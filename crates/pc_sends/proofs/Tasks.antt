@@ -273,7 +273,7 @@ module _ (core : CoreData) (ents : List (Option ℕ)) (formed : Formed core) (m 
 
   kind_in : (around : Around) (t : ℕ) (x : Method) (this : Value) (vs : List Value) (f : Frame) (q : MethodKind) → Of f → slice_get core.methods t ≡ Some x → x.kind ≡ q
       → (is_called x.kind ≡ true → UsesMethod core ents m t) → (x.kind ≡ method.Be → Posts core ents m t)
-          → In (invoke_kind around t x this vs f q)
+      → In (invoke_kind around t x this vs f q)
   kind_in around t x this vs f method.Fun k is e u s = counted_in x vs (enter t x this vs f x.body) (enter_in t x this vs f x.body k (u (ap is_called e)) is refl)
   kind_in around t x this vs f method.Be k is e u s = send_in around t x vs f this k (s e)
   kind_in around t x this vs f method.New k is e u s = tt

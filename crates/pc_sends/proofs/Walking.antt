@@ -99,7 +99,7 @@ method_from core ents m x formed is t u =
 pub method_uses : (core : CoreData) (ents : List (Option ℕ)) (m : ℕ) (x : Method) (ns : List Node) (a b : List ℕ) → Formed core → slice_get core.methods m ≡ Some x → ns ≡ own_nodes core x → Grown (OfSome (NodeAims core ents) ns) a b → Grown (UsesMethod core ents m) a b
 method_uses core ents m x ns a b formed is own g =
     grown_same (OfSome (NodeAims core ents) (own_nodes core x)) (UsesMethod core ents m) a b (method_to core ents m x formed is)
-        (method_from core ents m x formed is)
+    (method_from core ents m x formed is)
     (subst (λ (ys : List Node). Grown (OfSome (NodeAims core ents) ys) a b) own g)
 
 -- If there is no such method, no node names it.

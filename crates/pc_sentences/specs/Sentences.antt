@@ -51,7 +51,7 @@ is_a st i = part st i ++ (codes " is " ++ with_article (child_entity st i))
 unfoldable pub not_under : StopData → ℕ → ℕ → Text
 not_under st i e =
     is_a st i ++ (codes ", which is not below "
-        ++ (entity_words st.scene.core e ++ (codes ", the entity of " ++ (goal st i ++ why_not st (child_type st i) e))))
+    ++ (entity_words st.scene.core e ++ (codes ", the entity of " ++ (goal st i ++ why_not st (child_type st i) e))))
 
 abbrev pub unfit_by : StopData → ℕ → Cap → Role → Text
 unfit_by st i k role.Receiver = receiver_unfit st i k

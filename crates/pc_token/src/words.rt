@@ -132,8 +132,15 @@ pub const WORDS: [Word; 59] = [
 ];
 
 // The words that begin with each letter, in the order of `WORDS`.
-const A_WORDS: [Word; 4] = [Word::ActorWord, Word::AndWord, Word::AsWord, Word::AddressofWord];
+const A_WORDS: [Word; 4] = [
+    Word::ActorWord,
+    Word::AndWord,
+    Word::AsWord,
+    Word::AddressofWord,
+];
+
 const B_WORDS: [Word; 3] = [Word::BeWord, Word::BoxWord, Word::BreakWord];
+
 const C_WORDS: [Word; 5] = [
     Word::ClassWord,
     Word::ConsumeWord,
@@ -141,7 +148,9 @@ const C_WORDS: [Word; 5] = [
     Word::CompileErrorWord,
     Word::CompileIntrinsicWord,
 ];
+
 const D_WORDS: [Word; 2] = [Word::DoWord, Word::DigestofWord];
+
 const E_WORDS: [Word; 5] = [
     Word::ElseifWord,
     Word::ElseWord,
@@ -149,7 +158,9 @@ const E_WORDS: [Word; 5] = [
     Word::EmbedWord,
     Word::ErrorWord,
 ];
+
 const F_WORDS: [Word; 3] = [Word::FunWord, Word::FalseWord, Word::ForWord];
+
 const I_WORDS: [Word; 8] = [
     Word::IsWord,
     Word::IsntWord,
@@ -160,13 +171,26 @@ const I_WORDS: [Word; 8] = [
     Word::IfdefWord,
     Word::IftypeWord,
 ];
+
 const L_WORDS: [Word; 2] = [Word::LetWord, Word::LambdaWord];
+
 const M_WORDS: [Word; 1] = [Word::MatchWord];
+
 const N_WORDS: [Word; 2] = [Word::NewWord, Word::NotWord];
+
 const O_WORDS: [Word; 2] = [Word::OrWord, Word::ObjectWord];
+
 const P_WORDS: [Word; 1] = [Word::PrimitiveWord];
-const R_WORDS: [Word; 4] = [Word::RefWord, Word::RecoverWord, Word::ReturnWord, Word::RepeatWord];
+
+const R_WORDS: [Word; 4] = [
+    Word::RefWord,
+    Word::RecoverWord,
+    Word::ReturnWord,
+    Word::RepeatWord,
+];
+
 const S_WORDS: [Word; 1] = [Word::StructWord];
+
 const T_WORDS: [Word; 8] = [
     Word::TraitWord,
     Word::TrnWord,
@@ -177,9 +201,13 @@ const T_WORDS: [Word; 8] = [
     Word::TypeWord,
     Word::TryWord,
 ];
+
 const U_WORDS: [Word; 2] = [Word::UseWord, Word::UntilWord];
+
 const V_WORDS: [Word; 2] = [Word::VarWord, Word::ValWord];
+
 const W_WORDS: [Word; 3] = [Word::WhileWord, Word::WithWord, Word::WhereWord];
+
 const X_WORDS: [Word; 1] = [Word::XorWord];
 
 /// The spelling of a word.

@@ -27,7 +27,7 @@ module _ (files : Files) (out : Change) where
   -- a command ends as its words ask for
   pub words_end : (words : List Text) (asked : Asked) (result : Result (Unit {0}) Stop) → command_of words ≡ Some asked
       → EndsCommand (IsVerdictOf files (Some asked)) (FailedOf files (Some asked)) out result
-          → EndsCommand (IsVerdict files words) (FailedIn files words) out result
+      → EndsCommand (IsVerdict files words) (FailedIn files words) out result
   words_end words asked result e h = subst (λ (o : Option Asked). EndsCommand (IsVerdictOf files o) (FailedOf files o) out result) (sym e) h
 
   pub words_refused : (words : List Text) (s : Stop) → command_of words ≡ None → IsRefusal 2 usage_line s → out.now ≡ out.before → CommandStops (IsVerdict files words) (FailedIn files words) out s

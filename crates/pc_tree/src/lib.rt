@@ -10,8 +10,8 @@ mod built_in;
 mod expression;
 mod file;
 mod kinds;
-mod written_names;
 mod spans;
+mod written_names;
 
 pub use built_in::{
     BOOL_ENTITY, ENV_ENTITY, FIRST_OWN, NONE_ENTITY, OUT_STREAM_ENTITY, STRING_ENTITY, U64_ENTITY,
@@ -19,5 +19,5 @@ pub use built_in::{
 pub use expression::{Arm, Expr, Item, Seq, Suffix};
 pub use file::{Entity, FieldDef, File, MethodDef, ParamDef};
 pub use kinds::{EntityKind, MethodWord, Op};
-pub use written_names::{Name, TypeRef};
 pub use spans::{join, span_of};
+pub use written_names::{Name, TypeRef};

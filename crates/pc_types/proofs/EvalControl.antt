@@ -319,7 +319,7 @@ module _ (core : CoreData) (ann : Ann) (needs : Needs core ann) (around : Around
         (subst (λ (v : Option Ty). Lower core v o.goal.ty) q.says.ty o.fits) own o.next
         in
         tasks_ok core ann needs around f fs r (item_tasks e.node.children ++ f.tasks)
-            (from_note e.note (item_tasks e.node.children ++ f.tasks) e.live e.set all)
+        (from_note e.note (item_tasks e.node.children ++ f.tasks) e.live e.set all)
 
     pub recover_ok : (k : Option Cap) → RecoverRule core ann e.node e.note k → (e.follows.goal.own ≡ true → ⊥) → MoveOk core ann around fs (first_then f e.node.children [])
     recover_ok k q own =

@@ -41,7 +41,7 @@ splits line at = splits_at (slice_get line at)
 abbrev pub cut_of : Text → ℕ
 cut_of line =
     if splits line kept_bytes then
-        (if splits line (kept_bytes - 1) then (if splits line (kept_bytes - 2) then kept_bytes - 3 else kept_bytes - 2) else kept_bytes - 1)
+    (if splits line (kept_bytes - 1) then (if splits line (kept_bytes - 2) then kept_bytes - 3 else kept_bytes - 2) else kept_bytes - 1)
     else kept_bytes
 
 -- A line of more than 40 bytes, cut.

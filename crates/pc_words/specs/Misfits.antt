@@ -38,7 +38,7 @@ result_misfit core t y = if is_chain core y.result.0 t.result.0 then (if is_belo
 abbrev pub count_misfit : CoreData → Method → Method → Option Misfit
 count_misfit core t y =
     if nat_eq (length t.params) (length y.params) then misfit_or_else (params_misfit core 0 t.params y.params)
-        (result_misfit core t y) else Some misfit_of.Count
+    (result_misfit core t y) else Some misfit_of.Count
 
 -- The first thing about method y that does not fit method t: the receiver, the number of parameters, the parameters, or
 -- the result.

@@ -56,9 +56,9 @@ Wrote out status source schedule = WritesEvents out source schedule ⊎ ((status
 
 wrote_by : (out : Change) (v : Verdict) (name : Text) (core : CoreData) (list : List ℕ) (source schedule : Text) → IsAccepting v.status → Appends out.before out.now v.out
     → ((events : List RunEvent) → AreEventsOfRun core list events → Appends out.before out.now (events_text_of_run core events)
-        → WritesEvents out source schedule)
+    → WritesEvents out source schedule)
     → ((text : Text) × EventsTelling name core list (Ok text) × (v ≡ done text)) ⊎ EventsTelling name core list (Err v)
-        → Wrote out v.status source schedule
+    → Wrote out v.status source schedule
 wrote_by out v name core list source schedule e o by (inl (text, h, is)) =
     let t = told_by h in
     let grew : Appends out.before out.now text = subst (λ (w : Verdict). Appends out.before out.now w.out) is o in

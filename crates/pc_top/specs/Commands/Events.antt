@@ -40,5 +40,5 @@ IsEvents = OfScheduled (λ name core list. EndsWith (EventsTelling name core lis
 abbrev pub WritesEvents : Change → Text → Text → Type 0
 WritesEvents out source schedule =
     (core : CoreData) × CoreOf source core × (turns : List Turn) × TurnList schedule turns × (events : List RunEvent)
-        × AreEventsOfRun core (spread turns) events
+    × AreEventsOfRun core (spread turns) events
     × Appends out.before out.now (events_text_of_run core events)

@@ -26,4 +26,4 @@ returns-in-Primitive-clause-begins c =
     let cx = c.args.context.now in
     let is = ap (type_meaning cx) (sym c.as_slice.ensures) ∙ sym c.type_meaning.ensures ∙ ap type_view c.in-Primitive.is in
     subst (λ w. BeginsChain cx (with_type w) (map suffix_view c.args.suffixes.now) c.begin_with_primitive.result)
-        (sym is) c.begin_with_primitive.ensures.begins
+    (sym is) c.begin_with_primitive.ensures.begins

@@ -61,7 +61,7 @@ infix-returns-in_err-right-clause-gives t c =
     let ns = c.expr-in-loop-i.new.nodes in
     let part = λ (sc : List Visible). put c.args.setting.now.number (spec.expr_of c.args.setting.now.context.now sc c.args.setting.now.depth (expr_view x)) c.loop-i.nodes in
     let stopped : GivesNodes (Err e) ns (part c.args.scope.now) =
-        subst (λ sc. GivesNodes (Err e) ns (part sc)) c.loop-i.invariant.scope c.in_err-right.ensures.gives in
+    subst (λ sc. GivesNodes (Err e) ns (part sc)) c.loop-i.invariant.scope c.in_err-right.ensures.gives in
     rw (p.1, p.2, g.same, es) (stops e ns ns (part c.args.scope.now) _ stopped (right_none c.args.setting.now.context.now c.args.scope.now c.args.setting.now.depth c.args.op c.args.span c.args.setting.now.number (expr_view x) (exprs_view (drop (c.loop-i.i + 1) c.args.terms.now)) g.left c.loop-i.left c.args.nodes.now c.loop-i.nodes g.there))
 
 pub link-returns-in_err-tops-in-Args-clause-gives : goal.link-returns-in_err-tops-in-Args-clause-gives

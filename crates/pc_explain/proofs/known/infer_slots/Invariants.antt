@@ -5,4 +5,4 @@ use Rattle.pc_explain.proofs.known.infer_slots.Given as goal
 abbrev pub invariant-loop-node : goal.invariant-loop-node
 invariant-loop-node l =
     (length l.known.slots ≡ length l.core.slots)
-        × (with_inferred_slots l.core l.known (drop l.node-index l.nodes) ≡ with_inferred_slots l.core l.initial.known l.nodes)
+    × (with_inferred_slots l.core l.known (drop l.node-index l.nodes) ≡ with_inferred_slots l.core l.initial.known l.nodes)

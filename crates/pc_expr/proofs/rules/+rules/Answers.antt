@@ -200,7 +200,7 @@ expr-returns-in_ok-assigned-in-Ok-clause-gives t c =
     let follows : reading.assigns c.look.result.now e ≡ true = sym c.assigns.ensures ∙ c.if-assigns.true in
     let read = reads_becomes c.args.left (reading.inner c.args.left) e c.look.result.now _ _ _ c.in_ok-e.ensures.gives c.look.ensures.here follows in
     let made = ap (λ o. reading.and_then o
-        (λ r. reading.pure (tree.assign e r (spells.span_from_to (tree.span_of e) (tree.span_of r))))) c.in-Ok.ensures.gives in
+    (λ r. reading.pure (tree.assign e r (spells.span_from_to (tree.span_of e) (tree.span_of r))))) c.in-Ok.ensures.gives in
     read ∙ made ∙ ap (λ v. Ok (v, drop c.in-Ok.to c.args.tokens.now)) (sym c.in_ok-assigned-in-Ok.ensures.ok)
 
 pub expr-returns-in-Err-clause-gives : goal.expr-returns-in-Err-clause-gives

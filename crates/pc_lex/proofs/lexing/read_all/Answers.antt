@@ -19,7 +19,7 @@ pieces-smaller c =
 pub pieces-preserved : goal.pieces-preserved
 pieces-preserved c =
     passes_on c.step.new.tokens
-        (goes_on c.args.text.now c.pieces.at c.pieces.first c.pieces.tokens c.step.new.tokens (c.in_ok-end.end, c.in_ok-end.begins) c.pieces-test.true c.pieces.invariant c.in_ok-end.ensures.ok) c.pass_blanks.ensures.passes
+    (goes_on c.args.text.now c.pieces.at c.pieces.first c.pieces.tokens c.step.new.tokens (c.in_ok-end.end, c.in_ok-end.begins) c.pieces-test.true c.pieces.invariant c.in_ok-end.ensures.ok) c.pass_blanks.ensures.passes
 
 pub returns-clause-ok : goal.returns-clause-ok
 returns-clause-ok c =

@@ -27,4 +27,4 @@ returns-in-None c core u is =
     let l : c.args.totals.steps + c.from.result ≤ steps_limit = omega (arith, c.if-steps-gt-STEPS_LIMIT.false) in
     let same = same_play c.outcome_of-outcome.result c.args.play c.outcome_of-outcome.ensures.text c.outcome_of-outcome.ensures.ending in
     c.add_new.ensures core c.args.totals.steps u (subst (IsPlayOfSeed core c.args.seed) (sym same) is)
-        (ap (λ (n : ℕ). c.args.totals.steps + n) c.from.ensures) l
+    (ap (λ (n : ℕ). c.args.totals.steps + n) c.from.ensures) l

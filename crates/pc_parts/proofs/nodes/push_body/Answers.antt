@@ -8,5 +8,5 @@ pub returns : goal.returns
 returns c =
     ok_three _ _ _ _ _ _ _ _ c.in_ok-push_bytes.ensures c.in_ok-push_method.ensures
     (subst (λ (core : CoreData). OnOk c.push_taken.result
-        (c.push_taken.new.out.items ≡ c.push_method.new.out.items ++ taken_over_words core c.args.method.now))
+    (c.push_taken.new.out.items ≡ c.push_method.new.out.items ++ taken_over_words core c.args.method.now))
     c.core.ensures c.push_taken.ensures)

@@ -66,7 +66,7 @@ push_suffixes-loop-x-preserved t c =
     let xs = c.args.xs.now in
     let e = subst (λ ys. l.out.items ++ text.printed_suffixes (suffixes_view ys) ≡ c.args.out.now.items ++ text.printed_suffixes (suffixes_view c.args.xs.now)) (item_first xs l.x-index c.x-item.result c.loop-x-test.true c.x-item.is) l.invariant in
     turn _ _ (text.printed_suffix (suffix_view c.x-item.result))
-        (text.printed_suffixes (suffixes_view (drop (l.x-index + 1) xs))) _ c.in_ok-push_suffix.ensures e
+    (text.printed_suffixes (suffixes_view (drop (l.x-index + 1) xs))) _ c.in_ok-push_suffix.ensures e
 
 pub push_suffixes-returns : goal.push_suffixes-returns
 push_suffixes-returns t c =
@@ -135,7 +135,7 @@ push_expr-returns-in_ok-push_enclosed-in-While t c =
     let told = told_while c.args.expression.now c.in-While.cond c.in-While.body c.in-While.span c.in-While.is
     ∙ ap (λ s. (codes "while " ++ (text.printed_seq (seq_view s) ++ codes " do ")) ++ (text.printed_seq (seq_view c.in-While.body.value) ++ codes " end")) (sym c.deref-in-While.ensures)
     ∙ ap (λ s. (codes "while " ++ (text.printed_seq (seq_view cond) ++ codes " do ")) ++ (text.printed_seq (seq_view s) ++ codes " end"))
-        (sym c.deref-in-While-2.ensures) in
+    (sym c.deref-in-While-2.ensures) in
     ok_told r c.args.out.now.items c.push_enclosed-in-While-2.new.out.items (text.printed_expr (expr_view c.args.expression.now)) ((codes "while " ++ (text.printed_seq (seq_view cond) ++ codes " do ")) ++ (text.printed_seq (seq_view body) ++ codes " end")) told (ok_after r c.args.out.now.items c.push_enclosed-in-While.new.out.items c.push_enclosed-in-While-2.new.out.items (codes "while " ++ (text.printed_seq (seq_view cond) ++ codes " do ")) (text.printed_seq (seq_view body) ++ codes " end") c.in_ok-push_enclosed-in-While.ensures c.push_enclosed-in-While-2.ensures)
 
 pub push_expr-returns-in_ok-push_cap-in-Recover : goal.push_expr-returns-in_ok-push_cap-in-Recover
@@ -145,7 +145,7 @@ push_expr-returns-in_ok-push_cap-in-Recover t c =
     let body = c.deref-in-Recover.result.now in
     let told = told_recover c.args.expression.now cap c.in-Recover.body c.in-Recover.span c.in-Recover.is
     ∙ ap (λ s. codes "recover" ++ (text.printed_cap cap ++ (codes " " ++ (text.printed_seq (seq_view s) ++ codes " end"))))
-        (sym c.deref-in-Recover.ensures) in
+    (sym c.deref-in-Recover.ensures) in
     ok_told r c.args.out.now.items c.push_enclosed-in-Recover.new.out.items (text.printed_expr (expr_view c.args.expression.now)) ((codes "recover") ++ ((text.printed_cap cap) ++ (codes " " ++ (text.printed_seq (seq_view body) ++ codes " end")))) told (ok_after r c.args.out.now.items c.extend_from_slice-in-Recover.new.self.items c.push_enclosed-in-Recover.new.out.items (codes "recover") ((text.printed_cap cap) ++ (codes " " ++ (text.printed_seq (seq_view body) ++ codes " end"))) c.in_ok-extend_from_slice-in-Recover.ensures.items (ok_after r c.extend_from_slice-in-Recover.new.self.items c.push_cap.new.out.items c.push_enclosed-in-Recover.new.out.items (text.printed_cap cap) (codes " " ++ (text.printed_seq (seq_view body) ++ codes " end")) c.in_ok-push_cap-in-Recover.ensures c.push_enclosed-in-Recover.ensures))
 
 pub push_expr-returns-in_ok-extend_from_slice-in-Assign : goal.push_expr-returns-in_ok-extend_from_slice-in-Assign

@@ -12,7 +12,7 @@ loop-field-preserved c =
     let xs = c.args.fields.now in
     let e = subst (λ ys. l.out.items ++ text.printed_fields (map field_view ys) ≡ c.args.out.now.items ++ text.printed_fields (map field_view c.args.fields.now)) (item_first xs l.field-index c.field-item.result c.loop-field-test.true c.field-item.is) l.invariant in
     turn _ _ (text.printed_field (field_view c.field-item.result))
-        (text.printed_fields (map field_view (drop (l.field-index + 1) xs))) _ c.in_ok-push_field.ensures e
+    (text.printed_fields (map field_view (drop (l.field-index + 1) xs))) _ c.in_ok-push_field.ensures e
 
 pub returns : goal.returns
 returns c =

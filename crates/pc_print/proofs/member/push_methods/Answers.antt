@@ -12,7 +12,7 @@ loop-method-preserved c =
     let xs = c.args.methods.now in
     let e = subst (λ ys. l.out.items ++ text.printed_methods (map method_view ys) ≡ c.args.out.now.items ++ text.printed_methods (map method_view c.args.methods.now)) (item_first xs l.method-index c.method-item.result c.loop-method-test.true c.method-item.is) l.invariant in
     turn _ _ (text.printed_method (method_view c.method-item.result))
-        (text.printed_methods (map method_view (drop (l.method-index + 1) xs))) _ c.in_ok-push_method.ensures e
+    (text.printed_methods (map method_view (drop (l.method-index + 1) xs))) _ c.in_ok-push_method.ensures e
 
 pub returns : goal.returns
 returns c =

@@ -38,4 +38,4 @@ returns-clause-answers g c =
     let read = c.in_ok-read.read in
     both_answer source_limit schedule_limit (AcceptedStage s) (ScheduleStage d) (λ (a : Accepted) (turns : List Turn). EndsWith (EventsTelling d a.source.core (spread turns))) (UnreadScheduled (named files s) (named files d)) (named files s) (named files d) read.accepted read.turns c.in_ok-read.ensures.reads c.tell_turns.result
     (last_ends (EventsTelling d read.accepted.source.core (spread read.turns)) (λ n. ⊥) c.tell_turns.result
-        (rw (← c.as_slice.ensures) c.tell_turns.ensures))
+    (rw (← c.as_slice.ensures) c.tell_turns.ensures))
