@@ -2,12 +2,18 @@
 
 ROUNDS = 1_000_000
 
+MAIN = """actor Main
+  new create(env: Env) =>
+    env.out.print("done")
+"""
 
-def derivation(bytes_wanted=926_000):
-    """Classes with a counter each, until the source has this many bytes."""
+
+def counters(bytes_wanted=1_000_000):
+    """Classes with a counter each, until they have this many bytes."""
     pieces, length, number = [], 0, 0
     while length < bytes_wanted:
-        piece = f'''class Counter{number}
+        piece = f'''// A counter of its own: what is added to it and taken from it is seen by whoever has this one.
+class Counter{number}
   var _sum_of_all: U64 = 0
   let _name_of_it: String
 
@@ -42,10 +48,17 @@ def derivation(bytes_wanted=926_000):
         pieces.append(piece)
         length += len(piece)
         number += 1
-        if number == 998:
-            break
-    pieces.append("actor Main\n  new create(env: Env) =>\n    env.out.print(\"done\")\n")
     return "".join(pieces)
+
+
+def derivation():
+    """Counters, and a Main."""
+    return counters() + MAIN
+
+
+def refused():
+    """The same, of which the last line is refused."""
+    return counters() + MAIN + "    let one: Counter0 iso = Counter0(\"one\")\n    let other: Counter0 iso = one\n"
 
 
 def long_line(bytes_wanted=1_000_000):
