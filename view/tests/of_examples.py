@@ -21,17 +21,14 @@ SEED = "1"
 EXPLAINED = (1, 4)
 WINDOW = 3
 
-MORE = pages.EXAMPLES / "refused" / "more"
-
-# Fewer pages than this are a mistake: 11 accepted examples with three pages each, and 59 refused ones.
-LEAST_PAGES = 92
+# Fewer pages than this are a mistake: 11 accepted examples with three pages each, and 201 refused ones.
+LEAST_PAGES = 234
 
 
 def asked_for():
-    """The words of a page for each example: its derivation, and if it is accepted its run and who sends what. Those of
-    examples/refused/more differ from the others in their explanations alone, which examples/test compares."""
+    """The words of a page for each example: its derivation, and if it is accepted its run and who sends what."""
     found = []
-    for source in sorted(set(pages.EXAMPLES.glob("**/*.pony")) - set(MORE.glob("*.pony"))):
+    for source in sorted(pages.EXAMPLES.glob("**/*.pony")):
         found.append(("derivation", str(source)))
         if pages.ask("check", str(source))[0] != 0:
             continue
@@ -49,7 +46,7 @@ def made():
     found = []
     for words in asked_for():
         status, out, err = pages.make(*words)
-        file = folder / f"{len(found):02}-{words[0]}-{pathlib.Path(words[1]).stem}.html"
+        file = folder / f"{len(found):03}-{words[0]}-{pathlib.Path(words[1]).stem}.html"
         file.write_text(out)
         found.append((words, file, status, err))
     return found
@@ -60,6 +57,17 @@ def each(kind):
     for words, file, status, _ in made():
         if words[0] == kind and status == 0:
             yield words, pages.data_of(file.read_text())
+
+
+@functools.cache
+def schedule_of(words):
+    """The schedule by which a page of a run is made. That of a seed is written beside the pages."""
+    if words[2] != "--seed":
+        return words[2]
+    source = pathlib.Path(words[1])
+    file = made()[0][1].with_name(f"{source.parent.name}-{source.stem}-{words[3]}.sched")
+    file.write_text(pages.ask("schedule", words[1], words[3])[1])
+    return str(file)
 
 
 class Pages(unittest.TestCase):
@@ -107,7 +115,7 @@ class Derivations(unittest.TestCase):
                 continue
             with self.subTest(words[1]):
                 self.assertEqual(places_of(data), text)
-                self.assertEqual(data["source"], pathlib.Path(words[1]).read_text())
+                self.assertEqual(data["source"], pathlib.Path(words[1]).read_bytes().decode())
                 looked += 1
         self.assertGreater(looked, 12)
 
@@ -117,9 +125,9 @@ class Derivations(unittest.TestCase):
                 continue
             head, place = data["refusal"]["head"], data["refusal"]["place"]
             line, column = (int(it) for it in re.search(r":(\d+):(\d+): ", head).groups())
-            before = data["source"][: place[0]]
+            before = data["source"][: place[0]].encode()
             with self.subTest(words[1]):
-                self.assertEqual((before.count("\n") + 1, len(before) - before.rfind("\n")), (line, column))
+                self.assertEqual((before.count(b"\n") + 1, len(before) - before.rfind(b"\n")), (line, column))
                 self.assertGreater(place[1], place[0])
 
     def test_each_explanation_is_that_of_the_program(self):
@@ -131,7 +139,7 @@ class Derivations(unittest.TestCase):
             with self.subTest(words[1]):
                 self.assertEqual(explanation_of(data), [lines[0], *lines[WINDOW if data["refusal"]["place"] else 1 :]])
                 looked += 1
-        self.assertGreater(looked, 40)
+        self.assertGreater(looked, 180)
 
 
 def explanation_of(data):
@@ -179,7 +187,7 @@ class Runs(unittest.TestCase):
         for words, data in each("run"):
             if data["verdict"] == "ended":
                 continue
-            schedule = self.schedule(words)
+            schedule = schedule_of(words)
             with self.subTest(words[1]):
                 lines = events_of(data)
                 self.assertEqual("\n".join(lines) + "\n", pages.ask("events", words[1], schedule)[1])
@@ -189,15 +197,6 @@ class Runs(unittest.TestCase):
                 self.assertEqual("".join(f"{it}\n" for it in [*data["printed"], data["numbers"]]), pages.ask("run", words[1], schedule)[1])
                 looked += 1
         self.assertGreater(looked, 7)
-
-    def schedule(self, words):
-        if words[2] != "--seed":
-            return words[2]
-        file = tempfile.NamedTemporaryFile("w", suffix=".sched", delete=False)
-        self.addCleanup(pathlib.Path(file.name).unlink)
-        with file:
-            file.write(pages.ask("schedule", words[1], words[3])[1])
-        return file.name
 
 
 def events_of(data):
