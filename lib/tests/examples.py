@@ -9,6 +9,7 @@ import tempfile
 import unittest
 
 import built
+import cases
 
 ACCEPTED = "class C\nactor Main\n  new create(env: Env) =>\n    let a: C iso = C\n"
 REFUSED = ACCEPTED + "    let b: C iso = a\n"
@@ -92,27 +93,100 @@ class Examples(unittest.TestCase):
         for block in shown:
             self.assertIn(block, (built.LIB / "confirm.c").read_text())
 
-    def test_python(self):
-        copy = self.room / "lib" / "python"
-        shutil.copytree(built.LIB / "python", copy, ignore=shutil.ignore_patterns("__pycache__"))
+    def copy_of(self, language):
+        """A copy of the examples in a language, with the library where they look for it."""
+        copy = self.room / "lib" / language
+        shutil.copytree(built.LIB / language, copy, ignore=shutil.ignore_patterns("__pycache__", "target"))
         (self.room / "out").mkdir()
         (self.room / "out" / "lib").symlink_to(built.library)
+        return copy
+
+    def cargo(self, copy, *words):
+        """What cargo does in the copy, without a network."""
+        surroundings = {**os.environ, "CARGO_TARGET_DIR": str(self.room / "target"), "RUSTC_WRAPPER": ""}
+        surroundings.pop("RUSTFLAGS", None)
+        return built.must(["cargo", words[0], "--offline", "--quiet", *words[1:]], cwd=copy, env=surroundings)
+
+    def test_python(self):
+        copy = self.copy_of("python")
         ran = built.must([sys.executable, "-B", copy / "example.py", "a.pony", "b.pony"], cwd=self.room)
         wanted = ACCEPTED_LINE + f"b.pony: status 1, {PLACE}: source:5:5: no rule\n  let b: C iso = a\n"
         self.assertEqual(ran.stdout.decode(), wanted)
+        utf8 = {**os.environ, "PYTHONUTF8": "1"}
+        ran = built.must([sys.executable, "-B", copy / "example.py", *FILES], cwd=FOLDER, env=utf8)
+        self.assertEqual(ran.stdout, b"".join(line_of(name, lambda status: f"status {status}") for name in FILES))
 
     def test_rust(self):
-        copy = self.room / "lib" / "rust"
-        shutil.copytree(built.LIB / "rust", copy, ignore=shutil.ignore_patterns("target"))
-        (self.room / "out").mkdir()
-        (self.room / "out" / "lib").symlink_to(built.library)
-        surroundings = {**os.environ, "CARGO_TARGET_DIR": str(self.room / "target"), "RUSTC_WRAPPER": ""}
-        surroundings.pop("RUSTFLAGS", None)
-        built.must(["cargo", "test", "--offline", "--quiet"], cwd=copy, env=surroundings)
-        words = ["cargo", "run", "--offline", "--quiet", "--example", "check", "--", self.room / "a.pony", self.room / "b.pony"]
-        ran = built.must(words, cwd=copy, env=surroundings)
+        copy = self.copy_of("rust")
+        self.cargo(copy, "test")
+        ran = self.cargo(copy, "run", "--example", "check", "--", self.room / "a.pony", self.room / "b.pony")
         wanted = ACCEPTED_LINE + f"b.pony: NoDerivation, {PLACE}: source:5:5: no rule\n  let b: C iso = a\n"
         self.assertEqual(ran.stdout.decode().replace(f"{self.room}/", ""), wanted)
+        ran = built.must([self.room / "target" / "debug" / "examples" / "check", *FILES], cwd=FOLDER)
+        self.assertEqual(ran.stdout, b"".join(line_of(name, RUST_STATUS.get) for name in FILES))
+
+    def test_c_over_all_examples(self):
+        program = built.compiled("gcc", (built.LIB / "example.c",))
+        for name in FILES:
+            ran = built.run([program, name], cwd=FOLDER)
+            status = cases.wanted(case_of(name)).status
+            self.assertEqual((ran.returncode, ran.stdout, ran.stderr), (status, shown_by_c(name), b""), name)
+
+
+# The sources of the examples, by their names in their folder.
+FOLDER = built.TOP / "examples"
+FILES = [str(it.relative_to(FOLDER)) for it in sorted(FOLDER.rglob("*.pony"))]
+
+# What the crate calls the statuses with which a source is refused.
+RUST_STATUS = {1: "NoDerivation", 3: "BadSyntax", 4: "BadNames", 8: "PastALimit"}
+
+# How much of a line the example in C has room for.
+LINE_ROOM = 128
+
+
+def case_of(name, command="check"):
+    return cases.Case(command, (FOLDER / name).read_bytes())
+
+
+def where(place):
+    """The place of a refusal, as all examples print it."""
+    _, line, column, offset, _, _, end = place
+    return f"line {line}, column {column}, bytes {offset} to {end}"
+
+
+def line_of(name, status_word):
+    """What the examples in Rust and Python print of a file, by what the program answers."""
+    case = case_of(name)
+    answer = cases.wanted(case)
+    if answer.status == 0:
+        return f"{name}: accepted, with a derivation of {len(answer.out)} bytes\n".encode()
+    said = f"{name}: {status_word(answer.status)}"
+    if answer.place[0] == 0:
+        return f"{said}: {answer.err.decode()}".encode()
+    piece = case.source[answer.place[3] : answer.place[6]].decode(errors="replace")
+    return f"{said}, {where(answer.place)}: {answer.err.decode()}  {piece}\n".encode()
+
+
+def shown_by_c(name):
+    """What the example in C prints of a file, by what the program answers."""
+    answer = cases.wanted(case_of(name))
+    if answer.status == 0:
+        return answer.out
+    head = f"{name}: status {answer.status}, {where(answer.place)}\n".encode()
+    explained = cases.wanted(case_of(name, "explain"))
+    if explained.status == 0:
+        return head + explained.out
+    return head + answer.err[:LINE_ROOM] + (marked(case_of(name).source, answer.place) if answer.place[0] else b"")
+
+
+def marked(source, place):
+    """The line of the source that has a place, and a mark under each byte of the piece, as far as the line goes."""
+    _, _, column, offset, _, _, end = place
+    start = offset - (column - 1)
+    line = source[start:].split(b"\n")[0]
+    marks = max(1, min(end, start + len(line)) - offset)
+    # Printing a line ends at a byte 0.
+    return line.split(b"\0")[0] + b"\n" + b" " * (column - 1) + b"^" * marks + b"\n"
 
 
 ASKS = """
