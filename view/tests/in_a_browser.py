@@ -1,6 +1,7 @@
 """Pages in a headless Chromium: each walks itself in a wide and in a narrow window, in light and in dark; what panels show
 is what the program's texts say; and what is printed is the picture alone, in light."""
 
+import concurrent.futures
 import contextlib
 import html
 import json
@@ -148,9 +149,11 @@ class Browser(unittest.TestCase):
         return bad, sum(int(result.split()[1]) for _, result in named if result.startswith("ok "))
 
     def answers(self, ask, rows):
-        """What pages answer in frames, a browser for some of them."""
+        """What pages answer in frames, a browser for some of them, and as many browsers at once as there are processors."""
         parts = [rows[at : at + MOST_PAGES] for at in range(0, len(rows), MOST_PAGES)]
-        return [answer for part in parts for answer in self.answers_together(ask, part)]
+        with concurrent.futures.ThreadPoolExecutor(pages.PROCESSORS) as pool:
+            found = pool.map(lambda part: self.answers_together(ask, part), parts)
+            return [answer for answers in found for answer in answers]
 
     def answers_together(self, ask, rows):
         """What pages answer in frames, all in one browser."""

@@ -2,6 +2,7 @@
 comes from outside."""
 
 import atexit
+import concurrent.futures
 import functools
 import pathlib
 import re
@@ -43,13 +44,16 @@ def made():
     """All pages, in a folder that goes at the end: of each its words, its file and its status."""
     folder = pathlib.Path(tempfile.mkdtemp(prefix="view-pages-"))
     atexit.register(shutil.rmtree, folder, ignore_errors=True)
-    found = []
-    for words in asked_for():
+
+    def make(number, words):
         status, out, err = pages.make(*words)
-        file = folder / f"{len(found):03}-{words[0]}-{pathlib.Path(words[1]).stem}.html"
+        file = folder / f"{number:03}-{words[0]}-{pathlib.Path(words[1]).stem}.html"
         file.write_text(out)
-        found.append((words, file, status, err))
-    return found
+        return words, file, status, err
+
+    wanted = asked_for()
+    with concurrent.futures.ThreadPoolExecutor(pages.PROCESSORS) as pool:
+        return list(pool.map(make, range(len(wanted)), wanted))
 
 
 def each(kind):

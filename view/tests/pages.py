@@ -14,6 +14,9 @@ CASES = HERE / "cases"
 EXAMPLES = TOP / "examples"
 STAND_IN = HERE / "stand_in"
 
+# How many processors there are for the tests.
+PROCESSORS = len(os.sched_getaffinity(0))
+
 DATA = re.compile(r'<script type="application/json" id="data">(.*?)</script>', re.DOTALL)
 
 
