@@ -1,5 +1,5 @@
 //! A list that several owners share.
-ghost use Rattle.std.specs.Prelude.{◌≡◌, length, IfOk};
+ghost use Rattle.std.specs.Prelude.{◌≡◌, [], length, IfOk, OnErr};
 
 use crate::list::List;
 use std::alloc::{AllocError, Global};
@@ -10,18 +10,19 @@ use std::rc::Rc;
 /// nothing else.
 ///
 /// Text literals keep their bytes this way, since the body of a trait's method is in the core once for each entity that
-/// takes it over.
+/// takes it over; nodes keep their children this way, since what a program still has to do refers to them.
 #[derive(Debug, Drop)]
 pub struct SharedList<T> {
-    row: Rc<List<T>>,
+    /// `None` if there are no values: then nothing is allocated.
+    row: Option<Rc<List<T>>>,
 }
 
 impl<T> Model for SharedList<T> {
-    ghost use Rattle.std.specs.Prelude.{List as Sequence};
+    ghost use Rattle.std.specs.Prelude.{List as Sequence, [], unwrap_or, option_map};
 
     ghost Value = { Sequence T };
 
-    ghost view = { λ shared. shared.row.value };
+    ghost view = { λ shared. unwrap_or (option_map (λ held. held.value) shared.row) [] };
 }
 
 impl<T: Drop> SharedList<T> {
@@ -29,8 +30,11 @@ impl<T: Drop> SharedList<T> {
     pub fn from_list(alloc: Global, values: List<T>) -> Result<SharedList<T>, AllocError>
         ensures { IfOk result (λ shared. shared ≡ values) }
     {
+        if values.is_empty() {
+            return Ok(SharedList { row: None });
+        }
         match Rc::new(alloc, values) {
-            Ok(row) => Ok(SharedList { row }),
+            Ok(held) => Ok(SharedList { row: Some(held) }),
             Err(_) => Err(AllocError),
         }
     }
@@ -39,9 +43,11 @@ impl<T: Drop> SharedList<T> {
     pub fn share(&self) -> Result<SharedList<T>, AllocError>
         ensures { IfOk result (λ shared. shared ≡ self.now) }
     {
-        Ok(SharedList {
-            row: self.row.clone()?,
-        })
+        let row = match &self.row {
+            Some(held) => Some(held.clone()?),
+            None => None,
+        };
+        Ok(SharedList { row })
     }
 }
 
@@ -50,7 +56,10 @@ impl<T> SharedList<T> {
     pub fn as_slice(&self) -> &[T]
         ensures { result.now ≡ self.now }
     {
-        self.row.as_slice()
+        match &self.row {
+            Some(held) => held.as_slice(),
+            None => &[],
+        }
     }
 
     /// The number of values.

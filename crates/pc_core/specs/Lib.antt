@@ -1,4 +1,3 @@
-pub mod Children
 pub mod CoreData
 pub mod Lookup
 pub mod MethodKeys

@@ -1,7 +1,6 @@
 //! The contents of methods: slots and nodes.
 
-use crate::children::Children;
-use pc_caps::{Cap, SharedList, Span};
+use pc_caps::{Cap, List, SharedList, Span};
 use pc_tree::Op;
 
 /// The kind of a slot.
@@ -85,7 +84,7 @@ pub enum NodeKind {
 pub struct Node {
     pub kind: NodeKind,
     /// The parts that are evaluated before it finishes, by their numbers, in the order of evaluation.
-    pub children: Children,
+    pub children: SharedList<u32>,
     /// The number of `recover` bodies around it within its method.
     pub depth: u32,
     /// The method that it belongs to.

@@ -4,8 +4,6 @@
 #[cfg(test)]
 mod bodies;
 #[cfg(test)]
-mod children;
-#[cfg(test)]
 mod conforming;
 #[cfg(test)]
 mod faults;

@@ -4,10 +4,9 @@ ghost use Rattle.pc_body_spec.specs.Roses as roses;
 ghost use Rattle.pc_emit.specs.Giving.{GivesNodes};
 ghost use Rattle.pc_emit.specs.Closing.{TakesLast, closing, arm_closes, link_closes, none_closes, seq_closes, this_closes, written_kind};
 
-use crate::nodes::{double, leaf, one, several, several_and, single};
+use crate::nodes::{double, leaf, one, push, single};
 use crate::setting::Setting;
 use crate::stop::EmitStop;
-use crate::tops::Tops;
 use pc_caps::{List, Span};
 use pc_core::{Node, NodeKind};
 use pc_tree::NONE_ENTITY;
@@ -27,7 +26,7 @@ pub(crate) struct OpenArm {
 pub(crate) struct Link {
     pub(crate) kind: NodeKind,
     pub(crate) span: Span,
-    pub(crate) args: Tops,
+    pub(crate) args: List<u32>,
 }
 
 /// A chain whose suffixes have their arguments. The beginning of the chain is still missing.
@@ -76,7 +75,8 @@ fn close_arm(
 {
     let mut children = one(setting.alloc, arm.cond)?;
     children.push(arm.body)?;
-    let chosen = several_and(setting, nodes, NodeKind::If, arm.span, children, other)?;
+    children.push(other)?;
+    let chosen = push(setting, nodes, NodeKind::If, arm.span, children)?;
     if arm.first {
         return Ok(chosen);
     }
@@ -96,7 +96,9 @@ pub(crate) fn close_links(
     let mut links = links;
     let mut top = origin;
     'close: while let Some(link) = take_last(&mut links) {
-        top = several_and(setting, nodes, link.kind, link.span, link.args, top)?;
+        let mut children = link.args;
+        children.push(top)?;
+        top = push(setting, nodes, link.kind, link.span, children)?;
     }
     Ok(top)
 }
@@ -136,12 +138,14 @@ pub(crate) fn call_this(
     span: Span,
     text: u32,
     place: Span,
-    args: Tops,
+    args: List<u32>,
 ) -> Result<u32, EmitStop>
     ensures { GivesNodes result nodes.new (this_closes setting.now.number setting.now.depth span text place args nodes.old) }
 {
     let this = leaf(setting, nodes, NodeKind::This, place)?;
-    several_and(setting, nodes, NodeKind::Call(text), span, args, this)
+    let mut children = args;
+    children.push(this)?;
+    push(setting, nodes, NodeKind::Call(text), span, children)
 }
 
 // The items of a sequence, or the value None if it has none.
@@ -150,8 +154,8 @@ fn or_none(
     setting: &Setting,
     nodes: &mut List<Node>,
     span: Span,
-    items: Tops,
-) -> Result<Tops, EmitStop>
+    items: List<u32>,
+) -> Result<List<u32>, EmitStop>
     ensures { GivesNodes result nodes.new (none_closes setting.now.number setting.now.depth span items nodes.old) }
 {
     if !items.is_empty() {
@@ -167,10 +171,10 @@ pub(crate) fn close_sequence(
     setting: &Setting,
     nodes: &mut List<Node>,
     span: Span,
-    items: Tops,
+    items: List<u32>,
 ) -> Result<u32, EmitStop>
     ensures { GivesNodes result nodes.new (seq_closes setting.now.number setting.now.depth span items nodes.old) }
 {
     let children = or_none(setting, nodes, span, items)?;
-    several(setting, nodes, NodeKind::Seq, span, children)
+    push(setting, nodes, NodeKind::Seq, span, children)
 }

@@ -91,20 +91,19 @@ fn goes(heap: &mut Heap, act: Act) -> bool {
     }
 }
 
-// The place of the first of these acts that does not have the result that it states.
-fn wrong_act(heap: &mut Heap, acts: &[Act]) -> Option<usize> {
-    for at in 0..acts.len() {
-        if !goes(heap, acts[at]) {
-            return Some(at);
+fn all_go(heap: &mut Heap, acts: &[Act]) -> bool {
+    for act in acts {
+        if !goes(heap, *act) {
+            return false;
         }
     }
-    None
+    true
 }
 
-// The same, one after another, in a new heap.
-fn wrong_in_heap(alloc: Global, acts: &[Act]) -> Option<usize> {
+// Whether these acts have the results that they state, one after another, in a new heap.
+fn go(alloc: Global, acts: &[Act]) -> bool {
     let mut heap = Heap::new(alloc);
-    wrong_act(&mut heap, acts)
+    all_go(&mut heap, acts)
 }
 
 const ONE_OBJECT: [Act; 12] = [
@@ -124,7 +123,7 @@ const ONE_OBJECT: [Act; 12] = [
 
 #[test]
 fn an_object_has_its_entity_and_its_fields(rt: HostRuntime) {
-    assert_eq!(rt; wrong_in_heap(rt.alloc(), &ONE_OBJECT), None);
+    assert!(rt; go(rt.alloc(), &ONE_OBJECT));
 }
 
 const SERIALS: [Act; 9] = [
@@ -141,7 +140,7 @@ const SERIALS: [Act; 9] = [
 
 #[test]
 fn each_maker_counts_its_own_objects(rt: HostRuntime) {
-    assert_eq!(rt; wrong_in_heap(rt.alloc(), &SERIALS), None);
+    assert!(rt; go(rt.alloc(), &SERIALS));
 }
 
 const ROOM: [Act; 8] = [
@@ -157,7 +156,7 @@ const ROOM: [Act; 8] = [
 
 #[test]
 fn room_that_is_not_used_is_no_object(rt: HostRuntime) {
-    assert_eq!(rt; wrong_in_heap(rt.alloc(), &ROOM), None);
+    assert!(rt; go(rt.alloc(), &ROOM));
 }
 
 const MANY_FIELDS: [Act; 5] = [
@@ -170,7 +169,7 @@ const MANY_FIELDS: [Act; 5] = [
 
 #[test]
 fn behind_the_last_of_many_fields_there_is_none(rt: HostRuntime) {
-    assert_eq!(rt; wrong_in_heap(rt.alloc(), &MANY_FIELDS), None);
+    assert!(rt; go(rt.alloc(), &MANY_FIELDS));
 }
 
 const FIELDS_APART: [Act; 7] = [
@@ -185,5 +184,5 @@ const FIELDS_APART: [Act; 7] = [
 
 #[test]
 fn the_fields_of_one_object_are_no_fields_of_another(rt: HostRuntime) {
-    assert_eq!(rt; wrong_in_heap(rt.alloc(), &FIELDS_APART), None);
+    assert!(rt; go(rt.alloc(), &FIELDS_APART));
 }

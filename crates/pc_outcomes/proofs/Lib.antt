@@ -1,5 +1,4 @@
-pub mod Grouping
-pub mod Growing
+mod Grouping
 mod Ended
 mod Adding
 mod Finding

@@ -1,4 +1,3 @@
 pub mod Meanings
 pub mod Indexes
 pub mod Pairs
-pub mod Near

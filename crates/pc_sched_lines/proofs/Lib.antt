@@ -1,4 +1,4 @@
 mod Grouping
 mod OneLine
-pub mod Spelling
+mod Spelling
 pub mod Spreads

@@ -1,4 +1,4 @@
 pub mod Orders
 mod Places
-pub mod Telling
+mod Telling
 mod Whole

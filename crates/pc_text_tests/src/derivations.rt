@@ -3,7 +3,7 @@ use pc_ann::{Ann, Note, Rule};
 use pc_caps::{Form, List};
 use pc_deriv::{DerivFault, read, write, write2};
 use pc_masks::Mask;
-use pc_test_inputs::{LINES, LINES2, NODES, NodeRow, SLOTS, Wrong, compared, note, variant_of};
+use pc_test_inputs::{LINES, LINES2, NODES, NodeRow, SLOTS, note, variant_of};
 use std::alloc::{AllocError, Global};
 
 fn notes_of(alloc: Global, rows: &[NodeRow]) -> Result<List<Note>, AllocError> {
@@ -22,31 +22,30 @@ fn ann_of(alloc: Global, rows: &[NodeRow]) -> Result<Ann, AllocError> {
     })
 }
 
-/// Whether a text is read as it should be, or why it is not read.
-type ReadAs = Result<bool, DerivFault>;
-
-fn is_read_as(alloc: Global, text: &[u8], wanted: &Ann) -> ReadAs {
+fn is_read_as(alloc: Global, text: &[u8], wanted: &Ann) -> bool {
     match read(alloc, text) {
-        Ok(ann) => Ok(ann == *wanted),
-        Err(fault) => Err(fault),
+        Ok(ann) => ann == *wanted,
+        Err(_) => false,
     }
 }
 
 // The text of an annotation in version 2, or in version 1.
-fn text_of(alloc: Global, second: bool, ann: &Ann) -> Result<List<u8>, Wrong> {
+fn text_of(alloc: Global, second: bool, ann: &Ann) -> Result<List<u8>, AllocError> {
     if ann.slots.len() > 640_000 || ann.notes.len() > 200_000 {
-        return Err(Wrong::PastLimit);
+        return Err(AllocError);
     }
     if second {
-        Ok(write2(alloc, ann)?)
+        write2(alloc, ann)
     } else {
-        Ok(write(alloc, ann)?)
+        write(alloc, ann)
     }
 }
 
-fn is_written_as(alloc: Global, second: bool, ann: &Ann, text: &[u8]) -> Result<(), Wrong> {
-    let found = text_of(alloc, second, ann)?;
-    compared(found.as_slice(), text)
+fn is_written_as(alloc: Global, second: bool, ann: &Ann, text: &[u8]) -> bool {
+    match text_of(alloc, second, ann) {
+        Ok(found) => found.as_slice() == text,
+        Err(AllocError) => false,
+    }
 }
 
 // Whether lines with another first line are read as the example's slots and these nodes.
@@ -55,17 +54,17 @@ fn is_read(
     lines: &[&[u8]],
     first: &[u8],
     rows: &[NodeRow],
-) -> Result<ReadAs, AllocError> {
+) -> Result<bool, AllocError> {
     let text = variant_of(alloc, lines, 1, first)?;
     let wanted = ann_of(alloc, rows)?;
     Ok(is_read_as(alloc, &text, &wanted))
 }
 
-// Checks that these lines are written for the example, in version 2 or in version 1.
-fn is_written(alloc: Global, second: bool, lines: &[&[u8]]) -> Result<(), Wrong> {
+// Whether these lines are written for the example, in version 2 or in version 1.
+fn is_written(alloc: Global, second: bool, lines: &[&[u8]]) -> Result<bool, AllocError> {
     let text = variant_of(alloc, lines, 0, b"")?;
     let ann = ann_of(alloc, &NODES)?;
-    is_written_as(alloc, second, &ann, &text)
+    Ok(is_written_as(alloc, second, &ann, &text))
 }
 
 const HEAD: &[u8] = b"rcap-derivation 1 4 7\n";
@@ -75,10 +74,10 @@ const HEAD2: &[u8] = b"rcap-derivation 2 4 7\n";
 #[test]
 fn the_example_is_read_and_written_in_both_versions(rt: HostRuntime) {
     let alloc = rt.alloc();
-    assert_eq!(rt; is_read(alloc, &LINES, HEAD, &NODES), Ok(Ok(true)));
-    assert_eq!(rt; is_read(alloc, &LINES2, HEAD2, &NODES), Ok(Ok(true)));
-    assert_eq!(rt; is_written(alloc, false, &LINES), Ok(()));
-    assert_eq!(rt; is_written(alloc, true, &LINES2), Ok(()));
+    assert!(rt; is_read(alloc, &LINES, HEAD, &NODES) == Ok(true));
+    assert!(rt; is_read(alloc, &LINES2, HEAD2, &NODES) == Ok(true));
+    assert!(rt; is_written(alloc, false, &LINES) == Ok(true));
+    assert!(rt; is_written(alloc, true, &LINES2) == Ok(true));
 }
 
 // The masks after a node taken for the bits that differ, and the bits that differ taken for the masks after it.
@@ -95,8 +94,8 @@ const OTHER_NODES: [NodeRow; 7] = [
 #[test]
 fn the_lines_of_one_version_say_other_masks_in_the_other(rt: HostRuntime) {
     let alloc = rt.alloc();
-    assert_eq!(rt; is_read(alloc, &LINES, HEAD2, &OTHER_NODES), Ok(Ok(true)));
-    assert_eq!(rt; is_read(alloc, &LINES2, HEAD, &OTHER_NODES), Ok(Ok(true)));
+    assert!(rt; is_read(alloc, &LINES, HEAD2, &OTHER_NODES) == Ok(true));
+    assert!(rt; is_read(alloc, &LINES2, HEAD, &OTHER_NODES) == Ok(true));
 }
 
 /// The number of a line, other bytes for it, and what is wrong then.
@@ -307,13 +306,13 @@ fn alone(alloc: Global, own: Note) -> Result<Ann, AllocError> {
     })
 }
 
-// Whether a text is read as this one note, if it is what is written for it in version 2, or in version 1.
-fn is_of_note(alloc: Global, second: bool, text: &[u8], own: Note) -> Result<ReadAs, Wrong> {
+// Whether a text is read as this one note, and is what is written for it in version 2, or in version 1.
+fn is_of_note(alloc: Global, second: bool, text: &[u8], own: Note) -> Result<bool, AllocError> {
     let ann = alone(alloc, own)?;
-    is_written_as(alloc, second, &ann, text).and(Ok(is_read_as(alloc, text, &ann)))
+    Ok(is_written_as(alloc, second, &ann, text) && is_read_as(alloc, text, &ann))
 }
 
-fn is_named(alloc: Global, rule: Rule, name: &str) -> Result<ReadAs, Wrong> {
+fn is_named(alloc: Global, rule: Rule, name: &str) -> Result<bool, AllocError> {
     let parts: [&[u8]; 3] = [
         b"rcap-derivation 1 0 1\nn ",
         name.as_bytes(),
@@ -334,7 +333,7 @@ fn is_named(alloc: Global, rule: Rule, name: &str) -> Result<ReadAs, Wrong> {
 // The first name that is not the name of its rule.
 fn wrong_name<'a>(alloc: Global, names: &[(Rule, &'a str)]) -> Option<&'a str> {
     for (rule, name) in names {
-        if is_named(alloc, *rule, name) != Ok(Ok(true)) {
+        if is_named(alloc, *rule, name) != Ok(true) {
             return Some(*name);
         }
     }
@@ -360,7 +359,7 @@ const MASKS: [MaskRow; 7] = [
 ];
 
 // Whether a node with these live masks, and with the same set masks swapped, is written like this.
-fn has_masks(alloc: Global, row: MaskRow) -> Result<ReadAs, Wrong> {
+fn has_masks(alloc: Global, row: MaskRow) -> Result<bool, AllocError> {
     let (before, after, before_text, after_text, differing) = row;
     let parts: [&[u8]; 9] = [
         b"rcap-derivation 2 0 1\nn body - ",
@@ -388,7 +387,7 @@ fn has_masks(alloc: Global, row: MaskRow) -> Result<ReadAs, Wrong> {
 // The place of the first row of masks that is written differently.
 fn wrong_masks(alloc: Global, rows: &[MaskRow]) -> Option<usize> {
     for at in 0..rows.len() {
-        if has_masks(alloc, rows[at]) != Ok(Ok(true)) {
+        if has_masks(alloc, rows[at]) != Ok(true) {
             return Some(at);
         }
     }

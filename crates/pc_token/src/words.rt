@@ -277,8 +277,7 @@ pub fn word_text(word: Word) -> &'static [u8]
     }
 }
 
-/// The first of some words with this spelling. Where it is inlined, the words are known, and so are their lengths.
-#[inline(always)]
+/// The first of these words with this spelling.
 fn find_word(words: &[Word], text: &[u8]) -> Option<Word>
     ensures { result ≡ spec.first_word words.now text.now }
 {

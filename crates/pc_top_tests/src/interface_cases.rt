@@ -62,10 +62,7 @@ actor Main
 
 #[test]
 fn a_trait_is_named(rt: HostRuntime) {
-    assert_eq!(rt;
-        ends(rt.alloc(), TRAIT, 1, b"a.pony:7:5: no rule\n"),
-        Ok(())
-    );
+    assert!(rt; ends(rt.alloc(), TRAIT, 1, b"a.pony:7:5: no rule\n"));
 }
 
 const DECLARED: &[Ending<'_>] = &[
@@ -118,5 +115,5 @@ actor Main
 #[test]
 fn a_method_is_called_through_an_interface(rt: HostRuntime) {
     let out = b"dog\nsteps 26 skipped 0 actors 2 objects 4 waiting 0\n";
-    assert_eq!(rt; tells(rt.alloc(), RUN, CALLED, b"1*25 0", out), Ok(()));
+    assert!(rt; tells(rt.alloc(), RUN, CALLED, b"1*25 0", out));
 }

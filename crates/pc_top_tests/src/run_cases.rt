@@ -5,7 +5,7 @@ use crate::rows::{
     Failure, NONE, RUN, Refused, Told, all_fail, all_refused, all_told, answers, refuses_made,
     tells,
 };
-use crate::running::{Differs, Wanted};
+use crate::running::Wanted;
 use crate::texts::spaces;
 use pc_test_inputs::programs::{BANK, CHAIN, DOUBLES, HELLO, READERS};
 use std::alloc::{AllocError, Global};
@@ -119,28 +119,24 @@ const TOO_LONG: Wanted<'static> = Wanted {
 fn runs_are_refused(rt: HostRuntime) {
     let alloc = rt.alloc();
     all_refused(&rt, alloc, RUN, REFUSED);
-    assert_eq!(rt;
-        answers(alloc, RUN, DOUBLES, b"1*9 0 1*1000", TOO_LONG),
-        Ok(())
-    );
+    assert!(rt; answers(alloc, RUN, DOUBLES, b"1*9 0 1*1000", TOO_LONG));
 }
 
-// Checks that a schedule that was built moves nothing.
-fn moves_nothing(alloc: Global, schedule: Result<Vec<u8>, AllocError>) -> Result<(), Differs> {
+// Whether a schedule that was built moves nothing.
+fn moves_nothing(alloc: Global, schedule: Result<Vec<u8>, AllocError>) -> bool {
     let out = b"steps 0 skipped 0 actors 2 objects 3 waiting 1\n";
     match schedule {
         Ok(schedule) => tells(alloc, RUN, HELLO, &schedule, out),
-        Err(_) => Err(Differs::NotRun),
+        Err(_) => false,
     }
 }
 
 #[test]
-fn schedules_may_have_1048576_bytes(rt: HostRuntime) {
+fn schedules_may_have_so_many_bytes(rt: HostRuntime) {
     let alloc = rt.alloc();
-    assert_eq!(rt; moves_nothing(alloc, spaces(alloc, 1_048_576)), Ok(()));
+    assert!(rt; moves_nothing(alloc, spaces(alloc, 1_048_576)));
     let err = b"a.sched: longer than 1048576 bytes\n";
-    let ended = refuses_made(alloc, RUN, HELLO, spaces(alloc, 1_048_577), (8, err));
-    assert_eq!(rt; ended, Ok(()));
+    assert!(rt; refuses_made(alloc, RUN, HELLO, spaces(alloc, 1_048_577), (8, err)));
 }
 
 const SCHEDULE: &[u8] = b"1*9 0 1*1000";

@@ -3,20 +3,22 @@ use crate::ends::file_with_end;
 use crate::showing::shown;
 use pc_parse::ParseFault;
 use pc_test_inputs::programs::BANK;
-use pc_test_inputs::{Wrong, compared, tree_of};
+use pc_test_inputs::tree_of;
 use pc_tree::File;
 use std::alloc::Global;
 
-fn shows(alloc: Global, file: &File, shape: &[u8]) -> Result<(), Wrong> {
+fn shows(alloc: Global, file: &File, shape: &[u8]) -> bool {
     match shown(alloc, file) {
-        Some(found) => compared(found.as_slice(), shape),
-        None => Err(Wrong::OutOfMemory),
+        Some(found) => found.as_slice() == shape,
+        None => false,
     }
 }
 
-fn has_shape(alloc: Global, text: &[u8], shape: &[u8]) -> Result<(), Wrong> {
-    let file = tree_of(alloc, text)?;
-    shows(alloc, &file, shape)
+fn has_shape(alloc: Global, text: &[u8], shape: &[u8]) -> bool {
+    match tree_of(alloc, text) {
+        Ok(file) => shows(alloc, &file, shape),
+        Err(_) => false,
+    }
 }
 
 // Texts of files, and their entities, fields and methods; `=` and `=>` stand for a value and a body.
@@ -70,11 +72,11 @@ const SHAPES: [(&[u8], &[u8]); 14] = [
     ),
 ];
 
-// The place of the first of these texts that has another shape, and what is wrong with it.
-fn wrong_shape(alloc: Global, shapes: &[(&[u8], &[u8])]) -> Option<(usize, Wrong)> {
+// The place of the first of these texts that has another shape.
+fn wrong_shape(alloc: Global, shapes: &[(&[u8], &[u8])]) -> Option<usize> {
     for at in 0..shapes.len() {
-        if let Err(wrong) = has_shape(alloc, shapes[at].0, shapes[at].1) {
-            return Some((at, wrong));
+        if !has_shape(alloc, shapes[at].0, shapes[at].1) {
+            return Some(at);
         }
     }
     None
@@ -90,20 +92,15 @@ const BANK_SHAPE: &[u8] =
 
 #[test]
 fn the_bank(rt: HostRuntime) {
-    assert_eq!(rt; has_shape(rt.alloc(), BANK, BANK_SHAPE), Ok(()));
+    assert!(rt; has_shape(rt.alloc(), BANK, BANK_SHAPE));
 }
 
-// What is wrong with a text, if it has no tree.
-fn wrong_with(alloc: Global, text: &[u8]) -> Option<Wrong> {
+// Whether the token at a byte is the first that cannot continue a file.
+fn stops_at(alloc: Global, text: &[u8], place: u32) -> bool {
     match tree_of(alloc, text) {
-        Ok(_) => None,
-        Err(wrong) => Some(wrong),
+        Ok(_) => false,
+        Err(fault) => fault == ParseFault::Unexpected(place),
     }
-}
-
-// What is wrong with a text of which the token at this byte is the first that cannot continue a file.
-fn unexpected_at(place: u32) -> Option<Wrong> {
-    Some(Wrong::NoTree(ParseFault::Unexpected(place)))
 }
 
 // Texts that are not files, and the first byte of the first token that cannot continue one.
@@ -200,12 +197,11 @@ const UNEXPECTED: [(&[u8], u32); 45] = [
     (b"class C class D d", 16),
 ];
 
-// The place of the first of these texts that stops elsewhere, or not at all, and what is wrong with it.
-fn wrong_stop(alloc: Global, texts: &[(&[u8], u32)]) -> Option<(usize, Option<Wrong>)> {
+// The place of the first of these texts that stops elsewhere, or not at all.
+fn wrong_stop(alloc: Global, texts: &[(&[u8], u32)]) -> Option<usize> {
     for at in 0..texts.len() {
-        let found = wrong_with(alloc, texts[at].0);
-        if found != unexpected_at(texts[at].1) {
-            return Some((at, found));
+        if !stops_at(alloc, texts[at].0, texts[at].1) {
+            return Some(at);
         }
     }
     None
@@ -216,17 +212,19 @@ fn unexpected(rt: HostRuntime) {
     assert_eq!(rt; wrong_stop(rt.alloc(), &UNEXPECTED), None);
 }
 
-// What is wrong with a text with two ends, the second of which begins at a byte.
-fn wrong_with_end(alloc: Global, text: &[u8], start: u32) -> Option<Wrong> {
+// The fault of a text with two ends, the second of which begins at a byte.
+fn fault_with_end(alloc: Global, text: &[u8], start: u32) -> Option<ParseFault> {
     match file_with_end(alloc, text, start) {
         Ok(_) => None,
-        Err(wrong) => Some(wrong),
+        Err(fault) => Some(fault),
     }
 }
 
 // A text that is a file, and a token after its end.
 #[test]
 fn behind_the_end(rt: HostRuntime) {
-    assert_eq!(rt; wrong_with_end(rt.alloc(), b"class C", 9), unexpected_at(9));
-    assert_eq!(rt; wrong_with_end(rt.alloc(), b"class", 9), unexpected_at(5));
+    let found = fault_with_end(rt.alloc(), b"class C", 9);
+    assert_eq!(rt; found, Some(ParseFault::Unexpected(9)));
+    let found = fault_with_end(rt.alloc(), b"class", 9);
+    assert_eq!(rt; found, Some(ParseFault::Unexpected(5)));
 }

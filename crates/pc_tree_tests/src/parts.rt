@@ -2,13 +2,14 @@
 use crate::reading::{Part, read};
 use crate::rows::Row;
 use pc_expr::{ParseFault, seq};
-use pc_test_inputs::{Wrong, tokens_of};
+use pc_test_inputs::tokens_of;
 use std::alloc::{AllocError, Global};
 
-// Whether these are the rows of the tree of a text.
-fn has_rows(alloc: Global, text: &[u8], rows: &[Row]) -> Result<bool, Wrong> {
-    let found = read(alloc, Part::Seq, text, 1)?;
-    Ok(found.rows.as_slice() == rows)
+fn has_rows(alloc: Global, text: &[u8], rows: &[Row]) -> bool {
+    match read(alloc, Part::Seq, text, 1) {
+        Ok(found) => found.rows.as_slice() == rows,
+        Err(_) => false,
+    }
 }
 
 // Whole sequences, each part with its first byte and the byte after its last.
@@ -130,12 +131,11 @@ const TREES: [(&[u8], &[Row]); 9] = [
     ),
 ];
 
-// The place of the first of these texts whose tree has other rows, or that has none.
-fn wrong_tree(alloc: Global, trees: &[(&[u8], &[Row])]) -> Option<(usize, Result<bool, Wrong>)> {
+// The place of the first of these texts whose tree has other rows.
+fn wrong_tree(alloc: Global, trees: &[(&[u8], &[Row])]) -> Option<usize> {
     for at in 0..trees.len() {
-        let has_its_rows = has_rows(alloc, trees[at].0, trees[at].1);
-        if has_its_rows != Ok(true) {
-            return Some((at, has_its_rows));
+        if !has_rows(alloc, trees[at].0, trees[at].1) {
+            return Some(at);
         }
     }
     None
@@ -150,14 +150,14 @@ fn trees(rt: HostRuntime) {
 type Stop = (Part, &'static [u8], u16, Result<usize, ParseFault>);
 
 // How many tokens are read for a part of a text.
-fn tokens_read(alloc: Global, part: Part, text: &[u8], level: u16) -> Result<usize, Wrong> {
+fn tokens_read(alloc: Global, part: Part, text: &[u8], level: u16) -> Result<usize, ParseFault> {
     let found = read(alloc, part, text, level)?;
     Ok(found.to)
 }
 
-// What should be read, or why none are.
-fn wanted_of(stop: Stop) -> Result<usize, Wrong> {
-    Ok(stop.3?)
+fn stops_as(alloc: Global, stop: Stop) -> bool {
+    let (part, text, level, wanted) = stop;
+    tokens_read(alloc, part, text, level) == wanted
 }
 
 // How many tokens are read, or the byte of the token at which none are.
@@ -230,13 +230,11 @@ const STOPS: [Stop; 36] = [
     (Part::Seq, b"a = b", 200, Err(ParseFault::TooDeep(2))),
 ];
 
-// The place of the first of these texts whose reading stops elsewhere, and where it does.
-fn wrong_stop(alloc: Global, stops: &[Stop]) -> Option<(usize, Result<usize, Wrong>)> {
+// The place of the first of these texts whose reading stops elsewhere.
+fn wrong_stop(alloc: Global, stops: &[Stop]) -> Option<usize> {
     for at in 0..stops.len() {
-        let (part, text, level, _) = stops[at];
-        let read = tokens_read(alloc, part, text, level);
-        if read != wanted_of(stops[at]) {
-            return Some((at, read));
+        if !stops_as(alloc, stops[at]) {
+            return Some(at);
         }
     }
     None
@@ -264,11 +262,13 @@ fn repeated(
 }
 
 /// How many tokens of a text are read as a sequence; its tree is dropped.
-fn length_read(alloc: Global, text: &[u8], level: u16) -> Result<usize, Wrong> {
-    let tokens = tokens_of(alloc, text)?;
+fn length_read(alloc: Global, text: &[u8], level: u16) -> Result<usize, ParseFault> {
+    let Ok(tokens) = tokens_of(alloc, text) else {
+        return Err(ParseFault::Memory);
+    };
     let tokens = tokens.as_slice();
     if level > 200 || tokens.is_empty() {
-        return Err(Wrong::PastLimit);
+        return Err(ParseFault::Memory);
     }
     let (_, to) = seq(alloc, tokens, 0, level)?;
     Ok(to)
@@ -283,22 +283,30 @@ fn nested(alloc: Global, opened: usize, closed: usize) -> Result<Vec<u8>, AllocE
     Ok(text)
 }
 
-fn nested_read(alloc: Global, opened: usize, closed: usize, level: u16) -> Result<usize, Wrong> {
-    let text = nested(alloc, opened, closed)?;
-    length_read(alloc, text.as_slice(), level)
-}
-
-/// What is wrong with a text that opens one level too many, at this byte.
-fn too_deep_at(place: u32) -> Result<usize, Wrong> {
-    Err(Wrong::NoTree(ParseFault::TooDeep(place)))
+fn nested_read(
+    alloc: Global,
+    opened: usize,
+    closed: usize,
+    level: u16,
+) -> Result<usize, ParseFault> {
+    match nested(alloc, opened, closed) {
+        Ok(text) => length_read(alloc, text.as_slice(), level),
+        Err(AllocError) => Err(ParseFault::Memory),
+    }
 }
 
 #[test]
 fn levels(rt: HostRuntime) {
     let alloc = rt.alloc();
     assert_eq!(rt; nested_read(alloc, 200, 200, 0), Ok(401));
-    assert_eq!(rt; nested_read(alloc, 200, 200, 1), too_deep_at(199));
-    assert_eq!(rt; nested_read(alloc, 201, 0, 0), too_deep_at(200));
+    assert_eq!(rt;
+        nested_read(alloc, 200, 200, 1),
+        Err(ParseFault::TooDeep(199))
+    );
+    assert_eq!(rt;
+        nested_read(alloc, 201, 0, 0),
+        Err(ParseFault::TooDeep(200))
+    );
 }
 
 /// How many tokens of such a text are read.
@@ -308,9 +316,11 @@ fn chain_read(
     part: &[u8],
     count: usize,
     end: &[u8],
-) -> Result<usize, Wrong> {
-    let text = repeated(alloc, begin, part, count, end)?;
-    length_read(alloc, text.as_slice(), 1)
+) -> Result<usize, ParseFault> {
+    match repeated(alloc, begin, part, count, end) {
+        Ok(text) => length_read(alloc, text.as_slice(), 1),
+        Err(AllocError) => Err(ParseFault::Memory),
+    }
 }
 
 #[test]

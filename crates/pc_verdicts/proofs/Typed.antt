@@ -1,47 +1,48 @@
 -- A core has a valid annotation, or one of the faults that show that it has none.
 use Rattle.std.proofs.Common.{◌≡◌, ◌<◌, ◌≤◌, ◌+◌, ℕ, zero, suc, [], Bool, true, false, length, Option, Some, None, Ok, Err, inl, inr, refl, sym, ap, ◌∙◌, subst, arith}
 use Rattle.std.specs.Prelude.{codes, slice_get}
+use Rattle.std.proofs.lemmas.Bool.{false≢true}
 use Rattle.std.proofs.lemmas.List.{length-map}
 use Rattle.std.proofs.lemmas.Option.{none-some}
 use Rattle.pc_ann.specs.declared.annotation.Ann.{Ann}
 use Rattle.pc_ann.specs.declared.annotation.Note.{Note}
-use Rattle.pc_check.proofs.Filling.{else_placed, first_placed, next_placed}
+use Rattle.pc_check.proofs.Filling.{low_at, low_behind, low_next, tree_at}
 use Rattle.pc_check.proofs.Parents.{known}
 use Rattle.pc_check.proofs.Stopping.{leaves, stops}
-use Rattle.pc_check.proofs.Walking.{note_meets, noted, reached, reaches_infer, walked_infer, walked_noted, walked_whole, with_notes}
+use Rattle.pc_check.proofs.Walking.{note_meets, noted, reaches_infer, walked_infer, walked_noted, walked_whole, with_notes}
 use Rattle.pc_check.specs.Faults.{InferenceLeavesUnset, StopsAt}
 use Rattle.pc_check.specs.Inference.{first_note, first_types, inferred_slot, leaves_unset, rules_for, with_inferred, written_type}
-use Rattle.pc_check.specs.SourceMasks.{masks_from}
-use Rattle.pc_check.specs.Sources.{IsPlacedSource}
 use Rattle.pc_check.specs.Walked.{Walked}
-use Rattle.pc_check.specs.declared.sources.Source.{Source as MaskSource}
-use Rattle.pc_check.specs.declared.sources.Source.TheVariants.{Behind, Start}
 use Rattle.pc_core.specs.CoreData.{CoreData}
 use Rattle.pc_core.specs.Formed.{Formed}
 use Rattle.pc_core.specs.declared.declarations.Method.{Method}
 use Rattle.pc_core.specs.declared.nodes.Node.{Node}
+use Rattle.pc_core.specs.declared.nodes.NodeKind.{NodeKind}
+use Rattle.pc_core.specs.declared.nodes.NodeKind.TheVariants as node
 use Rattle.pc_core.specs.declared.nodes.Slot.{Slot}
-use Rattle.pc_deriv.proofs.Reached.{all_app}
 use Rattle.pc_deriv.specs.Text.{NoteFits}
 use Rattle.pc_lists.proofs.Gets.{get_below, get_map, get_within}
 use Rattle.pc_lists.specs.Texts.{Text}
+use Rattle.pc_masks.specs.Masks.{first}
 use Rattle.pc_rules.proofs.Agreeing.{body_method}
-use Rattle.pc_valid.specs.Words.{Masks, before}
+use Rattle.pc_rules.proofs.Homes.{children_of}
+use Rattle.pc_rules.specs.Control.{start_set}
+use Rattle.pc_valid.specs.Words.{Masks, masks_after, before}
 use Rattle.pc_rules.specs.Rules.{IsSaid}
-use Rattle.pc_rules.specs.Trees.{body_tree}
+use Rattle.pc_rules.specs.Trees.{Forest, Tree, body_tree, tree_le}
 use Rattle.pc_valid.specs.Valid.{Valid}
 use Rattle.pc_rules.specs.Checks.{StartsFrom, is_else}
-use Rattle.pc_rules.specs.Checks.StartsFrom.{body}
+use Rattle.pc_rules.specs.Checks.StartsFrom.{body, else_branch, first_child, next_child}
 use Rattle.pc_sub.specs.Declarations.{DeclOk, first_fault}
 use Rattle.pc_sub.specs.Faults.{fits_without_fault}
 use Rattle.pc_sub.specs.declared.faults.DeclFault.{DeclFault}
 use Rattle.pc_refusals.specs.Accepting.{Typing}
 use Rattle.pc_refusals.specs.Accepting.Typing.{declared, no_rule, typed, unset}
 use Rattle.pc_refusals.specs.CoreFaults.{decl_offset, decl_text}
-use Rattle.pc_refusal_lines.specs.Refusal.{offset_line}
+use Rattle.pc_refusals.specs.Refusal.{offset_line}
 use Rattle.pc_refusals.specs.Verdict.{refused}
 use Rattle.pc_refusals.specs.declared.source.Source.{Source}
-use Rattle.pc_verdicts.proofs.Fitting.{BothFit, NotesFit, SlotsAreSmall, first_slots, inferred_slots, noted_fits, reaches_fit}
+use Rattle.pc_verdicts.proofs.Fitting.{BothFit, NotesFit, SlotsAreSmall, first_slots, inferred_slots, noted_fits, notes_push, reaches_fit}
 use Rattle.pc_verdicts.proofs.Stages.{HasEnd}
 
 -- What the checker finds.
@@ -53,23 +54,48 @@ pub data Checked (core : CoreData) : Type 0 where
 
 -- ---- the masks that reach a node
 
--- They have a source.
+-- Whatever notes there are before the first number, some masks reach the node.
+abbrev Comes : CoreData → (low node : ℕ) → Type 0
+Comes core low n = (ann : Ann) → low ≤ length ann.notes → (m : Masks) × StartsFrom core ann n m
+
+-- What is in the node begins at such a number.
 abbrev Placed : CoreData → ℕ → Type 0
-Placed core n = (s : MaskSource) × IsPlacedSource core n s
+Placed core n = (low : ℕ) × Tree core low n × Comes core low n
+
+else_is : (k : NodeKind) (i : ℕ) → is_else k i ≡ true → (k ≡ node.If) × (i ≡ 2)
+else_is node.If (suc (suc zero)) e = (refl, refl)
+else_is k i e = absurd (false≢true e)
 
 module _ (core : CoreData) (p c : ℕ) (x : Node) (g : slice_get core.nodes p ≡ Some x) (own : Placed core p) where
+  trees : Forest core own.0 p x.children
+  trees = children_of core own.0 p x g own.1
+
+  first_placed : slice_get x.children 0 ≡ Some c → Placed core c
+  first_placed e = (own.0, tree_at core own.0 p 0 c x.children trees e, λ ann l. let r = own.2 ann l in (r.0, first_child p x g e r.1))
+
   later_placed : (i : ℕ) → slice_get x.children (suc i) ≡ Some c → (b : Bool) → is_else x.kind (suc i) ≡ b → Placed core c
   later_placed i e true b =
       let within = get_below x.children (suc i) c e in
       let d = get_within x.children 0 (omega (arith, within)) in
-      (Behind d.0, else_placed x i d.0 b d.1 own.0 core p c g own.1 e)
+      let k = else_is x.kind (suc i) b in
+      let low = low_behind core own.0 p i c d.0 x.children trees d.1 e in (
+        low_at own.0 x.children (suc i),
+        tree_at core own.0 p (suc i) c x.children trees e,
+        λ ann l.
+            let t = get_within ann.notes d.0 (omega (arith, low, l)) in
+            (masks_after t.0, else_branch p d.0 x t.0 g k.0 (ap (slice_get x.children) (sym k.1) ∙ e) d.1 t.1),
+      )
   later_placed i e false b =
       let within = get_below x.children (suc i) c e in
       let d = get_within x.children i (omega (arith, within)) in
-      (Behind d.0, next_placed x i d.0 b d.1 own.0 core p c g own.1 e)
+      let low = low_next own.0 i d.0 x.children d.1 in (
+        low_at own.0 x.children (suc i),
+        tree_at core own.0 p (suc i) c x.children trees e,
+        λ ann l. let t = get_within ann.notes d.0 (omega (arith, low, l)) in (masks_after t.0, next_child p d.0 i x t.0 g b e d.1 t.1),
+      )
 
   child_placed : (i : ℕ) → slice_get x.children i ≡ Some c → Placed core c
-  child_placed zero e = (own.0, first_placed x own.0 core p c g own.1 e)
+  child_placed zero e = first_placed e
   child_placed (suc i) e = later_placed i e (is_else x.kind (suc i)) refl
 
 module _ (core : CoreData) (formed : Formed core) where
@@ -77,7 +103,7 @@ module _ (core : CoreData) (formed : Formed core) where
   body_placed n m f is b =
       let fit = (formed.methods m f is).body n b in
       let at : slice_get core.methods fit.root.method ≡ Some f = ap (slice_get core.methods) (body_method core m f n b fit) ∙ is in
-      (Start fit.root.method, (f.first_node, body_tree core m f n fit, (f, at, λ ann. body fit.root f fit.is_root fit.is_body at)))
+      (f.first_node, body_tree core m f n fit, λ ann l. ((first (1 + length f.params), start_set core f), body fit.root f fit.is_root fit.is_body at))
 
   placed : (rest n : ℕ) → length core.nodes ≤ n + rest → n < length core.nodes → Placed core n
   placed zero n far l = absurd (omega (arith, far, l))
@@ -91,7 +117,8 @@ module _ (core : CoreData) (formed : Formed core) where
   reaching : (ann : Ann) (n : ℕ) → length ann.notes ≡ n → n < length core.nodes → (m : Masks) × StartsFrom core ann n m
   reaching ann n count l =
       let p = placed (length core.nodes) n (omega arith) l in
-      (masks_from core ann p.0, reached core ann n p.0 count p.1)
+      let low = tree_le core p.0 n p.1 in
+      p.2 ann (omega (arith, low, count))
 
   -- ---- from node to node
 
@@ -101,7 +128,7 @@ module _ (core : CoreData) (formed : Formed core) where
         (on : (c : Ann) → Walked core c (n + 1) → SlotsAreSmall c.slots → NotesFit c.notes → Checked core) where
       by_fields : (t : Note) → IsSaid core b x t → StartsFrom core b n (before t) → NoteFits t → (c : Bool) → leaves_unset core x t ≡ c → Checked core
       by_fields t meets r own true e = left (noted b t) x.method (leaves core b n x t formed ok g h.0 meets r e)
-      by_fields t meets r own false e = on (noted b t) (walked_noted core b n x t formed g h.0 meets r e) small (all_app NoteFits b.notes t fit own)
+      by_fields t meets r own false e = on (noted b t) (walked_noted core b n x t formed g h.0 meets r e) small (notes_push b.notes t fit own)
 
       by_note : (o : Option Note) → first_note core b x m (rules_for x.kind) ≡ o → Checked core
       by_note None e = stopped b n m (stops core a b n x m formed ok w g is h e)

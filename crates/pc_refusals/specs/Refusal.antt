@@ -1,8 +1,8 @@
 -- Lines that name a byte of a file.
 use Rattle.std.specs.Prelude.{ℕ, take}
 use Rattle.pc_lists.specs.Texts.{Text}
-use Rattle.pc_refusal_lines.specs.Lines.{place_line}
-use Rattle.pc_refusal_lines.specs.Place.{line_behind, column_behind}
+use Rattle.pc_refusals.specs.Lines.{place_line}
+use Rattle.pc_refusals.specs.Place.{line_behind, column_behind}
 
 -- The line that names the byte at an offset, and what is wrong there.
 abbrev pub offset_line : Text → Text → ℕ → Text → Text
