@@ -32,8 +32,20 @@ impl<T: Drop> List<T> {
         ensures ok { OnOk result (self.new ≡ self.old ++ value ∷ []) }
         ensures err { OnErr result (self.new ≡ self.old) }
     {
-        self.row.push(value)?;
+        // The room is asked for first, so that the value need not come back.
+        self.row.reserve(1)?;
+        self.row.push_reserved(value);
         Ok(())
+    }
+
+    /// Appends a value. If the list has no memory yet, it gets room for this many values and no more, where `push` makes
+    /// room for several. A refusal leaves the list as it was.
+    pub fn push_within(&mut self, room: usize, value: T) -> Result<(), AllocError>
+        ensures ok { OnOk result (self.new ≡ self.old ++ value ∷ []) }
+        ensures err { OnErr result (self.new ≡ self.old) }
+    {
+        begin_with_room(&mut self.row, room)?;
+        self.push(value)
     }
 
     /// Keeps the first `len` values.
@@ -135,6 +147,16 @@ impl<T: PartialEq> PartialEq for List<T> {
     fn eq(&self, other: &Self) -> bool {
         self.as_slice() == other.as_slice()
     }
+}
+
+// Makes room for exactly this many values, if there is room for none.
+fn begin_with_room<T>(row: &mut Vec<T>, room: usize) -> Result<(), AllocError>
+    ensures { row.new.items ≡ row.old.items }
+{
+    if row.capacity() == 0 {
+        return row.reserve_exact(room);
+    }
+    Ok(())
 }
 
 // `List::replace`, on the vector that holds the values.

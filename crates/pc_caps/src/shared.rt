@@ -1,5 +1,5 @@
 //! A list that several owners share.
-ghost use Rattle.std.specs.Prelude.{◌≡◌, [], length, IfOk, OnErr};
+ghost use Rattle.std.specs.Prelude.{◌≡◌, length, IfOk};
 
 use crate::list::List;
 use std::alloc::{AllocError, Global};
@@ -10,19 +10,18 @@ use std::rc::Rc;
 /// nothing else.
 ///
 /// Text literals keep their bytes this way, since the body of a trait's method is in the core once for each entity that
-/// takes it over; nodes keep their children this way, since what a program still has to do refers to them.
+/// takes it over.
 #[derive(Debug, Drop)]
 pub struct SharedList<T> {
-    /// `None` if there are no values: then nothing is allocated.
-    row: Option<Rc<List<T>>>,
+    row: Rc<List<T>>,
 }
 
 impl<T> Model for SharedList<T> {
-    ghost use Rattle.std.specs.Prelude.{List as Sequence, [], unwrap_or, option_map};
+    ghost use Rattle.std.specs.Prelude.{List as Sequence};
 
     ghost Value = { Sequence T };
 
-    ghost view = { λ shared. unwrap_or (option_map (λ held. held.value) shared.row) [] };
+    ghost view = { λ shared. shared.row.value };
 }
 
 impl<T: Drop> SharedList<T> {
@@ -30,11 +29,8 @@ impl<T: Drop> SharedList<T> {
     pub fn from_list(alloc: Global, values: List<T>) -> Result<SharedList<T>, AllocError>
         ensures { IfOk result (λ shared. shared ≡ values) }
     {
-        if values.is_empty() {
-            return Ok(SharedList { row: None });
-        }
         match Rc::new(alloc, values) {
-            Ok(held) => Ok(SharedList { row: Some(held) }),
+            Ok(row) => Ok(SharedList { row }),
             Err(_) => Err(AllocError),
         }
     }
@@ -43,11 +39,9 @@ impl<T: Drop> SharedList<T> {
     pub fn share(&self) -> Result<SharedList<T>, AllocError>
         ensures { IfOk result (λ shared. shared ≡ self.now) }
     {
-        let row = match &self.row {
-            Some(held) => Some(held.clone()?),
-            None => None,
-        };
-        Ok(SharedList { row })
+        Ok(SharedList {
+            row: self.row.clone()?,
+        })
     }
 }
 
@@ -56,10 +50,7 @@ impl<T> SharedList<T> {
     pub fn as_slice(&self) -> &[T]
         ensures { result.now ≡ self.now }
     {
-        match &self.row {
-            Some(held) => held.as_slice(),
-            None => &[],
-        }
+        self.row.as_slice()
     }
 
     /// The number of values.

@@ -7,6 +7,8 @@
 //! it leaves.
 //!
 //! Only tested: that real files give their bytes, and that writing goes on after a short write or an interrupted call.
+//!
+//! How the code is to be read is in `CONTRIBUTING.md` (How to read the code).
 #![tactic(auto)]
 
 mod bytes;

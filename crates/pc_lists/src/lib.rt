@@ -12,4 +12,6 @@
 //! - `proofs/Cuts.antt`: prefixes and suffixes of a list.
 //! - `proofs/Ranges.antt`, `proofs/Lookup.antt`: laws of runs, and of finding a place by a name.
 //! - `proofs/Prefixes.antt`: the number of bytes at the start of a text that pass a test.
+//!
+//! How the code is to be read is in `CONTRIBUTING.md` (How to read the code).
 #![tactic(auto)]

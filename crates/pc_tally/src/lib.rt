@@ -5,6 +5,8 @@
 //! `place_of` the place at which the prefix sums pass a number.
 //!
 //! Not proved: running times. Each call visits one entry per 4,096 numbers and at most 128 others.
+//!
+//! How the code is to be read is in `CONTRIBUTING.md` (How to read the code).
 #![tactic(auto)]
 
 mod levels;

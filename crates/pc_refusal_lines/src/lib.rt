@@ -1,0 +1,9 @@
+//! The lines of refusals, and the places in a text that they name. This crate has no code: the crates above prove that
+//! what they write is this.
+//!
+//! - `specs/Place.antt`: the line and the column of a byte.
+//! - `specs/Lines.antt`: each line that is written on standard error, and the first line of `make`.
+//! - `specs/Refusal.antt`: the line that names a byte of a file.
+//!
+//! How the code is to be read is in `CONTRIBUTING.md` (How to read the code).
+#![tactic(auto)]
