@@ -7,7 +7,7 @@ ghost use Rattle.pc_expr.specs.Onto as onto;
 
 use crate::stop::ParseStop;
 use crate::tokens::{look, take_sign, take_word};
-use pc_caps::{Cap, List, SharedList};
+use pc_caps::{Cap, SharedList, ShortBytes};
 use pc_grammar::cap_of;
 use pc_token::{Sign, Token, TokenKind, Word, is_sign};
 use pc_tree::{Expr, Name, TypeRef, join};
@@ -23,7 +23,7 @@ pub fn name(alloc: Global, tokens: &[Token], at: usize) -> Result<(Name, usize),
     let token = look(tokens, at);
     match &token.kind {
         TokenKind::Name(text) => {
-            let text = List::from_slice(alloc, text.as_slice())?;
+            let text = ShortBytes::from_slice(alloc, text.as_slice())?;
             let span = token.span;
             Ok((Name { text, span }, at + 1))
         }
@@ -47,7 +47,7 @@ pub fn type_name(alloc: Global, tokens: &[Token], at: usize) -> Result<(Name, us
     let token = look(tokens, at);
     match &token.kind {
         TokenKind::TypeName(text) => {
-            let text = List::from_slice(alloc, text.as_slice())?;
+            let text = ShortBytes::from_slice(alloc, text.as_slice())?;
             let span = token.span;
             Ok((Name { text, span }, at + 1))
         }

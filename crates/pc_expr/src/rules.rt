@@ -53,7 +53,7 @@ fn items(
     let mut to = at;
     'more: loop {
         let (one, after) = item(alloc, tokens, to, left)?;
-        items.push(one)?;
+        items.push_within(1, one)?;
         match next_item(tokens, after) {
             Some(next) => to = next,
             None => return Ok((items, after)),
@@ -225,7 +225,7 @@ fn operators(
     ensures moves { IfOk result (λ r. (at ≤ r.1) × StandsAtToken tokens.now r.1) }
 {
     let mut terms = List::new(alloc);
-    terms.push(first)?;
+    terms.push_within(2, first)?;
     let (terms, to) = more_terms(alloc, tokens, at, left, op, terms)?;
     let span = terms_span(terms.as_slice());
     Ok((Expr::Infix { op, terms, span }, to))
@@ -355,7 +355,7 @@ fn more_suffixes(
     let mut to = at;
     'more: while let Some(next) = at_suffix(tokens, to) {
         let (one, after) = suffix(alloc, tokens, next, left)?;
-        suffixes.push(one)?;
+        suffixes.push_within(2, one)?;
         to = after;
     }
     Ok((suffixes, to))
@@ -439,7 +439,7 @@ fn some_args(
     let mut to = at;
     'more: loop {
         let (one, after) = expr(alloc, tokens, to, left)?;
-        args.push(one)?;
+        args.push_within(1, one)?;
         match after_comma(tokens, after) {
             Some(next) => to = next,
             None => return Ok((args, after)),
@@ -533,7 +533,7 @@ fn arms(
 {
     let (first, to) = arm(alloc, tokens, at, left, Word::IfWord)?;
     let mut arms = List::new(alloc);
-    arms.push(first)?;
+    arms.push_within(1, first)?;
     more_arms(alloc, tokens, to, left, arms)
 }
 

@@ -5,6 +5,8 @@
 //! Proved: `make` returns the tree of the program of a seed and a size, as defined by the draws from the seed.
 //! `schedule_of` returns the turns by which it is run, within the limit. It is not proved that these programs are
 //! accepted.
+//!
+//! How the code is to be read is in `CONTRIBUTING.md` (How to read the code).
 #![tactic(auto)]
 
 mod bodies;

@@ -4,7 +4,7 @@ ghost use Rattle.pc_tree.specs.View.{expr_view, suffix_view, item_view, arm_view
 ghost use Rattle.pc_tree.specs.Tree as t;
 ghost use Rattle.pc_gen.specs.Parts as spec;
 
-use pc_caps::{Cap, List, Span};
+use pc_caps::{Cap, List, ShortBytes, Span};
 use pc_tree::{
     Arm, Entity, EntityKind, Expr, Item, MethodDef, MethodWord, Name, Op, ParamDef, Seq, Suffix,
     TypeRef,
@@ -19,7 +19,7 @@ pub fn named(alloc: Global, text: &[u8]) -> Result<Name, AllocError>
     ensures { IfOk result (λ name. name ≡ spec.placeless_name text.now) }
 {
     Ok(Name {
-        text: List::from_slice(alloc, text)?,
+        text: ShortBytes::from_slice(alloc, text)?,
         span: NOWHERE,
     })
 }

@@ -6,6 +6,8 @@
 //! which nothing continues, a token that opens a level too many is the first to do so, and tokens spell at most one
 //! tree (`sequences_are_read`, `expressions_are_read`, `infixes_are_read`). The same holds for files, and for a whole
 //! list of tokens: at most one answer holds, and reading gives it (`files_are_read`).
+//!
+//! How the code is to be read is in `CONTRIBUTING.md` (How to read the code).
 #![tactic(auto)]
 
 mod asking;

@@ -1,5 +1,5 @@
 -- Comments end where reading finds their end.
-use Rattle.std.proofs.Common.{◌≡◌, ℕ, zero, suc, ◌+◌, ◌-◌, ◌<◌, ◌≤◌, Bool, true, false, cond, ◌&&◌, ◌==◌, List, [], ◌∷◌, ◌++◌, length, take, drop, Some, refl, sym, ap, ap₂, ◌∙◌, subst, inl, inr, arith, length-append, append_assoc, drop_at, take-append-drop}
+use Rattle.std.proofs.Common.{◌≡◌, ℕ, zero, suc, ◌+◌, ◌-◌, ◌<◌, ◌≤◌, Bool, true, false, cond, ◌&&◌, ◌==◌, List, [], ◌∷◌, ◌++◌, length, get_or, take, drop, Some, refl, sym, ap, ap₂, ◌∙◌, subst, inl, inr, arith, length-append, append_assoc, drop_at, take-append-drop}
 use Rattle.std.proofs.lemmas.Bool.{and_parts, eqb-true}
 use Rattle.std.proofs.lemmas.Bool.Decides.{nat_tests}
 use Rattle.std.specs.List.{prefix_len}
@@ -19,6 +19,21 @@ and_true false = refl
 
 pair : (b c x y : ℕ) (bs : List ℕ) → begins (b ∷ c ∷ bs) (x ∷ y ∷ []) ≡ (b == x && c == y)
 pair b c x y bs = rw (and_true (y == c), eq_sym x b, eq_sym y c) refl
+
+and_false : (t : Bool) → (t && false) ≡ false
+and_false true = refl
+and_false false = refl
+
+-- `/` and another byte, in a text of one byte and in a longer one
+pub slash_one : (text : List ℕ) (second : ℕ) → length text ≡ 1 → begins text (47 ∷ second ∷ []) ≡ false
+slash_one [] second e = absurd (omega (arith, e))
+slash_one (b ∷ []) second e = and_false (47 == b)
+slash_one (b ∷ c ∷ bs) second e = absurd (omega (arith, e))
+
+pub slash_two : (text : List ℕ) (second : ℕ) → 1 < length text → begins text (47 ∷ second ∷ []) ≡ (get_or text 0 0 == 47 && get_or text 1 0 == second)
+slash_two [] second some = absurd (omega (arith, some))
+slash_two (b ∷ []) second some = absurd (omega (arith, some))
+slash_two (b ∷ c ∷ bs) second some = pair b c 47 second bs
 
 pub closes_some : {text rest : List ℕ} → ClosesComment text rest → text ≡ [] → ⊥
 closes_some close e = cc

@@ -1,5 +1,5 @@
 //! The lexer's loop over a text, piece by piece.
-ghost use Rattle.std.specs.Prelude.{◌≡◌, ◌<◌, ◌≤◌, ◌||◌, ◌==◌, List as Sequence, length, Ok, Err, IfOk, IfErr};
+ghost use Rattle.std.specs.Prelude.{◌≡◌, ◌<◌, ◌≤◌, ◌||◌, ◌==◌, [], ◌∷◌, ◌++◌, List as Sequence, length, Ok, Err, IfOk, IfErr, OnOk, OnErr};
 ghost use Rattle.pc_token.specs.declared.kinds.Token.{Token};
 ghost use Rattle.pc_lex.specs.declared.fault.LexFault.{LexFault};
 ghost use Rattle.pc_lex.specs.Limits.{bytes_limit};
@@ -14,7 +14,7 @@ use crate::fault::LexFault;
 use crate::pieces::{Found, LexStop, piece_at};
 use pc_caps::{List, Span};
 use pc_token::{Token, TokenKind};
-use std::alloc::Global;
+use std::alloc::{AllocError, Global};
 
 /// How many tokens a text may have, not counting its end.
 const TOKEN_LIMIT: usize = 200_000;
@@ -40,6 +40,16 @@ fn fault_at(stop: LexStop, place: u32) -> LexFault
     }
 }
 
+/// Puts a token at the end of the others. The room is asked for first, so that the token need not come back.
+fn put_token(tokens: &mut Vec<Token>, token: Token) -> Result<(), AllocError>
+    ensures ok { OnOk result (tokens.new.items ≡ tokens.old.items ++ token ∷ []) }
+    ensures err { OnErr result (tokens.new.items ≡ tokens.old.items) }
+{
+    tokens.reserve(1)?;
+    tokens.push_reserved(token);
+    Ok(())
+}
+
 /// Reads one piece, and appends it to the tokens if it is one. Returns its end, and whether a token there would be
 /// first on its line.
 fn step(
@@ -47,12 +57,12 @@ fn step(
     text: &[u8],
     at: usize,
     first: bool,
-    tokens: &mut List<Token>,
+    tokens: &mut Vec<Token>,
 ) -> Result<(usize, bool), LexFault>
     requires within { at < length text.now }
     requires short { length text.now ≤ bytes_limit }
-    ensures ok { IfOk result (λ r. Steps text.now at first tokens.old tokens.new r) }
-    ensures err { IfErr result (λ f. Stuck text.now at tokens.old f) }
+    ensures ok { IfOk result (λ r. Steps text.now at first tokens.old.items tokens.new.items r) }
+    ensures err { IfErr result (λ f. Stuck text.now at tokens.old.items f) }
     ensures moves { IfOk result (λ r. r.0 ≤ length text.now) }
 {
     let (found, n) = match piece_at(alloc, &text[at..]) {
@@ -69,7 +79,7 @@ fn step(
                 start: at as u32,
                 end: (at + n) as u32,
             };
-            tokens.push(Token { kind, first, span })?;
+            put_token(tokens, Token { kind, first, span })?;
             Ok((at + n, false))
         }
     }
@@ -103,7 +113,7 @@ fn read_all(alloc: Global, text: &[u8]) -> Result<List<Token>, LexFault>
     ensures ok { IfOk result (TokenList text.now) }
     ensures err { IfErr result (RefusesTokens text.now) }
 {
-    let mut tokens: List<Token> = List::new(alloc);
+    let mut tokens: Vec<Token> = Vec::new(alloc);
     let mut at: usize = 0;
     let mut first = true;
     'pieces: while at < text.len() {
@@ -111,15 +121,16 @@ fn read_all(alloc: Global, text: &[u8]) -> Result<List<Token>, LexFault>
         (at, first) = pass_blanks(text, end, begins);
     }
     let place = at as u32;
-    tokens.push(Token {
+    let end = Token {
         kind: TokenKind::End,
         first,
         span: Span {
             start: place,
             end: place,
         },
-    })?;
-    Ok(tokens)
+    };
+    put_token(&mut tokens, end)?;
+    Ok(List::from_vec(tokens))
 }
 
 /// The tokens of a text of at most 1,048,576 bytes: at most 200,000, and `End` last. Blanks and comments separate

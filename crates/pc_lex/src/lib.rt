@@ -4,6 +4,8 @@
 //! fault with its byte; a text has one list or one first fault, and not both.
 //!
 //! Not proved: running times. Tests reach the limits, but measure no time.
+//!
+//! How the code is to be read is in `CONTRIBUTING.md` (How to read the code).
 #![tactic(auto)]
 
 mod classes;

@@ -3,7 +3,7 @@ ghost use Rattle.std.specs.Prelude.{◌≡◌, ◌≤◌, length, IfOk};
 ghost use Rattle.pc_lex.specs.Reading as reading;
 
 use crate::classes::{Class, is_letter, run};
-use pc_caps::List;
+use pc_caps::ShortBytes;
 use pc_token::{TokenKind, word_of};
 use std::alloc::{AllocError, Global};
 
@@ -62,10 +62,10 @@ pub fn name_kind(alloc: Global, name: &[u8]) -> Result<TokenKind, AllocError>
     ensures { IfOk result (λ kind. kind ≡ reading.name_kind name.now) }
 {
     if is_type(name) {
-        return Ok(TokenKind::TypeName(List::from_slice(alloc, name)?));
+        return Ok(TokenKind::TypeName(ShortBytes::from_slice(alloc, name)?));
     }
     match word_of(name) {
         Some(word) => Ok(TokenKind::Word(word)),
-        None => Ok(TokenKind::Name(List::from_slice(alloc, name)?)),
+        None => Ok(TokenKind::Name(ShortBytes::from_slice(alloc, name)?)),
     }
 }

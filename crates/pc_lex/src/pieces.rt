@@ -1,5 +1,6 @@
 //! What a text begins with: a gap, a token, or a fault.
-ghost use Rattle.std.specs.Prelude.{◌≡◌, ◌<◌, ◌≤◌, length, IfOk, IfErr};
+ghost use Rattle.std.specs.Prelude.{◌≡◌, ◌<◌, ◌≤◌, [], ◌∷◌, length, true, IfOk, IfErr};
+ghost use Rattle.pc_lex.specs.Bytes.{begins};
 ghost use Rattle.pc_lex.specs.Reading as reading;
 ghost use Rattle.pc_lex.specs.Reading.{GivesRead, StopWithin};
 
@@ -78,6 +79,16 @@ fn doc_at(text: &[u8]) -> Result<(Found, usize), LexStop>
     }
 }
 
+/// Whether a text begins with `/` and this byte.
+#[tactic(auto, using(crate::proofs::CommentEnds::slash_one, crate::proofs::CommentEnds::slash_two))]
+fn begins_slash(text: &[u8], second: u8) -> bool
+    requires { 0 < length text.now }
+    ensures value { result ≡ begins text.now (47 ∷ second ∷ []) }
+    ensures within { result ≡ true → 2 ≤ length text.now }
+{
+    text[0] == b'/' && text.len() > 1 && text[1] == second
+}
+
 /// The blank, comment or token that begins the text, and its length.
 #[tactic(auto, unfolding(crate::specs::Reading::piece_at))]
 pub fn piece_at(alloc: Global, text: &[u8]) -> Result<(Found, usize), LexStop>
@@ -89,10 +100,10 @@ pub fn piece_at(alloc: Global, text: &[u8]) -> Result<(Found, usize), LexStop>
     if is_blank(text[0]) {
         return Ok((Found::Gap, 1));
     }
-    if text.starts_with(b"//") {
+    if begins_slash(text, b'/') {
         return Ok((Found::Gap, 2 + run(Class::Line, &text[2..])));
     }
-    if text.starts_with(b"/*") {
+    if begins_slash(text, b'*') {
         return match block_len(&text[2..]) {
             Some(n) => Ok((Found::Gap, 2 + n)),
             None => Err(LexStop::Unclosed),

@@ -57,7 +57,7 @@ fn some_params(
 {
     let (first, to) = param(alloc, tokens, at)?;
     let mut params = List::new(alloc);
-    params.push(first)?;
+    params.push_within(1, first)?;
     more_params(alloc, tokens, to, params)
 }
 

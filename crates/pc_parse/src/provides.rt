@@ -41,7 +41,7 @@ fn type_names(alloc: Global, tokens: &[Token], at: usize) -> Result<(List<Name>,
 {
     let (first, to) = type_name(alloc, tokens, at)?;
     let mut names = List::new(alloc);
-    names.push(first)?;
+    names.push_within(2, first)?;
     more_type_names(alloc, tokens, to, names)
 }
 
@@ -58,7 +58,7 @@ fn one_type_name(
 {
     let (name, to) = type_name(alloc, tokens, at)?;
     let mut names = List::new(alloc);
-    names.push(name)?;
+    names.push_within(1, name)?;
     Ok((names, to))
 }
 

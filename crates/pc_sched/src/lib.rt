@@ -5,6 +5,8 @@
 //! makes them too many; a text has turns or one first fault, and not both.
 //!
 //! Not proved: running times. Tests reach the limits, but measure no time.
+//!
+//! How the code is to be read is in `CONTRIBUTING.md` (How to read the code).
 #![tactic(auto)]
 
 mod fault;

@@ -1,16 +1,16 @@
 //! Tokens and their kinds.
 use crate::signs::Sign;
 use crate::words::Word;
-use pc_caps::{List, Span};
+use pc_caps::{List, ShortBytes, Span};
 
 /// A kind of token, with the value that it carries. The tokens are those of this project's profile of Pony.
 #[derive(Debug, Drop)]
 pub enum TokenKind {
     /// A name that is no reserved word, in bytes: at most one `_`, a small letter, then any number of letters, digits
     /// and `_`, and finally any number of `'`.
-    Name(List<u8>),
+    Name(ShortBytes),
     /// A type name, in bytes: the same with a capital letter first.
-    TypeName(List<u8>),
+    TypeName(ShortBytes),
     /// A reserved word.
     Word(Word),
     /// A number below 2^64, by its value.

@@ -1,6 +1,8 @@
 //! Tokens: their kinds, the reserved words and the signs, and small tests on them.
 //!
 //! Proved: each reserved word is found by its spelling and by no other; the longest sign is found; tests on tokens.
+//!
+//! How the code is to be read is in `CONTRIBUTING.md` (How to read the code).
 #![tactic(auto)]
 
 mod asking;

@@ -277,7 +277,8 @@ pub fn word_text(word: Word) -> &'static [u8]
     }
 }
 
-/// The first of these words with this spelling.
+/// The first of some words with this spelling. Where it is inlined, the words are known, and so are their lengths.
+#[inline(always)]
 fn find_word(words: &[Word], text: &[u8]) -> Option<Word>
     ensures { result ≡ spec.first_word words.now text.now }
 {

@@ -4,6 +4,8 @@
 //! tree is only as deep as its brackets, however long it is, and recursion over it is no deeper.
 //!
 //! Proved: one table says what each kind of entity may contain, and the functions on kinds compute it.
+//!
+//! How the code is to be read is in `CONTRIBUTING.md` (How to read the code).
 #![tactic(auto)]
 
 mod built_in;

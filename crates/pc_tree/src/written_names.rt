@@ -1,11 +1,11 @@
 //! Names and written types, with their spans.
-use pc_caps::{Cap, List, Span};
+use pc_caps::{Cap, ShortBytes, Span};
 
 /// A name or a type name, as it is written.
 #[derive(Debug, Drop)]
 pub struct Name {
     /// Its bytes.
-    pub text: List<u8>,
+    pub text: ShortBytes,
     pub span: Span,
 }
 

@@ -31,7 +31,7 @@ pub some_args-more-preserved : goal.some_args-more-preserved
 some_args-more-preserved t c =
     let l = c.more in
     let x = c.in_ok-one.one in
-    let views = ap (map expr_view) c.in_ok-push.ensures.ok ∙ map_push expr_view l.args x in
+    let views = ap (map expr_view) c.in_ok-push_within.ensures.ok ∙ map_push expr_view l.args x in
     let less : length (drop c.in_ok-one.after c.args.tokens.now) < length (drop l.to c.args.tokens.now) = simp length-drop (omega (arith, l.invariant.there.within, c.in_ok-one.ensures.moves.past)) in
     let some : 0 < length (drop c.in_ok-one.after c.args.tokens.now) = simp length-drop (omega (arith, c.in_ok-one.ensures.moves.there.within)) in
     let read = turn_reads _ _ _ (map expr_view l.args) (drop l.to c.args.tokens.now) (drop c.in_ok-one.after c.args.tokens.now) (expr_view x) l.invariant.reads c.in_ok-one.ensures.gives less in
@@ -46,7 +46,7 @@ pub some_args-returns-in-None-clause-gives : goal.some_args-returns-in-None-clau
 some_args-returns-in-None-clause-gives t c =
     let l = c.more in
     let x = c.in_ok-one.one in
-    let views = ap (map expr_view) c.in_ok-push.ensures.ok ∙ map_push expr_view l.args x in
+    let views = ap (map expr_view) c.in_ok-push_within.ensures.ok ∙ map_push expr_view l.args x in
     let less : length (drop c.in_ok-one.after c.args.tokens.now) < length (drop l.to c.args.tokens.now) = simp length-drop (omega (arith, l.invariant.there.within, c.in_ok-one.ensures.moves.past)) in
     let some : 0 < length (drop c.in_ok-one.after c.args.tokens.now) = simp length-drop (omega (arith, c.in_ok-one.ensures.moves.there.within)) in
     let read = turn_reads _ _ _ (map expr_view l.args) (drop l.to c.args.tokens.now) (drop c.in_ok-one.after c.args.tokens.now) (expr_view x) l.invariant.reads c.in_ok-one.ensures.gives less in
@@ -101,7 +101,7 @@ pub items-more-preserved : goal.items-more-preserved
 items-more-preserved t c =
     let l = c.more in
     let x = c.in_ok-one.one in
-    let views = ap (map item_view) c.in_ok-push.ensures.ok ∙ map_push item_view l.items x in
+    let views = ap (map item_view) c.in_ok-push_within.ensures.ok ∙ map_push item_view l.items x in
     let less : length (drop c.in_ok-one.after c.args.tokens.now) < length (drop l.to c.args.tokens.now) = simp length-drop (omega (arith, l.invariant.there.within, c.in_ok-one.ensures.moves.past)) in
     let some : 0 < length (drop c.in_ok-one.after c.args.tokens.now) = simp length-drop (omega (arith, c.in_ok-one.ensures.moves.there.within)) in
     let read = turn_reads _ _ _ (map item_view l.items) (drop l.to c.args.tokens.now) (drop c.in_ok-one.after c.args.tokens.now) (item_view x) l.invariant.reads c.in_ok-one.ensures.gives less in
@@ -116,7 +116,7 @@ pub items-returns-in-None-clause-gives : goal.items-returns-in-None-clause-gives
 items-returns-in-None-clause-gives t c =
     let l = c.more in
     let x = c.in_ok-one.one in
-    let views = ap (map item_view) c.in_ok-push.ensures.ok ∙ map_push item_view l.items x in
+    let views = ap (map item_view) c.in_ok-push_within.ensures.ok ∙ map_push item_view l.items x in
     let less : length (drop c.in_ok-one.after c.args.tokens.now) < length (drop l.to c.args.tokens.now) = simp length-drop (omega (arith, l.invariant.there.within, c.in_ok-one.ensures.moves.past)) in
     let some : 0 < length (drop c.in_ok-one.after c.args.tokens.now) = simp length-drop (omega (arith, c.in_ok-one.ensures.moves.there.within)) in
     let read = turn_reads _ _ _ (map item_view l.items) (drop l.to c.args.tokens.now) (drop c.in_ok-one.after c.args.tokens.now) (item_view x) l.invariant.reads c.in_ok-one.ensures.gives less in
@@ -140,7 +140,7 @@ pub more_suffixes-more-preserved : goal.more_suffixes-more-preserved
 more_suffixes-more-preserved t c =
     let l = c.more in
     let x = c.in_ok-one.one in
-    let views = ap (map suffix_view) c.in_ok-push.ensures.ok ∙ map_push suffix_view l.suffixes x in
+    let views = ap (map suffix_view) c.in_ok-push_within.ensures.ok ∙ map_push suffix_view l.suffixes x in
     let less : length (drop c.in_ok-one.after c.args.tokens.now) < length (drop l.to c.args.tokens.now) = simp length-drop (omega (arith, l.invariant.there.within, c.in-Some.ensures.there.0, c.in_ok-one.ensures.moves.past)) in
     record {
       past = omega (arith, l.invariant.past, c.in-Some.ensures.there.0, c.in_ok-one.ensures.moves.past);
