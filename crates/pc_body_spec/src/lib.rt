@@ -3,6 +3,8 @@
 //! Proved, about the nodes, slots and faults of a method's body: nodes are in post-order, each with the children and
 //! depth that its kind requires; what they refer to exists if there is no fault; each local is defined once, before its
 //! uses; the first fault has the smallest start. Small bodies elaborate as written out by hand.
+//!
+//! How the code is to be read is in `CONTRIBUTING.md` (How to read the code).
 #![tactic(auto)]
 
 mod laws;

@@ -1,9 +1,12 @@
 -- The first fault of a body, as a walk in the order of the text finds it.
 use Rattle.std.specs.Prelude.{◌≡◌, List, [], ◌∷◌, ◌++◌, Result, Ok, Err}
+use Rattle.pc_caps.specs.declared.span.Span.{Span}
+use Rattle.pc_tree.specs.declared.written_names.Name.{Name}
 use Rattle.pc_tree.specs.Tree as t
-use Rattle.pc_body_spec.specs.Scopes.{Context, Scope, type_meaning}
-use Rattle.pc_body_spec.specs.Expressions.{with_type}
-use Rattle.pc_body_spec.specs.Faults.{BodyNameFault, unknown, double, long_text, Next, arguments, name, end, next_of, dot_faults, exprs_faults}
+use Rattle.pc_body_spec.specs.Scopes.{Context, Scope, Constructor, constructor_named, Meaning, resolve, TypeMeaning, primitive, created, no_value, type_meaning}
+use Rattle.pc_body_spec.specs.Expressions.{create_name, start_with_name}
+use Rattle.pc_body_spec.specs.Faults.{BodyNameFault, unknown, double, long_text, unless_some, bare_name_faults, Next, arguments, name, end, next_of, start_faults}
+use Rattle.pc_body_spec.specs.Faults.{constructor_faults, faults_of, exprs_faults}
 use Rattle.pc_body_walks.specs.declared.fault.BodyFault.{BodyFault}
 use Rattle.pc_body_walks.specs.declared.fault.BodyFault.TheVariants as fault
 use Rattle.pc_body_walks.specs.declared.starts.Next.{Next as CodeNext}
@@ -29,10 +32,26 @@ next_view next.Arguments = arguments
 next_view next.Name = name
 next_view next.End = end
 
--- The faults of a name directly after the type name that starts a chain.
-abbrev pub head_name_faults : Context → t.Expr → t.Suffixes → List BodyNameFault
-head_name_faults c (t.type_name m) (t.suffix (t.dot n) ss) = dot_faults (with_type (type_meaning c m.text)) n (next_of ss)
-head_name_faults c h ss = []
+-- The faults of a bare name that starts a chain.
+abbrev pub name_head_faults : Name → Meaning → Next → List BodyNameFault
+name_head_faults n m next = start_faults (start_with_name n m) next (bare_name_faults m n.span)
+
+-- The faults of the name of a class or an actor that starts a chain, and of a name directly after it.
+abbrev pub created_faults : List Constructor → Span → t.Suffixes → List BodyNameFault
+created_faults cs s (t.suffix (t.dot n) ss) = constructor_faults cs n (next_of ss)
+created_faults cs s ss = unless_some (constructor_named cs create_name) (unknown s)
+
+-- The same of any type name.
+abbrev pub type_head_faults : TypeMeaning → Span → t.Suffixes → List BodyNameFault
+type_head_faults (primitive e) s ss = []
+type_head_faults (created actor cs) s ss = created_faults cs s ss
+type_head_faults no_value s ss = unknown s ∷ []
+
+-- The faults of what starts a chain, which is followed by these suffixes.
+abbrev pub head_faults : Context → Scope → t.Expr → t.Suffixes → List BodyNameFault
+head_faults c sc (t.name n) ss = name_head_faults n (resolve c sc n.text) (next_of ss)
+head_faults c sc (t.type_name n) ss = type_head_faults (type_meaning c n.text) n.span ss
+head_faults c sc h ss = faults_of c sc h
 
 -- The faults of the arguments in a chain.
 abbrev pub suffix_faults : Context → Scope → t.Suffix → List BodyNameFault

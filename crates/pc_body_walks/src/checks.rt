@@ -2,6 +2,7 @@
 ghost use Rattle.std.specs.Prelude.{◌∷◌, [], length, nat_lt, if◌then◌else◌};
 ghost use Rattle.pc_caps.specs.Limits.{text_limit};
 ghost use Rattle.pc_body_spec.specs.Scopes.{constructor_named as constructor_in, resolve, slot_named as slot_in, type_meaning};
+ghost use Rattle.pc_body_spec.specs.Expressions.{create_name};
 ghost use Rattle.pc_body_spec.specs.Faults as spec;
 ghost use Rattle.pc_body_walks.specs.Checking.{TellsFirstBodyFault};
 
@@ -37,10 +38,18 @@ pub(crate) fn check_type_name(context: &Context, name: &Name) -> Result<(), Body
 {
     match context.type_meaning(name.text.as_slice()) {
         TypeMeaning::Primitive(_) => Ok(()),
-        TypeMeaning::Created { constructors, .. } => {
-            check_constructor(constructors, b"create", name.span)
-        }
+        TypeMeaning::Created { constructors, .. } => check_create(constructors, name.span),
         TypeMeaning::NoValue => Err(BodyFault::Unknown(name.span)),
+    }
+}
+
+/// One of these constructors is `create`, which is called at this place.
+pub(crate) fn check_create(constructors: &Constructors, span: Span) -> Result<(), BodyFault>
+    ensures { TellsFirstBodyFault result (spec.unless_some (constructor_in constructors.now create_name) (spec.unknown span)) }
+{
+    match constructors.create() {
+        Some(_) => Ok(()),
+        None => Err(BodyFault::Unknown(span)),
     }
 }
 

@@ -3,14 +3,13 @@ ghost use Rattle.std.specs.Prelude.{◌≡◌, IfOk, OnOk, length, map, take};
 ghost use Rattle.pc_tree.specs.View.{arm_view, arms_view, expr_view, exprs_view, field_view, item_view, items_view, maybe_expr, maybe_seq, method_view, other_view, seq_view, suffix_view, suffixes_view};
 ghost use Rattle.pc_body_spec.specs.Scopes.{params_scope as params_visible, scope_after};
 ghost use Rattle.pc_body_spec.specs.Faults as spec;
-ghost use Rattle.pc_body_spec.specs.Expressions.{chain_start};
-ghost use Rattle.pc_body_walks.specs.Checking.{TellsFirstBodyFault, args_faults, next_view, suffix_faults};
+ghost use Rattle.pc_body_walks.specs.Checking.{TellsFirstBodyFault, args_faults, head_faults, suffix_faults};
 
 use crate::checks::{
     check_consumed, check_name, check_new, check_text, check_type_name, check_written,
 };
 use crate::fault::BodyFault;
-use crate::starts::{Next, check_head_name, is_called, next_of};
+use crate::starts::{check_name_head, check_type_head, next_of};
 use pc_resolve::{Context, Scope, enter, params_scope};
 use pc_tree::{Arm, Expr, FieldDef, Item, MethodDef, MethodWord, ParamDef, Seq, Suffix};
 use std::alloc::{AllocError, Global};
@@ -111,8 +110,7 @@ fn expr(
         Expr::Infix { terms, .. } => exprs(alloc, context, scope, terms.as_slice()),
         Expr::Chain { head, suffixes, .. } => {
             let suffixes = suffixes.as_slice();
-            chain_head(alloc, context, scope, head, next_of(suffixes))?;
-            check_head_name(context, head, suffixes)?;
+            chain_head(alloc, context, scope, head, suffixes)?;
             suffix_list(alloc, context, scope, suffixes)
         }
         Expr::Group { body, .. } | Expr::Recover { body, .. } => {
@@ -133,22 +131,35 @@ fn expr(
     }
 }
 
-// The head of a chain, unless it has a meaning only with what follows it.
+// The head of a chain, which may have a meaning only with what follows it.
 #[cycle(walk)]
 fn chain_head(
     alloc: Global,
     context: &Context,
     scope: &mut Scope,
     expression: &Expr,
-    next: Next,
+    suffixes: &[Suffix],
 ) -> Result<(), BodyFault>
-    ensures tells { TellsFirstBodyFault result (spec.start_faults (chain_start context.now scope.old (expr_view expression.now)) (next_view next) (spec.faults_of context.now scope.old (expr_view expression.now))) }
+    ensures tells { TellsFirstBodyFault result (head_faults context.now scope.old (expr_view expression.now) (suffixes_view suffixes.now)) }
     ensures scope { OnOk result (scope.new ≡ scope.old) }
 {
-    if is_called(context, scope, expression, next) {
-        return Ok(());
+    match expression {
+        Expr::Name(name) => check_name_head(context, scope, name, next_of(suffixes)),
+        Expr::TypeName(name) => check_type_head(context, name, suffixes),
+        Expr::Number { .. }
+        | Expr::Truth { .. }
+        | Expr::Text { .. }
+        | Expr::This(_)
+        | Expr::Consume { .. }
+        | Expr::Not { .. }
+        | Expr::Infix { .. }
+        | Expr::Chain { .. }
+        | Expr::Group { .. }
+        | Expr::If { .. }
+        | Expr::While { .. }
+        | Expr::Recover { .. }
+        | Expr::Assign { .. } => expr(alloc, context, scope, expression),
     }
-    expr(alloc, context, scope, expression)
 }
 
 #[cycle(walk)]

@@ -3,6 +3,8 @@
 //!
 //! Proved: `check` returns exactly the first fault of a body, `locals` its locals and `add_texts` the names after a
 //! `.`, in order; `slots` gives each local its slot.
+//!
+//! How the code is to be read is in `CONTRIBUTING.md` (How to read the code).
 #![tactic(auto)]
 
 mod checks;

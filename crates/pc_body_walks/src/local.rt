@@ -2,7 +2,7 @@
 ghost use Rattle.std.specs.Prelude.{◌≡◌, IfOk};
 ghost use Rattle.std.specs.Option.{option_copied};
 
-use pc_caps::List;
+use pc_caps::ShortBytes;
 use pc_tree::{Name, TypeRef};
 use std::alloc::{AllocError, Global};
 use std::marker::Model;
@@ -81,7 +81,7 @@ impl Local {
 fn copy_name(alloc: Global, name: &Name) -> Result<Name, AllocError>
     ensures { IfOk result (λ n. n ≡ name.now) }
 {
-    let text = List::from_slice(alloc, name.text.as_slice())?;
+    let text = ShortBytes::from_slice(alloc, name.text.as_slice())?;
     Ok(Name {
         text,
         span: name.span,

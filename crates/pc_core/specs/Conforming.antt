@@ -1,5 +1,5 @@
 -- A table of what conforms to what.
-use Rattle.std.specs.Prelude.{List}
+use Rattle.std.specs.Prelude.{◌≡◌, List, length}
 use Rattle.pc_masks.specs.declared.mask.Mask.{Mask}
 use Rattle.pc_lists.specs.Places.{Each}
 use Rattle.pc_core.specs.CoreData.{CoreData}
@@ -7,7 +7,8 @@ use Rattle.pc_core.specs.Entities.{IsAbstract}
 use Rattle.pc_core.specs.Conforms.{Conforms}
 use Rattle.pc_core.specs.EntitySets.{IsSetOf}
 
--- For each trait and interface, by its number, the set of the entities that conform to it. Nothing is stated about the
--- places of other entities.
+-- A set for each entity, by its number: for a trait and an interface that of the entities that conform to it. What is there
+-- for another entity is not said.
 pub record TellsConforming (core : CoreData) (sets : List (List Mask)) : Type 0 where
+  pub long : length sets ≡ length core.entities
   pub tells : Each (λ b set. IsAbstract core b → IsSetOf core (λ e. Conforms core e b) set) sets

@@ -1,3 +1,4 @@
+pub mod Children
 pub mod CoreData
 pub mod Lookup
 pub mod MethodKeys

@@ -3,8 +3,11 @@
 //! Proved: a core is formed, in all its parts, as an invariant of its type; `field` and `method` find exactly what is
 //! there, and `method` returns the same with an index of the methods as without one. How long a look-up takes is not
 //! proved.
+//!
+//! How the code is to be read is in `CONTRIBUTING.md` (How to read the code).
 #![tactic(auto)]
 
+mod children;
 mod conforming;
 mod cores;
 mod declarations;
@@ -13,6 +16,7 @@ mod index;
 mod lookup;
 mod nodes;
 
+pub use children::Children;
 pub use cores::Core;
 pub use declarations::{EntityDef, FieldInfo, Method, MethodKind, ParamInfo};
 pub use entity_set::EntitySet;

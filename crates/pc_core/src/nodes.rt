@@ -1,6 +1,7 @@
 //! The contents of methods: slots and nodes.
 
-use pc_caps::{Cap, List, SharedList, Span};
+use crate::children::Children;
+use pc_caps::{Cap, SharedList, Span};
 use pc_tree::Op;
 
 /// The kind of a slot.
@@ -84,7 +85,7 @@ pub enum NodeKind {
 pub struct Node {
     pub kind: NodeKind,
     /// The parts that are evaluated before it finishes, by their numbers, in the order of evaluation.
-    pub children: SharedList<u32>,
+    pub children: Children,
     /// The number of `recover` bodies around it within its method.
     pub depth: u32,
     /// The method that it belongs to.

@@ -40,7 +40,7 @@ fn add_fields(
     ensures { OnOk result (list.new ≡ list.old ++ map (spec.core_field context.now.texts context.now.entities) (map field_view fields.now)) }
 {
     for field in fields {
-        list.push(field_of(context, field))?;
+        list.push_within(fields.len(), field_of(context, field))?;
     }
     Ok(())
 }

@@ -6,7 +6,7 @@ ghost use Rattle.pc_body_spec.specs.Slots.{cap_or as either_cap};
 ghost use Rattle.pc_members.specs.Views.{members_view, table_view};
 ghost use Rattle.pc_elab.specs.Rows as rows;
 
-use pc_caps::{Cap, List};
+use pc_caps::{Cap, List, ShortBytes};
 use pc_members::Member;
 use pc_resolve::{Constructor, Constructors, Known};
 use pc_tree::{Entity, EntityKind};
@@ -59,7 +59,7 @@ fn list_constructors(
     let mut number = first;
     for member in members {
         if member.is_constructor() {
-            let name = List::from_slice(alloc, member.text())?;
+            let name = ShortBytes::from_slice(alloc, member.text())?;
             constructors.push(Constructor::new(name, number))?;
         }
         number += 1;
@@ -77,7 +77,7 @@ fn make_known(
     requires { first + length (members_view members.now) < 2 ^ 32 }
     ensures { IfOk result (λ k. k ≡ rows.known_with first (entity_view entity.now) (members_view members.now)) }
 {
-    let name = List::from_slice(alloc, entity.name.text.as_slice())?;
+    let name = ShortBytes::from_slice(alloc, entity.name.text.as_slice())?;
     let cap = default_cap(entity.kind, entity.cap);
     let constructors = Constructors::of(alloc, list_constructors(alloc, first, members)?)?;
     Ok(Known::new(name, entity.kind, cap, constructors))
@@ -93,7 +93,7 @@ fn add_built_in(
 ) -> Result<(), AllocError>
     ensures { OnOk result (known.new ≡ known.old ++ record { name = name.now; kind = kind; cap = cap; constructors = [] } ∷ []) }
 {
-    let name = List::from_slice(alloc, name)?;
+    let name = ShortBytes::from_slice(alloc, name)?;
     known.push(Known::new(name, kind, cap, Constructors::new(alloc)))
 }
 

@@ -2,6 +2,8 @@
 //!
 //! Proved: `elaborate` returns the core of a file, or its first fault, for every file that tokens spell and whose names
 //! were collected; that core is formed and small (`cores_are_formed`).
+//!
+//! How the code is to be read is in `CONTRIBUTING.md` (How to read the code).
 #![tactic(auto)]
 
 mod elaborating;

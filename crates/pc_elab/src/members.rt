@@ -12,29 +12,29 @@ ghost use Rattle.pc_elab.specs.Views.{parts_view};
 
 use crate::parts::{Parts, add_member};
 use crate::slots::{locals_of, placed_of};
-use pc_caps::List;
+use pc_caps::{List, ShortBytes};
 use pc_members::Member;
 use pc_names::NameFault;
 use pc_resolve::Context;
 use pc_tree::{Entity, FIRST_OWN, FieldDef};
 use std::alloc::{AllocError, Global};
 
-fn list_field_names(alloc: Global, fields: &[FieldDef]) -> Result<List<List<u8>>, AllocError>
+fn list_field_names(alloc: Global, fields: &[FieldDef]) -> Result<List<ShortBytes>, AllocError>
     ensures { IfOk result (λ l. l ≡ field_texts (map field_view fields.now)) }
 {
     let mut names = List::new(alloc);
     for field in fields {
-        names.push(List::from_slice(alloc, field.name.text.as_slice())?)?;
+        names.push(ShortBytes::from_slice(alloc, field.name.text.as_slice())?)?;
     }
     Ok(names)
 }
 
-fn list_member_names(alloc: Global, members: &[Member]) -> Result<List<List<u8>>, AllocError>
+fn list_member_names(alloc: Global, members: &[Member]) -> Result<List<ShortBytes>, AllocError>
     ensures { IfOk result (λ l. l ≡ map member_text (members_view members.now)) }
 {
     let mut names = List::new(alloc);
     for member in members {
-        names.push(List::from_slice(alloc, member.text())?)?;
+        names.push(ShortBytes::from_slice(alloc, member.text())?)?;
     }
     Ok(names)
 }

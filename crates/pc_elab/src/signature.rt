@@ -45,7 +45,7 @@ fn list_params(
 {
     let mut list = List::new(alloc);
     for param in params {
-        list.push(param_of(context, param))?;
+        list.push_within(params.len(), param_of(context, param))?;
     }
     Ok(list)
 }

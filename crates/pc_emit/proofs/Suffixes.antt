@@ -18,15 +18,17 @@ use Rattle.pc_tree.specs.declared.written_names.Name.{Name}
 use Rattle.pc_tree.specs.Tree as t
 use Rattle.pc_core.specs.declared.nodes.NodeKind.TheVariants as node
 use Rattle.pc_body_spec.specs.Roses.{Rose}
-use Rattle.pc_body_spec.specs.Scopes.{Context, Scope, Constructor, primitive, created, no_value, constructor_named, number_of_text}
+use Rattle.pc_body_spec.specs.Scopes.{Context, Scope, Constructor, local, field, resolve, primitive, created, no_value, type_meaning, constructor_named, number_of_text}
 use Rattle.pc_body_spec.specs.Expressions.{expr_of, assign_of, chain_start, chain_of, named_of, roses_of_exprs, joined_span, apply, call, call_named}
-use Rattle.pc_body_spec.specs.Expressions.{new_object_rose, read_field, use_field, use_other, create_name, apply_name, Use, read, write, Start, with_value}
+use Rattle.pc_body_spec.specs.Expressions.{new_object_rose, read_field, read_name, read_type, use_field, use_other, create_name, apply_name, Use, read, write, Start, with_value}
 use Rattle.pc_body_spec.specs.Expressions.{with_method, with_type}
 use Rattle.pc_emit.specs.declared.chains.First.TheVariants as first
 use Rattle.pc_emit.specs.declared.chains.Beginning.{Beginning}
 use Rattle.pc_emit.specs.declared.chains.Beginning.TheVariants as begins
+use Rattle.pc_emit.specs.declared.chains.Reading.TheVariants as reads
+use Rattle.pc_emit.specs.declared.chains.Atom.TheVariants as atoms
 use Rattle.pc_emit.specs.Closing.{IsCut, IsBefore, BeginsChain, begun, first_of, IsSplit, written_end, object, taken, is_args, is_chain, is_empty_args, link_of}
-use Rattle.pc_emit.specs.Closing.{only, rest_of}
+use Rattle.pc_emit.specs.Closing.{ReadsAtom, reading_rose, only, rest_of}
 use Rattle.pc_lists.proofs.Cuts.{take_whole}
 use Rattle.pc_lists.proofs.Gets.{get_drop}
 
@@ -113,6 +115,17 @@ pub before_args : (c : Context) (ss : List t.Suffix) (left : ℕ) (gs : t.Exprs)
 before_args c ss left gs gp l h = λ sc d s origin es sp.
     let e = take_last ss left (t.args gs gp) l h in
     ap (λ l. rest_of c sc d s origin (l ++ t.args es sp ∷ [])) e ∙ ap (λ l. rest_of c sc d s origin l) (two_more (take (left - 1) ss) (t.args gs gp) (t.args es sp)) ∙ chain_apply c sc d s (take (left - 1) ss) gs gp es sp origin ∙ ap (λ l. call c (joined_span s sp) apply_name d (roses_of_exprs c sc d es) (rest_of c sc d s origin l)) (sym e)
+
+-- ---- what an atom reads
+
+pub reads_local : (c : Context) (sc : Scope) (n : Name) (x : ℕ) → resolve c sc n.text ≡ local x → ReadsAtom c sc (t.name n) (atoms.Reads (reads.Local x))
+reads_local c sc n x h = λ d. ap (read_name c n d) h
+
+pub reads_field : (c : Context) (sc : Scope) (n : Name) (x : ℕ) → resolve c sc n.text ≡ field → x ≡ number_of_text c n.text → ReadsAtom c sc (t.name n) (atoms.Reads (reads.Field x))
+reads_field c sc n x h e = λ d. ap (read_name c n d) h ∙ ap (λ k. reading_rose (reads.Field k) n.span d) (sym e)
+
+pub reads_primitive : (c : Context) (sc : Scope) (n : Name) (e : ℕ) → type_meaning c n.text ≡ primitive e → ReadsAtom c sc (t.type_name n) (atoms.Reads (reads.Primitive e))
+reads_primitive c sc n e h = λ d. ap (read_type n d) h
 
 -- ---- how a chain starts
 

@@ -19,6 +19,10 @@ use Rattle.pc_emit.specs.declared.chains.First.{First}
 use Rattle.pc_emit.specs.declared.chains.First.TheVariants as first
 use Rattle.pc_emit.specs.declared.chains.Beginning.{Beginning}
 use Rattle.pc_emit.specs.declared.chains.Beginning.TheVariants as begins
+use Rattle.pc_emit.specs.declared.chains.Reading.{Reading}
+use Rattle.pc_emit.specs.declared.chains.Reading.TheVariants as reads
+use Rattle.pc_emit.specs.declared.chains.Atom.{Atom}
+use Rattle.pc_emit.specs.declared.chains.Atom.TheVariants as atoms
 
 -- The pending nodes, the outermost first, each completed by the number of the part inside it.
 abbrev pub closing : {P : Type 0} → (P → ℕ → List Node → Numbered ℕ) → List P → ℕ → List Node → Numbered ℕ
@@ -116,6 +120,17 @@ begun c sc d s (begins.With f at) ss origin = first_at c sc d s f origin (slice_
 abbrev pub BeginsChain : Context → Start → List t.Suffix → Beginning → Type 0
 BeginsChain c st ss b = (sc : Scope) (d : ℕ) (s : Span) (u : Use) (origin : Rose) → chain_of c sc d s u st origin (t.suffixes_of ss) ≡ chain_of c sc d s u with_value (begun c sc d s b ss origin) (t.suffixes_of (drop (taken b) ss))
 
+-- What an atom with this span reads.
+abbrev pub reading_rose : Reading → Span → ℕ → Rose
+reading_rose (reads.Local x) s d = leaf (node.Local x) s d
+reading_rose (reads.Field n) s d = rose (node.Field n) s d (one (leaf node.This s d))
+reading_rose (reads.Primitive e) s d = leaf (node.Prim e) s d
+
+-- An atom reads this, unless it is walked.
+abbrev pub ReadsAtom : Context → Scope → t.Expr → Atom → Type 0
+ReadsAtom c sc e (atoms.Reads r) = (d : ℕ) → expr_of c sc d e ≡ reading_rose r (t.span_of e) d
+ReadsAtom c sc e atoms.Walked = Unit {0}
+
 -- With a new object of an actor or a class, by a constructor that may be missing.
 abbrev pub object : Bool → Option ℕ → ℕ → Beginning
 object actor (Some m) at = begins.With (first.Made (if actor then node.Spawn m else node.New m)) at
@@ -159,9 +174,17 @@ names_none field = false
 names_none method = true
 names_none nothing = true
 
+-- The meaning of what is assigned to, if it is a bare name.
+abbrev pub target_meaning : Context → Scope → t.Expr → Option Meaning
+target_meaning c sc (t.name n) = Some (resolve c sc n.text)
+target_meaning c sc e = None
+
+abbrev pub none_named : Option Meaning → Bool
+none_named (Some w) = names_none w
+none_named None = false
+
 abbrev pub is_missing : Context → Scope → t.Expr → Bool
-is_missing c sc (t.name n) = names_none (resolve c sc n.text)
-is_missing c sc e = false
+is_missing c sc e = none_named (target_meaning c sc e)
 
 -- The elaboration of a write to an expression other than a chain: only a bare name takes the value. `left` is what it
 -- would be on its own.

@@ -12,6 +12,7 @@ use crate::name_nodes::write_field;
 use crate::nodes::{leaf, single};
 use crate::setting::Setting;
 use crate::stop::EmitStop;
+use crate::tops::Tops;
 use crate::waiting::close_sequence;
 use crate::walk::{expr, items};
 use pc_caps::{List, Span};
@@ -99,7 +100,7 @@ fn own_items(
     nodes: &mut List<Node>,
     method: &MethodDef,
     seq: &Seq,
-) -> Result<List<u32>, EmitStop>
+) -> Result<Tops, EmitStop>
     ensures { GivesNodes result nodes.new (puts number (spec.none_last (spec.gives_none method.now.word method.now.result) method.now.name.span (parts.roses_of_items context.now (scope_of method.now.params) 0 (items_view seq.now.items))) nodes.old) }
 {
     let mut scope = params_scope(alloc, method.params.as_slice())?;
@@ -141,8 +142,8 @@ fn none_last(
     nodes: &mut List<Node>,
     span: Span,
     adds: bool,
-    items: List<u32>,
-) -> Result<List<u32>, EmitStop>
+    items: Tops,
+) -> Result<Tops, EmitStop>
     ensures { GivesNodes result nodes.new (ends_with adds setting.now.number setting.now.depth span items nodes.old) }
 {
     if !adds {
@@ -162,10 +163,10 @@ fn initials(
     number: u32,
     nodes: &mut List<Node>,
     fields: &[FieldDef],
-) -> Result<List<u32>, EmitStop>
+) -> Result<Tops, EmitStop>
     ensures { (rest : Roses) → LeadsOn result nodes.new (puts number rest) (puts number (spec.initials_then context.now (map field_view fields.now) rest) nodes.old) }
 {
-    let mut tops = List::new(alloc);
+    let mut tops = Tops::new(alloc);
     for field in fields {
         tops = add_initial(alloc, context, number, nodes, field, tops)?;
     }
@@ -179,8 +180,8 @@ fn add_initial(
     number: u32,
     nodes: &mut List<Node>,
     field: &FieldDef,
-    tops: List<u32>,
-) -> Result<List<u32>, EmitStop>
+    tops: Tops,
+) -> Result<Tops, EmitStop>
     ensures { (rest : Roses) → LeadsOn result nodes.new (puts number rest) (behind_tops tops (puts number (spec.initial_of context.now field.now.name (maybe_expr field.now.value) rest) nodes.old)) }
 {
     match &field.value {
@@ -217,7 +218,7 @@ fn initial(
 }
 
 // These, followed by more.
-fn append(first: List<u32>, more: &[u32]) -> Result<List<u32>, AllocError>
+fn append(first: Tops, more: &[u32]) -> Result<Tops, AllocError>
     ensures { IfOk result (λ all. all ≡ first ++ more.now) }
 {
     let mut all = first;
@@ -234,7 +235,7 @@ fn close_body(
     nodes: &mut List<Node>,
     name: Span,
     span: Span,
-    items: List<u32>,
+    items: Tops,
 ) -> Result<u32, EmitStop>
     ensures { GivesNodes result nodes.new (body_closes setting.now.number setting.now.depth name span items nodes.old) }
 {

@@ -1,15 +1,22 @@
 //! How a chain of suffixes starts, and what its suffixes are used for.
-ghost use Rattle.std.specs.Prelude.{◌≡◌, ◌<◌, ◌≤◌, ◌^◌, length, map, drop, slice_get, Some, if◌then◌else◌};
+ghost use Rattle.std.specs.Prelude.{◌≡◌, ◌<◌, ◌≤◌, ◌^◌, length, map, drop, option_map, slice_get, Some, if◌then◌else◌};
 ghost use Rattle.pc_emit.specs.declared.chains.Beginning.TheVariants as beginnings;
+ghost use Rattle.pc_tree.specs.Tree as t;
 ghost use Rattle.pc_tree.specs.View.{expr_view, suffix_view};
+ghost use Rattle.pc_resolve.specs.Meanings.{meaning_view};
 ghost use Rattle.pc_body_spec.specs.Expressions.{chain_start, start_with_name, with_type, with_method};
-ghost use Rattle.pc_body_spec.specs.Scopes.{resolve, type_meaning, created, primitive, constructor_named as constructor_in};
+ghost use Rattle.pc_body_spec.specs.Scopes.{Scope, resolve, type_meaning, created, primitive, constructor_named as constructor_in};
+ghost use Rattle.pc_body_spec.specs.Roses.{put};
+ghost use Rattle.pc_emit.specs.Giving.{GivesNodes};
 ghost use Rattle.pc_emit.specs.Closing as spec;
-ghost use Rattle.pc_emit.specs.Closing.{BeginsChain, IsCut, IsBefore, IsSplit, taken};
+ghost use Rattle.pc_emit.specs.Closing.{BeginsChain, IsCut, IsBefore, IsSplit, ReadsAtom, taken};
 
 use crate::name_nodes::object_kind;
-use pc_caps::Span;
-use pc_core::NodeKind;
+use crate::nodes::{leaf, single};
+use crate::setting::Setting;
+use crate::stop::EmitStop;
+use pc_caps::{List, Span};
+use pc_core::{Node, NodeKind};
 use pc_resolve::{Constructors, Context, Meaning, TypeMeaning, Visible};
 use pc_tree::{Expr, Name, Suffix};
 
@@ -33,6 +40,26 @@ pub(crate) enum Beginning {
     With(First, usize),
 }
 
+/// What the atom of a chain reads.
+#[derive(Clone, Copy)]
+pub(crate) enum Reading {
+    /// A local or parameter, by the index of its slot.
+    Local(u32),
+    /// A field of `this`, by the number of its text.
+    Field(u32),
+    /// The value of a primitive, by the entity's number.
+    Primitive(u32),
+}
+
+/// The atom of a chain.
+#[derive(Clone, Copy)]
+pub(crate) enum Atom {
+    /// It reads this.
+    Reads(Reading),
+    /// It is walked.
+    Walked,
+}
+
 /// How many suffixes belong to the start.
 pub(crate) fn count_taken(beginning: &Beginning) -> usize
     requires { taken beginning.now < 2 ^ 64 }
@@ -44,15 +71,16 @@ pub(crate) fn count_taken(beginning: &Beginning) -> usize
     }
 }
 
-/// How a chain with this atom and these suffixes starts.
+/// How a chain with this atom and these suffixes starts, and what the atom reads, so that its name is looked up once.
 pub(crate) fn begin(
     context: &Context,
     scope: &[Visible],
     head: &Expr,
     suffixes: &[Suffix],
-) -> Beginning
-    ensures begins { BeginsChain context.now (chain_start context.now scope.now (expr_view head.now)) (map suffix_view suffixes.now) result }
-    ensures within { taken result ≤ length suffixes.now }
+) -> (Beginning, Atom)
+    ensures begins { BeginsChain context.now (chain_start context.now scope.now (expr_view head.now)) (map suffix_view suffixes.now) result.0 }
+    ensures reads { ReadsAtom context.now scope.now (expr_view head.now) result.1 }
+    ensures within { taken result.0 ≤ length suffixes.now }
 {
     match head {
         Expr::Name(name) => begin_with_name(context, scope, name, suffixes),
@@ -69,7 +97,7 @@ pub(crate) fn begin(
         | Expr::If { .. }
         | Expr::While { .. }
         | Expr::Recover { .. }
-        | Expr::Assign { .. } => Beginning::Value,
+        | Expr::Assign { .. } => (Beginning::Value, Atom::Walked),
     }
 }
 
@@ -79,13 +107,19 @@ fn begin_with_name(
     scope: &[Visible],
     name: &Name,
     suffixes: &[Suffix],
-) -> Beginning
-    ensures begins { BeginsChain context.now (start_with_name name.now (resolve context.now scope.now name.now.text)) (map suffix_view suffixes.now) result }
-    ensures within { taken result ≤ length suffixes.now }
+) -> (Beginning, Atom)
+    ensures begins { BeginsChain context.now (start_with_name name.now (resolve context.now scope.now name.now.text)) (map suffix_view suffixes.now) result.0 }
+    ensures reads { ReadsAtom context.now scope.now (t.name name.now) result.1 }
+    ensures within { taken result.0 ≤ length suffixes.now }
 {
     match context.resolve(scope, name.text.as_slice()) {
-        Meaning::Method => begin_with_method(context, name, suffixes),
-        Meaning::Local(_) | Meaning::Field | Meaning::Nothing => Beginning::Value,
+        Meaning::Local(slot) => (Beginning::Value, Atom::Reads(Reading::Local(slot))),
+        Meaning::Field => {
+            let text = context.text_of(name.text.as_slice());
+            (Beginning::Value, Atom::Reads(Reading::Field(text)))
+        }
+        Meaning::Method => (begin_with_method(context, name, suffixes), Atom::Walked),
+        Meaning::Nothing => (Beginning::Value, Atom::Walked),
     }
 }
 
@@ -103,17 +137,24 @@ fn begin_with_method(context: &Context, name: &Name, suffixes: &[Suffix]) -> Beg
 }
 
 // With a type name.
-fn begin_with_type(context: &Context, name: &Name, suffixes: &[Suffix]) -> Beginning
-    ensures begins { BeginsChain context.now (with_type (type_meaning context.now name.now.text)) (map suffix_view suffixes.now) result }
-    ensures within { taken result ≤ length suffixes.now }
+fn begin_with_type(context: &Context, name: &Name, suffixes: &[Suffix]) -> (Beginning, Atom)
+    ensures begins { BeginsChain context.now (with_type (type_meaning context.now name.now.text)) (map suffix_view suffixes.now) result.0 }
+    ensures reads { (scope : Scope) → ReadsAtom context.now scope (t.type_name name.now) result.1 }
+    ensures within { taken result.0 ≤ length suffixes.now }
 {
     match context.type_meaning(name.text.as_slice()) {
-        TypeMeaning::Primitive(entity) => begin_with_primitive(context, entity, suffixes),
+        TypeMeaning::Primitive(entity) => {
+            let beginning = begin_with_primitive(context, entity, suffixes);
+            (beginning, Atom::Reads(Reading::Primitive(entity)))
+        }
         TypeMeaning::Created {
             actor,
             constructors,
-        } => begin_with_object(context, actor, constructors, suffixes),
-        TypeMeaning::NoValue => Beginning::Value,
+        } => {
+            let beginning = begin_with_object(context, actor, constructors, suffixes);
+            (beginning, Atom::Walked)
+        }
+        TypeMeaning::NoValue => (Beginning::Value, Atom::Walked),
     }
 }
 
@@ -144,7 +185,7 @@ fn begin_with_object(
         return Beginning::Value;
     };
     match first {
-        Suffix::Args { .. } => begin_object(actor, constructors, b"create", 0),
+        Suffix::Args { .. } => begin_object(actor, constructors.create(), 0),
         Suffix::Dot(name) => begin_behind_name(actor, constructors, name, suffixes),
     }
 }
@@ -159,7 +200,7 @@ fn begin_behind_name(
     ensures { result ≡ if spec.is_args (slice_get (map suffix_view suffixes.now) 1) then spec.object actor (constructor_in constructors.now name.now.text) 1 else beginnings.Value }
 {
     if has_args(suffixes, 1) {
-        begin_object(actor, constructors, name.text.as_slice(), 1)
+        begin_object(actor, constructors.find(name.text.as_slice()), 1)
     } else {
         Beginning::Value
     }
@@ -203,13 +244,32 @@ fn is_empty_args(suffix: &Suffix) -> bool
     }
 }
 
-// With a new object by the constructor with this name.
-fn begin_object(actor: bool, constructors: &Constructors, name: &[u8], at: usize) -> Beginning
-    ensures { result ≡ spec.object actor (constructor_in constructors.now name.now) at }
+// With a new object by this constructor, if there is one.
+fn begin_object(actor: bool, constructor: Option<u32>, at: usize) -> Beginning
+    ensures { result ≡ spec.object actor constructor at }
 {
-    match constructors.find(name) {
+    match constructor {
         Some(method) => Beginning::With(First::Made(object_kind(actor, method)), at),
         None => Beginning::With(First::Missing, at),
+    }
+}
+
+/// Emits the nodes of the atom of a chain, which has this span.
+pub(crate) fn read_atom(
+    setting: &Setting,
+    nodes: &mut List<Node>,
+    reading: Reading,
+    span: Span,
+) -> Result<u32, EmitStop>
+    ensures { GivesNodes result nodes.new (put setting.now.number (spec.reading_rose reading span setting.now.depth) nodes.old) }
+{
+    match reading {
+        Reading::Local(slot) => leaf(setting, nodes, NodeKind::Local(slot), span),
+        Reading::Field(text) => {
+            let this = leaf(setting, nodes, NodeKind::This, span)?;
+            single(setting, nodes, NodeKind::Field(text), span, this)
+        }
+        Reading::Primitive(entity) => leaf(setting, nodes, NodeKind::Prim(entity), span),
     }
 }
 
@@ -242,11 +302,11 @@ fn cut_args(context: &Context, suffixes: &[Suffix], left: usize) -> (u32, usize)
     ensures cut { IsBefore context.now (map suffix_view suffixes.now) left result.0 result.1 }
 {
     if left == 0 {
-        return (context.text_of(b"apply"), 0);
+        return (context.apply(), 0);
     }
     match &suffixes[left - 1] {
         Suffix::Dot(name) => (context.text_of(name.text.as_slice()), left - 1),
-        Suffix::Args { .. } => (context.text_of(b"apply"), left),
+        Suffix::Args { .. } => (context.apply(), left),
     }
 }
 
@@ -266,15 +326,12 @@ pub(crate) fn split_field(context: &Context, suffixes: &[Suffix]) -> (Option<u32
     }
 }
 
-/// Whether the target of an assignment is a bare name that is no local, parameter or field.
-pub(crate) fn is_missing(context: &Context, scope: &[Visible], left: &Expr) -> bool
-    ensures { result ≡ spec.is_missing context.now scope.now (expr_view left.now) }
+/// The meaning of the target of an assignment, if it is a bare name.
+pub(crate) fn target_of(context: &Context, scope: &[Visible], left: &Expr) -> Option<Meaning>
+    ensures { option_map meaning_view result ≡ spec.target_meaning context.now scope.now (expr_view left.now) }
 {
     match left {
-        Expr::Name(name) => matches!(
-            context.resolve(scope, name.text.as_slice()),
-            Meaning::Method | Meaning::Nothing
-        ),
+        Expr::Name(name) => Some(context.resolve(scope, name.text.as_slice())),
         Expr::Number { .. }
         | Expr::Truth { .. }
         | Expr::Text { .. }
@@ -288,6 +345,22 @@ pub(crate) fn is_missing(context: &Context, scope: &[Visible], left: &Expr) -> b
         | Expr::If { .. }
         | Expr::While { .. }
         | Expr::Recover { .. }
-        | Expr::Assign { .. } => false,
+        | Expr::Assign { .. } => None,
     }
+}
+
+/// Whether a target with this meaning is a bare name that is no local, parameter or field.
+pub(crate) fn is_missing(target: Option<Meaning>) -> bool
+    ensures { result ≡ spec.none_named (option_map meaning_view target) }
+{
+    match target {
+        Some(meaning) => names_none(meaning),
+        None => false,
+    }
+}
+
+fn names_none(meaning: Meaning) -> bool
+    ensures { result ≡ spec.names_none (meaning_view meaning) }
+{
+    matches!(meaning, Meaning::Method | Meaning::Nothing)
 }

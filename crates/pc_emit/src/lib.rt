@@ -1,6 +1,8 @@
 //! The nodes of the body of a method, in the order of evaluation.
 //!
 //! Proved: `emit` appends exactly the nodes to which a body elaborates, or reports that there are too many.
+//!
+//! How the code is to be read is in `CONTRIBUTING.md` (How to read the code).
 #![tactic(auto)]
 
 mod bodies;
@@ -9,6 +11,7 @@ mod name_nodes;
 mod nodes;
 mod setting;
 mod stop;
+mod tops;
 mod waiting;
 mod walk;
 

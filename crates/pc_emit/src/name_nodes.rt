@@ -1,9 +1,10 @@
 //! The nodes of names and texts on their own.
-ghost use Rattle.std.specs.Prelude.{◌≡◌, ◌∷◌, [], if◌then◌else◌};
+ghost use Rattle.std.specs.Prelude.{◌≡◌, ◌∷◌, [], Some, option_map, if◌then◌else◌};
 ghost use Rattle.pc_core.specs.declared.nodes.NodeKind.TheVariants as kinds;
 ghost use Rattle.pc_body_spec.specs.Roses as roses;
 ghost use Rattle.pc_body_spec.specs.Roses.{put};
-ghost use Rattle.pc_body_spec.specs.Scopes.{resolve, type_meaning, slot_named as slot_in, constructor_named as constructor_in, number_of_text as text_in};
+ghost use Rattle.pc_resolve.specs.Meanings.{meaning_view};
+ghost use Rattle.pc_body_spec.specs.Scopes.{Meaning as Seen, resolve, type_meaning, slot_named as slot_in, constructor_named as constructor_in, number_of_text as text_in};
 ghost use Rattle.pc_body_spec.specs.Expressions as spec;
 ghost use Rattle.pc_emit.specs.Giving.{GivesNodes};
 ghost use Rattle.pc_emit.specs.Closing.{name_closes};
@@ -41,19 +42,35 @@ fn read_field(setting: &Setting, nodes: &mut List<Node>, name: &Name) -> Result<
     single(setting, nodes, kind, name.span, this)
 }
 
-/// Writing this value to a bare name that is defined.
-#[tactic(auto, unfolding(crate::specs::Closing::name_closes))]
+/// Writing this value to a bare name, which has this meaning and is defined.
 pub(crate) fn write_name(
     setting: &Setting,
-    scope: &[Visible],
     nodes: &mut List<Node>,
     span: Span,
     name: &Name,
+    target: Option<Meaning>,
     value: u32,
 ) -> Result<u32, EmitStop>
-    ensures { GivesNodes result nodes.new (name_closes setting.now.context.now setting.now.number setting.now.depth span name.now (resolve setting.now.context.now scope.now name.now.text) value nodes.old) }
+    ensures { (w : Seen) → option_map meaning_view target ≡ Some w → GivesNodes result nodes.new (name_closes setting.now.context.now setting.now.number setting.now.depth span name.now w value nodes.old) }
 {
-    match setting.context.resolve(scope, name.text.as_slice()) {
+    match target {
+        Some(meaning) => write_meaning(setting, nodes, span, name, meaning, value),
+        None => gap(setting, nodes, span),
+    }
+}
+
+#[tactic(auto, unfolding(crate::specs::Closing::name_closes))]
+fn write_meaning(
+    setting: &Setting,
+    nodes: &mut List<Node>,
+    span: Span,
+    name: &Name,
+    meaning: Meaning,
+    value: u32,
+) -> Result<u32, EmitStop>
+    ensures { GivesNodes result nodes.new (name_closes setting.now.context.now setting.now.number setting.now.depth span name.now (meaning_view meaning) value nodes.old) }
+{
+    match meaning {
         Meaning::Local(slot) => single(setting, nodes, NodeKind::Assign(slot), span, value),
         Meaning::Field | Meaning::Method | Meaning::Nothing => {
             write_field(setting, nodes, span, name, value)
@@ -119,7 +136,7 @@ fn create(
 ) -> Result<u32, EmitStop>
     ensures { GivesNodes result nodes.new (put setting.now.number (spec.new_object_rose actor span setting.now.depth roses.no_roses (constructor_in constructors.now spec.create_name)) nodes.old) }
 {
-    match constructors.find(b"create") {
+    match constructors.create() {
         Some(method) => leaf(setting, nodes, object_kind(actor, method), span),
         None => gap(setting, nodes, span),
     }

@@ -1,13 +1,14 @@
 //! Single nodes, and their spans.
-ghost use Rattle.std.specs.Prelude.{◌≡◌, ◌∷◌, [], IfOk};
+ghost use Rattle.std.specs.Prelude.{◌≡◌, ◌++◌, ◌∷◌, [], IfOk};
 ghost use Rattle.pc_body_spec.specs.Roses as roses;
 ghost use Rattle.pc_body_spec.specs.Expressions as spec;
 ghost use Rattle.pc_emit.specs.Giving.{GivesNodes};
 
 use crate::setting::Setting;
 use crate::stop::EmitStop;
-use pc_caps::{List, NODE_LIMIT, SharedList, Span};
-use pc_core::{Node, NodeKind};
+use crate::tops::Tops;
+use pc_caps::{List, NODE_LIMIT, Span};
+use pc_core::{Children, Node, NodeKind};
 use pc_tree::Op;
 use std::alloc::{AllocError, Global};
 
@@ -18,7 +19,7 @@ pub(crate) fn push(
     nodes: &mut List<Node>,
     kind: NodeKind,
     span: Span,
-    children: List<u32>,
+    children: Children,
 ) -> Result<u32, EmitStop>
     ensures { GivesNodes result nodes.new (roses.push setting.now.number kind span setting.now.depth children nodes.old) }
 {
@@ -26,7 +27,6 @@ pub(crate) fn push(
     if place >= NODE_LIMIT as usize {
         return Err(EmitStop::Full);
     }
-    let children = SharedList::from_list(setting.alloc, children)?;
     nodes.push(Node {
         kind,
         children,
@@ -46,7 +46,7 @@ pub(crate) fn leaf(
 ) -> Result<u32, EmitStop>
     ensures { GivesNodes result nodes.new (roses.push setting.now.number kind span setting.now.depth [] nodes.old) }
 {
-    push(setting, nodes, kind, span, List::new(setting.alloc))
+    push(setting, nodes, kind, span, Children::none())
 }
 
 /// Appends a node with one child.
@@ -59,8 +59,7 @@ pub(crate) fn single(
 ) -> Result<u32, EmitStop>
     ensures { GivesNodes result nodes.new (roses.push setting.now.number kind span setting.now.depth (child ∷ []) nodes.old) }
 {
-    let children = one(setting.alloc, child)?;
-    push(setting, nodes, kind, span, children)
+    push(setting, nodes, kind, span, Children::one(child))
 }
 
 /// Appends a node with two children.
@@ -74,9 +73,37 @@ pub(crate) fn double(
 ) -> Result<u32, EmitStop>
     ensures { GivesNodes result nodes.new (roses.push setting.now.number kind span setting.now.depth (first ∷ second ∷ []) nodes.old) }
 {
-    let mut children = one(setting.alloc, first)?;
-    children.push(second)?;
+    push(setting, nodes, kind, span, Children::two(first, second))
+}
+
+/// Appends a node with these children.
+pub(crate) fn several(
+    setting: &Setting,
+    nodes: &mut List<Node>,
+    kind: NodeKind,
+    span: Span,
+    children: Tops,
+) -> Result<u32, EmitStop>
+    ensures { GivesNodes result nodes.new (roses.push setting.now.number kind span setting.now.depth children nodes.old) }
+{
+    let children = Children::from_slice(setting.alloc, children.as_slice())?;
     push(setting, nodes, kind, span, children)
+}
+
+/// Appends a node with these children and then one more.
+pub(crate) fn several_and(
+    setting: &Setting,
+    nodes: &mut List<Node>,
+    kind: NodeKind,
+    span: Span,
+    children: Tops,
+    last: u32,
+) -> Result<u32, EmitStop>
+    ensures { GivesNodes result nodes.new (roses.push setting.now.number kind span setting.now.depth (children ++ last ∷ []) nodes.old) }
+{
+    let mut children = children;
+    children.push(last)?;
+    several(setting, nodes, kind, span, children)
 }
 
 /// Appends the node of a missing name.
@@ -87,11 +114,11 @@ pub(crate) fn gap(setting: &Setting, nodes: &mut List<Node>, span: Span) -> Resu
     single(setting, nodes, NodeKind::Body, span, this)
 }
 
-/// A list of one number.
-pub(crate) fn one(alloc: Global, child: u32) -> Result<List<u32>, AllocError>
+/// One number.
+pub(crate) fn one(alloc: Global, child: u32) -> Result<Tops, AllocError>
     ensures { IfOk result (λ l. l ≡ child ∷ []) }
 {
-    let mut children = List::new(alloc);
+    let mut children = Tops::new(alloc);
     children.push(child)?;
     Ok(children)
 }

@@ -4,9 +4,10 @@ ghost use Rattle.pc_body_spec.specs.Roses as roses;
 ghost use Rattle.pc_emit.specs.Giving.{GivesNodes};
 ghost use Rattle.pc_emit.specs.Closing.{TakesLast, closing, arm_closes, link_closes, none_closes, seq_closes, this_closes, written_kind};
 
-use crate::nodes::{double, leaf, one, push, single};
+use crate::nodes::{double, leaf, one, several, several_and, single};
 use crate::setting::Setting;
 use crate::stop::EmitStop;
+use crate::tops::Tops;
 use pc_caps::{List, Span};
 use pc_core::{Node, NodeKind};
 use pc_tree::NONE_ENTITY;
@@ -26,7 +27,7 @@ pub(crate) struct OpenArm {
 pub(crate) struct Link {
     pub(crate) kind: NodeKind,
     pub(crate) span: Span,
-    pub(crate) args: List<u32>,
+    pub(crate) args: Tops,
 }
 
 /// A chain whose suffixes have their arguments. The beginning of the chain is still missing.
@@ -75,8 +76,7 @@ fn close_arm(
 {
     let mut children = one(setting.alloc, arm.cond)?;
     children.push(arm.body)?;
-    children.push(other)?;
-    let chosen = push(setting, nodes, NodeKind::If, arm.span, children)?;
+    let chosen = several_and(setting, nodes, NodeKind::If, arm.span, children, other)?;
     if arm.first {
         return Ok(chosen);
     }
@@ -96,9 +96,7 @@ pub(crate) fn close_links(
     let mut links = links;
     let mut top = origin;
     'close: while let Some(link) = take_last(&mut links) {
-        let mut children = link.args;
-        children.push(top)?;
-        top = push(setting, nodes, link.kind, link.span, children)?;
+        top = several_and(setting, nodes, link.kind, link.span, link.args, top)?;
     }
     Ok(top)
 }
@@ -138,14 +136,12 @@ pub(crate) fn call_this(
     span: Span,
     text: u32,
     place: Span,
-    args: List<u32>,
+    args: Tops,
 ) -> Result<u32, EmitStop>
     ensures { GivesNodes result nodes.new (this_closes setting.now.number setting.now.depth span text place args nodes.old) }
 {
     let this = leaf(setting, nodes, NodeKind::This, place)?;
-    let mut children = args;
-    children.push(this)?;
-    push(setting, nodes, NodeKind::Call(text), span, children)
+    several_and(setting, nodes, NodeKind::Call(text), span, args, this)
 }
 
 // The items of a sequence, or the value None if it has none.
@@ -154,8 +150,8 @@ fn or_none(
     setting: &Setting,
     nodes: &mut List<Node>,
     span: Span,
-    items: List<u32>,
-) -> Result<List<u32>, EmitStop>
+    items: Tops,
+) -> Result<Tops, EmitStop>
     ensures { GivesNodes result nodes.new (none_closes setting.now.number setting.now.depth span items nodes.old) }
 {
     if !items.is_empty() {
@@ -171,10 +167,10 @@ pub(crate) fn close_sequence(
     setting: &Setting,
     nodes: &mut List<Node>,
     span: Span,
-    items: List<u32>,
+    items: Tops,
 ) -> Result<u32, EmitStop>
     ensures { GivesNodes result nodes.new (seq_closes setting.now.number setting.now.depth span items nodes.old) }
 {
     let children = or_none(setting, nodes, span, items)?;
-    push(setting, nodes, NodeKind::Seq, span, children)
+    several(setting, nodes, NodeKind::Seq, span, children)
 }

@@ -1,24 +1,29 @@
 //! The nodes of expressions and sequences, in the order of evaluation.
-ghost use Rattle.std.specs.Prelude.{◌≡◌, ◌+◌, ◌≤◌, OnOk, length, take, drop, map, true, false, Some, List as Sequence};
+ghost use Rattle.std.specs.Prelude.{◌≡◌, ◌+◌, ◌≤◌, OnOk, length, take, drop, map, option_map, true, false, Some, List as Sequence};
 ghost use Rattle.pc_tree.specs.View.{expr_view, item_view, suffix_view, seq_view, items_view, exprs_view, arms_view, other_view};
 ghost use Rattle.pc_body_spec.specs.Expressions as spec;
 ghost use Rattle.pc_body_spec.specs.Roses.{Rose, put, puts};
 ghost use Rattle.pc_body_spec.specs.Scopes.{scope_after};
+ghost use Rattle.pc_resolve.specs.Meanings.{meaning_view};
 ghost use Rattle.pc_emit.specs.Giving.{GivesNodes};
 ghost use Rattle.pc_emit.specs.Closing.{alone_of, arm_closes, begun, begun_by, is_block, is_chain, link_closes, link_of, first_of, is_missing as misses, only};
-ghost use Rattle.pc_emit.specs.Closing.{rest_of, taken as count_of, OpensInnerPart, OpensChain, OpensOne};
+ghost use Rattle.pc_emit.specs.Closing.{rest_of, taken as count_of, target_meaning, OpensInnerPart, OpensChain, OpensOne, ReadsAtom};
 
-use crate::chains::{Beginning, First, begin, behind, count_taken, cut, is_missing, split_field};
+use crate::chains::{
+    Atom, Beginning, First, begin, behind, count_taken, cut, is_missing, read_atom, split_field,
+    target_of,
+};
 use crate::name_nodes::{consume, read_name, read_text, read_type, write_name};
-use crate::nodes::{double, end_word, gap, leaf, operation, push, single};
+use crate::nodes::{double, end_word, gap, leaf, operation, several, single};
 use crate::setting::Setting;
 use crate::stop::EmitStop;
+use crate::tops::Tops;
 use crate::waiting::{
     Link, OpenArm, OpenChain, call_this, close_arms, close_links, close_sequence, close_write,
 };
-use pc_caps::{List, Span};
+use pc_caps::{List, ShortBytes, Span};
 use pc_core::{Node, NodeKind};
-use pc_resolve::Visible;
+use pc_resolve::{Meaning, Visible};
 use pc_tree::{Arm, Expr, Item, NONE_ENTITY, Op, Seq, Suffix, join, span_of};
 
 /// An expression.
@@ -52,11 +57,12 @@ pub(crate) fn expr(
             block(setting, scope, nodes, expression)
         }
         Expr::Assign { left, right, span } => {
-            if is_missing(setting.context, scope.as_slice(), left) {
+            let target = target_of(setting.context, scope.as_slice(), left);
+            if is_missing(target) {
                 return gap(setting, nodes, *span);
             }
             let value = expr(setting, scope, nodes, right)?;
-            store(setting, scope, nodes, *span, left, value)
+            store(setting, scope, nodes, *span, left, target, value)
         }
     }
 }
@@ -123,15 +129,15 @@ fn chain(
     };
     let head: &Expr = head;
     let suffixes = suffixes.as_slice();
-    let beginning = begin(setting.context, scope.as_slice(), head, suffixes);
+    let (beginning, atom) = begin(setting.context, scope.as_slice(), head, suffixes);
     let taken = count_taken(&beginning);
     let count = behind(suffixes, taken).len();
     let opened = open_chain(setting, scope, nodes, *span, suffixes, beginning, count)?;
-    let origin = chain_origin(setting, scope, nodes, opened.origin, head)?;
+    let origin = chain_origin(setting, scope, nodes, opened.origin, atom, head)?;
     close_links(setting, nodes, opened.links, origin)
 }
 
-/// The target of a write, after its value. A bare name must be defined.
+/// The target of a write, after its value. A bare name must have this meaning, and be defined.
 #[cycle(walk)]
 fn store(
     setting: &Setting,
@@ -139,9 +145,10 @@ fn store(
     nodes: &mut List<Node>,
     span: Span,
     left: &Expr,
+    target: Option<Meaning>,
     value: u32,
 ) -> Result<u32, EmitStop>
-    ensures gives { (v : Rose) (before : Sequence Node) → misses setting.now.context.now scope.old (expr_view left.now) ≡ false → put setting.now.number v before ≡ Some (value, nodes.old) → GivesNodes result nodes.new (put setting.now.number (spec.assign_of setting.now.context.now scope.old setting.now.depth span v (spec.expr_of setting.now.context.now scope.old setting.now.depth (expr_view left.now)) (expr_view left.now)) before) }
+    ensures gives { (v : Rose) (before : Sequence Node) → option_map meaning_view target ≡ target_meaning setting.now.context.now scope.old (expr_view left.now) → misses setting.now.context.now scope.old (expr_view left.now) ≡ false → put setting.now.number v before ≡ Some (value, nodes.old) → GivesNodes result nodes.new (put setting.now.number (spec.assign_of setting.now.context.now scope.old setting.now.depth span v (spec.expr_of setting.now.context.now scope.old setting.now.depth (expr_view left.now)) (expr_view left.now)) before) }
     ensures scope { OnOk result (scope.new ≡ scope.old) }
 {
     let Expr::Chain {
@@ -150,16 +157,16 @@ fn store(
         span: reach,
     } = left
     else {
-        return store_alone(setting, scope, nodes, span, left, value);
+        return store_alone(setting, scope, nodes, span, left, target, value);
     };
     let head: &Expr = head;
     let suffixes = suffixes.as_slice();
-    let beginning = begin(setting.context, scope.as_slice(), head, suffixes);
+    let (beginning, atom) = begin(setting.context, scope.as_slice(), head, suffixes);
     let taken = count_taken(&beginning);
     let written = behind(suffixes, taken);
     let (field, count) = split_field(setting.context, written);
     let opened = open_chain(setting, scope, nodes, *reach, suffixes, beginning, count)?;
-    let origin = chain_origin(setting, scope, nodes, opened.origin, head)?;
+    let origin = chain_origin(setting, scope, nodes, opened.origin, atom, head)?;
     close_write(setting, nodes, span, field, opened.links, origin, value)
 }
 
@@ -171,13 +178,14 @@ fn store_alone(
     nodes: &mut List<Node>,
     span: Span,
     left: &Expr,
+    target: Option<Meaning>,
     value: u32,
 ) -> Result<u32, EmitStop>
-    ensures gives { (v : Rose) (before : Sequence Node) → misses setting.now.context.now scope.old (expr_view left.now) ≡ false → put setting.now.number v before ≡ Some (value, nodes.old) → GivesNodes result nodes.new (put setting.now.number (alone_of setting.now.context.now scope.old setting.now.depth span v (spec.expr_of setting.now.context.now scope.old setting.now.depth (expr_view left.now)) (expr_view left.now)) before) }
+    ensures gives { (v : Rose) (before : Sequence Node) → option_map meaning_view target ≡ target_meaning setting.now.context.now scope.old (expr_view left.now) → misses setting.now.context.now scope.old (expr_view left.now) ≡ false → put setting.now.number v before ≡ Some (value, nodes.old) → GivesNodes result nodes.new (put setting.now.number (alone_of setting.now.context.now scope.old setting.now.depth span v (spec.expr_of setting.now.context.now scope.old setting.now.depth (expr_view left.now)) (expr_view left.now)) before) }
     ensures scope { OnOk result (scope.new ≡ scope.old) }
 {
     match left {
-        Expr::Name(name) => write_name(setting, scope.as_slice(), nodes, span, name, value),
+        Expr::Name(name) => write_name(setting, nodes, span, name, target, value),
         Expr::Number { .. }
         | Expr::Truth { .. }
         | Expr::Text { .. }
@@ -230,21 +238,25 @@ fn open_chain(
     }
 }
 
-/// The beginning of a chain: it has this number, or it is the chain's atom.
+/// The beginning of a chain: it has this number, or it is the chain's atom, of which this is known.
 #[cycle(walk)]
 fn chain_origin(
     setting: &Setting,
     scope: &mut List<Visible>,
     nodes: &mut List<Node>,
     origin: Option<u32>,
-    atom: &Expr,
+    atom: Atom,
+    head: &Expr,
 ) -> Result<u32, EmitStop>
-    ensures gives { GivesNodes result nodes.new (begun_by origin (put setting.now.number (spec.expr_of setting.now.context.now scope.old setting.now.depth (expr_view atom.now))) nodes.old) }
+    ensures gives { ReadsAtom setting.now.context.now scope.old (expr_view head.now) atom → GivesNodes result nodes.new (begun_by origin (put setting.now.number (spec.expr_of setting.now.context.now scope.old setting.now.depth (expr_view head.now))) nodes.old) }
     ensures scope { OnOk result (scope.new ≡ scope.old) }
 {
     match origin {
         Some(number) => Ok(number),
-        None => expr(setting, scope, nodes, atom),
+        None => match atom {
+            Atom::Reads(reading) => read_atom(setting, nodes, reading, span_of(head)),
+            Atom::Walked => expr(setting, scope, nodes, head),
+        },
     }
 }
 
@@ -266,7 +278,7 @@ fn first_args(
         Suffix::Args { args, span: end } => match first {
             First::Made(kind) => {
                 let children = exprs(setting, scope, nodes, args.as_slice())?;
-                push(setting, nodes, kind, join(span, *end), children)
+                several(setting, nodes, kind, join(span, *end), children)
             }
             First::OnThis(text, place) => {
                 let children = exprs(setting, scope, nodes, args.as_slice())?;
@@ -408,7 +420,7 @@ fn link(
         Suffix::Dot(name) => Ok(Link {
             kind: NodeKind::Field(text),
             span: join(span, name.span),
-            args: List::new(setting.alloc),
+            args: Tops::new(setting.alloc),
         }),
         Suffix::Args { args, span: end } => {
             let tops = exprs(setting, scope, nodes, args.as_slice())?;
@@ -428,11 +440,11 @@ fn exprs(
     scope: &mut List<Visible>,
     nodes: &mut List<Node>,
     xs: &[Expr],
-) -> Result<List<u32>, EmitStop>
+) -> Result<Tops, EmitStop>
     ensures gives { GivesNodes result nodes.new (puts setting.now.number (spec.roses_of_exprs setting.now.context.now scope.old setting.now.depth (exprs_view xs.now)) nodes.old) }
     ensures scope { OnOk result (scope.new ≡ scope.old) }
 {
-    let mut tops = List::new(setting.alloc);
+    let mut tops = Tops::new(setting.alloc);
     for x in xs {
         let top = expr(setting, scope, nodes, x)?;
         tops.push(top)?;
@@ -479,11 +491,11 @@ pub(crate) fn items(
     scope: &mut List<Visible>,
     nodes: &mut List<Node>,
     xs: &[Item],
-) -> Result<List<u32>, EmitStop>
+) -> Result<Tops, EmitStop>
     ensures gives { GivesNodes result nodes.new (puts setting.now.number (spec.roses_of_items setting.now.context.now scope.old setting.now.depth (items_view xs.now)) nodes.old) }
     ensures scope { OnOk result (take (length scope.old) scope.new ≡ scope.old) }
 {
-    let mut tops = List::new(setting.alloc);
+    let mut tops = Tops::new(setting.alloc);
     for x in xs {
         let top = item(setting, scope, nodes, x)?;
         tops.push(top)?;
@@ -513,7 +525,7 @@ fn item(
             let top = expr(setting, scope, nodes, value)?;
             let kind = NodeKind::Define(slot);
             let defined = single(setting, nodes, kind, *span, top)?;
-            let text = List::from_slice(setting.alloc, name.text.as_slice())?;
+            let text = ShortBytes::from_slice(setting.alloc, name.text.as_slice())?;
             scope.push(Visible::new(text, slot))?;
             Ok(defined)
         }

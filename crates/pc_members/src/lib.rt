@@ -3,6 +3,8 @@
 //! Proved: `NameTable` finds exactly the names that it contains, by number and by name; `close` of the `is` lists gives
 //! for each entity exactly the entities to which a chain of `is` leads; `has_added` says whether `create` is added;
 //! `list_members` gives exactly the members of each entity: its own, an added `create`, and what it takes over.
+//!
+//! How the code is to be read is in `CONTRIBUTING.md` (How to read the code).
 #![tactic(auto)]
 
 mod constructors;

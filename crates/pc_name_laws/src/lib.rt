@@ -5,6 +5,8 @@
 //! (`faults_are_listed`), and the reported one is the least of all (`told_is_least`). A name is reported as unknown
 //! only if it has no meaning; and if a name has no meaning, a fault is reported that is not after it
 //! (`unknown_is_missing`).
+//!
+//! How the code is to be read is in `CONTRIBUTING.md` (How to read the code).
 #![tactic(auto)]
 
 mod laws;

@@ -5,6 +5,8 @@
 //! determines what is above each entity; a file has either a first fault or its names (`specs/Laws.antt`).
 //!
 //! Only tested: names and limits, at the limit and one past it.
+//!
+//! How the code is to be read is in `CONTRIBUTING.md` (How to read the code).
 #![tactic(auto)]
 
 mod collected_names;

@@ -1,11 +1,11 @@
 -- What is found by an index is what the lists define.
-use Rattle.std.proofs.Common.{◌≡◌, ℕ, suc, List, [], ◌∷◌, ◌++◌, Bool, true, false, ◌||◌, cond, map, length, Option, Some, None, is_some, refl, sym, ap, ◌∙◌, arith, if◌then◌else◌}
+use Rattle.std.proofs.Common.{◌≡◌, ℕ, suc, List, [], ◌∷◌, ◌++◌, Bool, true, false, ◌||◌, cond, map, length, take, drop, Option, Some, None, is_some, refl, sym, ap, ◌∙◌, arith, if◌then◌else◌}
 use Rattle.std.specs.Prelude.{nat_eq}
 use Rattle.std.specs.Map.{lookup}
 use Rattle.std.specs.Option.{option_map, unwrap_or}
 use Rattle.std.specs.Str.{bytes_eq}
 use Rattle.std.proofs.lemmas.Bool.{eqb-true}
-use Rattle.std.proofs.lemmas.List.{append_assoc, length-append}
+use Rattle.std.proofs.lemmas.List.{append_assoc, length-append, take-append-drop}
 use Rattle.std.proofs.lemmas.List.Folds.{list_any-append}
 use Rattle.std.proofs.lemmas.Slice.Eq.{bytes_eq-Decides}
 use Rattle.pc_lists.proofs.Gets.{get_behind}
@@ -19,7 +19,7 @@ use Rattle.pc_body_spec.specs.Faults.{is_entity}
 use Rattle.pc_body_spec.specs.Slots.{type_of_name, cap_or}
 use Rattle.pc_resolve.specs.Indexes.{firsts}
 use Rattle.pc_resolve.specs.Pairs.{constructor_pair, visible_pair, placed_pair, known_pairs, known_at, picked}
-use Rattle.pc_resolve.proofs.Indexes.{lookup_firsts}
+use Rattle.pc_resolve.proofs.Indexes.{lookup_firsts, or_else}
 use Rattle.pc_resolve.proofs.Texts.{bytes_eq_sym, nat_eq_sym}
 
 same_bytes : (a b : List ℕ) → bytes_eq a b ≡ true → a ≡ b
@@ -34,6 +34,25 @@ constructor_first (c ∷ cs) name = rw (bytes_eq_sym c.name name, constructor_fi
 pub constructor_found : (cs : List Constructor) (name : List ℕ) → constructor_named cs name ≡ lookup (bytes_eq name) (firsts bytes_eq (map constructor_pair cs))
 constructor_found cs name = constructor_first cs name ∙ sym (lookup_firsts bytes_eq same_bytes (map constructor_pair cs) name)
 
+-- The first constructors, and then the others.
+constructor_in_parts : (as' bs : List Constructor) (name : List ℕ) → constructor_named (as' ++ bs) name ≡ or_else (constructor_named as' name) (constructor_named bs name)
+constructor_in_parts [] bs name = refl
+constructor_in_parts (c ∷ cs) bs name = by (bytes_eq c.name name) (constructor_in_parts cs bs name)
+  where
+    by : (b : Bool) → constructor_named (cs ++ bs) name ≡ or_else (constructor_named cs name) (constructor_named bs name)
+        → (if b then Some c.method else constructor_named (cs ++ bs) name) ≡ or_else (if b then Some c.method else constructor_named cs name) (constructor_named bs name)
+    by true rec = refl
+    by false rec = rec
+
+constructor_cut : (k : ℕ) (cs : List Constructor) (name : List ℕ) → constructor_named cs name ≡ or_else (constructor_named (take k cs) name) (constructor_named (drop k cs) name)
+constructor_cut k cs name = ap (λ l. constructor_named l name) (sym (take-append-drop k cs)) ∙ constructor_in_parts (take k cs) (drop k cs) name
+
+pub constructor_near : (k : ℕ) (cs : List Constructor) (name : List ℕ) (n : ℕ) → constructor_named (take k cs) name ≡ Some n → Some n ≡ constructor_named cs name
+constructor_near k cs name n h = sym (constructor_cut k cs name ∙ ap (λ o. or_else o (constructor_named (drop k cs) name)) h)
+
+pub constructor_far : (k : ℕ) (cs : List Constructor) (methods : List (List ℕ × ℕ)) (name : List ℕ) → methods ≡ firsts bytes_eq (map constructor_pair (drop k cs)) → constructor_named (take k cs) name ≡ None → lookup (bytes_eq name) methods ≡ constructor_named cs name
+constructor_far k cs methods name e h = ap (lookup (bytes_eq name)) e ∙ (sym (constructor_found (drop k cs) name) ∙ sym (constructor_cut k cs name ∙ ap (λ o. or_else o (constructor_named (drop k cs) name)) h))
+
 -- ---- names in a scope
 
 visible_first : (vs : List Visible) (name : List ℕ) → slot_named vs name ≡ lookup (bytes_eq name) (map visible_pair vs)
@@ -42,6 +61,19 @@ visible_first (v ∷ vs) name = rw (bytes_eq_sym v.name name, visible_first vs n
 
 pub visible_found : (vs : List Visible) (name : List ℕ) → slot_named vs name ≡ lookup (bytes_eq name) (firsts bytes_eq (map visible_pair vs))
 visible_found vs name = visible_first vs name ∙ sym (lookup_firsts bytes_eq same_bytes (map visible_pair vs) name)
+
+slot_in_parts : (vs ws : List Visible) (name : List ℕ) → slot_named (vs ++ ws) name ≡ or_else (slot_named vs name) (slot_named ws name)
+slot_in_parts [] ws name = refl
+slot_in_parts (v ∷ vs) ws name = by (bytes_eq v.name name) (slot_in_parts vs ws name)
+  where
+    by : (b : Bool) → slot_named (vs ++ ws) name ≡ or_else (slot_named vs name) (slot_named ws name)
+        → (if b then Some v.slot else slot_named (vs ++ ws) name) ≡ or_else (if b then Some v.slot else slot_named vs name) (slot_named ws name)
+    by true rec = refl
+    by false rec = rec
+
+-- The first ones, and then the others.
+pub slot_cut : (k : ℕ) (vs : List Visible) (name : List ℕ) → slot_named vs name ≡ or_else (slot_named (take k vs) name) (slot_named (drop k vs) name)
+slot_cut k vs name = ap (λ l. slot_named l name) (sym (take-append-drop k vs)) ∙ slot_in_parts (take k vs) (drop k vs) name
 
 -- ---- the slots of locals
 
@@ -87,8 +119,32 @@ or_among names (x ∷ xs) name = or_among (with_name names x) xs name ∙ rw (am
     by false true c = refl
     by false false c = refl
 
-pub is_among_table : (names : List (List ℕ)) (name : List ℕ) → is_among_names names name ≡ words.is_among name (with_names [] names)
+is_among_table : (names : List (List ℕ)) (name : List ℕ) → is_among_names names name ≡ words.is_among name (with_names [] names)
 is_among_table names name = sym (or_among [] names name)
+
+among_in_parts : (xs ys : List (List ℕ)) (name : List ℕ) → is_among_names (xs ++ ys) name ≡ (is_among_names xs name || is_among_names ys name)
+among_in_parts [] ys name = refl
+among_in_parts (x ∷ xs) ys name = by (bytes_eq x name) (among_in_parts xs ys name)
+  where
+    by : (b : Bool) → is_among_names (xs ++ ys) name ≡ (is_among_names xs name || is_among_names ys name)
+        → (if b then true else is_among_names (xs ++ ys) name) ≡ ((if b then true else is_among_names xs name) || is_among_names ys name)
+    by true rec = refl
+    by false rec = rec
+
+-- The first ones, and then the others.
+is_among_parts : (k : ℕ) (names : List (List ℕ)) (name : List ℕ) → is_among_names names name ≡ (is_among_names (take k names) name || words.is_among name (with_names [] (drop k names)))
+is_among_parts k names name = ap (λ l. is_among_names l name) (sym (take-append-drop k names)) ∙ (among_in_parts (take k names) (drop k names) name ∙ ap (λ b. is_among_names (take k names) name || b) (is_among_table (drop k names) name))
+
+-- What is found among the first ones, and what is looked up if nothing is.
+pub found_near : (k : ℕ) (names near : List (List ℕ)) (name : List ℕ) (found : Bool) → found ≡ is_among_names near name → near ≡ take k names → found ≡ true → found ≡ is_among_names names name
+found_near k names near name found e n there =
+    let first : is_among_names (take k names) name ≡ true = ap (λ l. is_among_names l name) (sym n) ∙ (sym e ∙ there) in
+    there ∙ sym (is_among_parts k names name ∙ ap (λ b. b || words.is_among name (with_names [] (drop k names))) first)
+
+pub found_far : (k : ℕ) (names near table : List (List ℕ)) (name : List ℕ) (found later : Bool) → found ≡ is_among_names near name → near ≡ take k names → found ≡ false → later ≡ words.is_among name table → table ≡ with_names [] (drop k names) → later ≡ is_among_names names name
+found_far k names near table name found later e n missing is table_is =
+    let first : is_among_names (take k names) name ≡ false = ap (λ l. is_among_names l name) (sym n) ∙ (sym e ∙ missing) in
+    (is ∙ ap (λ l. words.is_among name l) table_is) ∙ sym (is_among_parts k names name ∙ ap (λ b. b || words.is_among name (with_names [] (drop k names))) first)
 
 -- ---- entities
 

@@ -1,3 +1,4 @@
 pub mod Meanings
 pub mod Indexes
 pub mod Pairs
+pub mod Near

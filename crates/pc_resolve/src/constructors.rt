@@ -2,11 +2,13 @@
 ghost use Rattle.std.specs.Prelude.{◌≡◌, [], IfOk, OnOk, map};
 ghost use Rattle.std.specs.Str.{bytes_eq};
 ghost use Rattle.pc_body_spec.specs.Scopes as spec;
+ghost use Rattle.pc_body_spec.specs.Expressions.{create_name};
 ghost use Rattle.pc_resolve.specs.Indexes.{firsts, with_firsts};
 ghost use Rattle.pc_resolve.specs.Pairs.{constructor_pair};
 
 use crate::index::Index;
-use pc_caps::List;
+use crate::near::{far, near};
+use pc_caps::{List, ShortBytes};
 use pc_keyed::KeyedBy;
 use std::alloc::{AllocError, Global};
 use std::marker::Model;
@@ -14,7 +16,7 @@ use std::marker::Model;
 /// A constructor of an entity.
 #[derive(Drop)]
 pub struct Constructor {
-    name: List<u8>,
+    name: ShortBytes,
     method: u32,
 }
 
@@ -28,42 +30,48 @@ impl Model for Constructor {
 
 impl Constructor {
     /// The constructor with this name, which has this number among the methods of the program.
-    pub fn new(name: List<u8>, method: u32) -> Constructor
+    pub fn new(name: ShortBytes, method: u32) -> Constructor
         ensures { result ≡ record { name = name; method = method } }
     {
         Constructor { name, method }
     }
 }
 
-/// The constructors of an entity in order, looked up by hash of their names.
+/// The constructors of an entity in order. The first ones are looked through, and the others looked up by hash of their
+/// names; `create` is looked up once for all its calls.
 #[derive(Drop)]
 pub struct Constructors {
     row: List<Constructor>,
     methods: Index,
+    create: Option<u32>,
 }
 
 impl Model for Constructors {
-    ghost use Rattle.std.specs.Prelude.{◌≡◌, List as Sequence, map};
+    ghost use Rattle.std.specs.Prelude.{◌≡◌, List as Sequence, map, drop};
     ghost use Rattle.std.specs.Str.{bytes_eq};
-    ghost use Rattle.pc_body_spec.specs.Scopes.{Constructor as Seen};
+    ghost use Rattle.pc_body_spec.specs.Scopes.{Constructor as Seen, constructor_named};
+    ghost use Rattle.pc_body_spec.specs.Expressions.{create_name};
     ghost use Rattle.pc_resolve.specs.Indexes.{firsts};
+    ghost use Rattle.pc_resolve.specs.Near.{near_count};
     ghost use Rattle.pc_resolve.specs.Pairs.{constructor_pair};
 
     ghost Value = { Sequence Seen };
 
     ghost view = { λ c. c.row };
 
-    ghost invariant = { λ c. c.methods ≡ firsts bytes_eq (map constructor_pair c.row) };
+    ghost invariant = { λ c. (c.methods ≡ firsts bytes_eq (map constructor_pair (drop near_count c.row))) × (c.create ≡ constructor_named c.row create_name) };
 }
 
 impl Constructors {
     /// No constructors. Does not allocate.
+    #[tactic(auto, unfolding(crate::specs::Near::near_count))]
     pub fn new(alloc: Global) -> Constructors
         ensures { result ≡ [] }
     {
         Constructors {
             row: List::new(alloc),
             methods: Index::new(alloc, KeyedBy::nothing()),
+            create: None,
         }
     }
 
@@ -71,18 +79,44 @@ impl Constructors {
     pub fn of(alloc: Global, row: List<Constructor>) -> Result<Constructors, AllocError>
         ensures { IfOk result (λ constructors. constructors ≡ row) }
     {
-        let methods = number_methods(alloc, row.as_slice())?;
-        Ok(Constructors { row, methods })
+        let methods = number_methods(alloc, far(row.as_slice()))?;
+        let create = method_named(row.as_slice(), b"create");
+        Ok(Constructors {
+            row,
+            methods,
+            create,
+        })
     }
 
     /// The number of the constructor with this name among the methods of the program. `None` iff none of these has it;
     /// the first counts.
-    #[tactic(auto, using(crate::proofs::Found::constructor_found))]
     pub fn find(&self, name: &[u8]) -> Option<u32>
         ensures { result ≡ spec.constructor_named self.now name.now }
     {
-        self.methods.find(name)
+        match method_named(near(self.row.as_slice()), name) {
+            Some(method) => Some(method),
+            None => self.methods.find(name),
+        }
     }
+
+    /// The number of the constructor `create` among the methods of the program. `None` iff none of these has this name.
+    pub fn create(&self) -> Option<u32>
+        ensures { result ≡ spec.constructor_named self.now create_name }
+    {
+        self.create
+    }
+}
+
+// The number of the constructor with this name among the methods. All of them are looked at.
+fn method_named(row: &[Constructor], name: &[u8]) -> Option<u32>
+    ensures { result ≡ spec.constructor_named row.now name.now }
+{
+    for constructor in row {
+        if constructor.name.as_slice() == name {
+            return Some(constructor.method);
+        }
+    }
+    None
 }
 
 // The number of each constructor among the methods, by its name.

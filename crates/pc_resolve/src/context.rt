@@ -1,6 +1,7 @@
 //! What stays the same throughout the body of a method, and the meaning of names in it.
 ghost use Rattle.std.specs.Prelude.{◌≡◌, ◌<◌, ◌^◌, length, Option, IfOk, OnOk, OnErr, if◌then◌else◌};
 ghost use Rattle.pc_body_spec.specs.Scopes as spec;
+ghost use Rattle.pc_body_spec.specs.Expressions.{apply_name};
 ghost use Rattle.pc_body_spec.specs.Faults.{is_entity};
 ghost use Rattle.pc_body_spec.specs.Slots as slots;
 ghost use Rattle.pc_resolve.specs.Meanings.{meaning_view, type_view};
@@ -10,7 +11,7 @@ use crate::local_slots::LocalSlots;
 use crate::meaning::{Meaning, TypeMeaning};
 use crate::name_row::NameRow;
 use crate::scope::{Visible, slot_of};
-use pc_caps::{Cap, List};
+use pc_caps::{Cap, List, ShortBytes};
 use pc_keyed::KeyedBy;
 use pc_members::NameTable;
 use pc_tree::{EntityKind, FIRST_OWN, NONE_ENTITY, TypeRef};
@@ -18,12 +19,14 @@ use std::alloc::{AllocError, Global};
 use std::marker::Model;
 
 /// What stays the same throughout the body of a method: the names of the fields and methods of its entity, the entities
-/// and texts of the program by their numbers, and the slots of the method's locals. All of them are looked up by hash.
+/// and texts of the program by their numbers, and the slots of the method's locals. All of them are looked up by hash,
+/// and the text `apply` once for all calls of values.
 #[derive(Drop)]
 pub struct Context {
     members: Members,
     entities: Entities,
     texts: NameTable,
+    apply: u32,
     slots: LocalSlots,
 }
 
@@ -39,8 +42,8 @@ impl Members {
     fn of(
         alloc: Global,
         key: KeyedBy,
-        fields: List<List<u8>>,
-        methods: List<List<u8>>,
+        fields: List<ShortBytes>,
+        methods: List<ShortBytes>,
     ) -> Result<Members, AllocError>
         ensures fields { IfOk result (λ members. members.fields ≡ fields) }
         ensures methods { IfOk result (λ members. members.methods ≡ methods) }
@@ -52,14 +55,15 @@ impl Members {
 }
 
 impl Model for Context {
-    ghost use Rattle.std.specs.Prelude.{◌<◌, ◌^◌, length, if◌then◌else◌};
-    ghost use Rattle.pc_body_spec.specs.Scopes.{Context as Seen};
+    ghost use Rattle.std.specs.Prelude.{◌≡◌, ◌<◌, ◌^◌, length, if◌then◌else◌};
+    ghost use Rattle.pc_body_spec.specs.Scopes.{Context as Seen, text_from};
+    ghost use Rattle.pc_body_spec.specs.Expressions.{apply_name};
 
     ghost Value = { Seen };
 
     ghost view = { λ c. record { fields = c.members.fields; methods = c.members.methods; entities = c.entities; texts = c.texts; slots = c.slots } };
 
-    ghost invariant = { λ c. length c.entities < 2 ^ 32 };
+    ghost invariant = { λ c. (length c.entities < 2 ^ 32) × (c.apply ≡ text_from 0 c.texts apply_name) };
 }
 
 impl Context {
@@ -68,8 +72,8 @@ impl Context {
     /// locals. Names are looked up by a hash with the key of the texts. `Err` if memory runs out.
     pub fn new(
         alloc: Global,
-        fields: List<List<u8>>,
-        methods: List<List<u8>>,
+        fields: List<ShortBytes>,
+        methods: List<ShortBytes>,
         entities: List<Known>,
         texts: NameTable,
         slots: LocalSlots,
@@ -80,10 +84,12 @@ impl Context {
         let key = texts.key();
         let members = Members::of(alloc, key, fields, methods)?;
         let entities = Entities::of(alloc, key, entities)?;
+        let apply = number_in(&texts, b"apply");
         Ok(Context {
             members,
             entities,
             texts,
+            apply,
             slots,
         })
     }
@@ -93,8 +99,8 @@ impl Context {
     pub fn set_members(
         &mut self,
         alloc: Global,
-        fields: List<List<u8>>,
-        methods: List<List<u8>>,
+        fields: List<ShortBytes>,
+        methods: List<ShortBytes>,
     ) -> Result<(), AllocError>
         ensures ok { OnOk result (self.new ≡ record { fields = fields; methods = methods; entities = self.old.entities; texts = self.old.texts; slots = self.old.slots }) }
         ensures err { OnErr result (self.new ≡ self.old) }
@@ -162,14 +168,17 @@ impl Context {
     }
 
     /// The number of a text, or 0 if it is not one of the program's.
-    #[tactic(auto, using(crate::proofs::Texts::text_found))]
     pub fn text_of(&self, name: &[u8]) -> u32
         ensures { result ≡ spec.number_of_text self.now name.now }
     {
-        match self.texts.find(name) {
-            Some(number) => number,
-            None => 0,
-        }
+        number_in(&self.texts, name)
+    }
+
+    /// The number of the text `apply`, or 0 if it is not one of the program's.
+    pub fn apply(&self) -> u32
+        ensures { result ≡ spec.number_of_text self.now apply_name }
+    {
+        self.apply
     }
 
     /// The number and the capability of a written type: the capability of its entity if none is written. `None` iff
@@ -194,6 +203,17 @@ impl Context {
         ensures { result.now ≡ self.now.texts }
     {
         &self.texts
+    }
+}
+
+// The number of a text in this table, or 0 if it is not there.
+#[tactic(auto, using(crate::proofs::Texts::text_found))]
+fn number_in(texts: &NameTable, name: &[u8]) -> u32
+    ensures { result ≡ spec.text_from 0 texts.now name.now }
+{
+    match texts.find(name) {
+        Some(number) => number,
+        None => 0,
     }
 }
 

@@ -7,7 +7,7 @@ ghost use Rattle.pc_resolve.specs.Pairs.{known_at, known_pairs, picked};
 
 use crate::constructors::Constructors;
 use crate::index::Index;
-use pc_caps::{Cap, List};
+use pc_caps::{Cap, List, ShortBytes};
 use pc_keyed::KeyedBy;
 use pc_tree::EntityKind;
 use std::alloc::{AllocError, Global};
@@ -16,7 +16,7 @@ use std::marker::Model;
 /// What a body knows of an entity of the program.
 #[derive(Drop)]
 pub struct Known {
-    pub(crate) name: List<u8>,
+    pub(crate) name: ShortBytes,
     pub(crate) kind: EntityKind,
     pub(crate) cap: Cap,
     pub(crate) constructors: Constructors,
@@ -33,7 +33,7 @@ impl Model for Known {
 impl Known {
     /// An entity with this name and kind, whose type has this capability if none is written. A constructor that is
     /// added because none is written is among the constructors.
-    pub fn new(name: List<u8>, kind: EntityKind, cap: Cap, constructors: Constructors) -> Known
+    pub fn new(name: ShortBytes, kind: EntityKind, cap: Cap, constructors: Constructors) -> Known
         ensures { result ≡ record { name = name; kind = kind; cap = cap; constructors = constructors } }
     {
         Known {

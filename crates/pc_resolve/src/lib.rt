@@ -2,6 +2,8 @@
 //!
 //! Proved: the meaning of a name in a body is exactly that of the definitions, given the visible locals and parameters,
 //! the fields, methods and entities; `Scope` finds what is visible by its name.
+//!
+//! How the code is to be read is in `CONTRIBUTING.md` (How to read the code).
 #![tactic(auto)]
 
 mod constructors;
@@ -11,6 +13,7 @@ mod index;
 mod local_slots;
 mod meaning;
 mod name_row;
+mod near;
 mod params;
 mod scope;
 

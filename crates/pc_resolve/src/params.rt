@@ -3,7 +3,7 @@ ghost use Rattle.std.specs.Prelude.{◌≡◌, ◌∷◌, [], ◌++◌, IfOk, On
 ghost use Rattle.pc_body_spec.specs.Scopes as spec;
 
 use crate::scope::Visible;
-use pc_caps::List;
+use pc_caps::{List, ShortBytes};
 use pc_tree::{Name, ParamDef};
 use std::alloc::{AllocError, Global};
 
@@ -45,6 +45,6 @@ fn push_name(
 ) -> Result<(), AllocError>
     ensures { OnOk result (scope.new ≡ scope.old ++ record { name = name.now.text; slot = slot } ∷ []) }
 {
-    let text = List::from_slice(alloc, name.text.as_slice())?;
+    let text = ShortBytes::from_slice(alloc, name.text.as_slice())?;
     scope.push(Visible::new(text, slot))
 }

@@ -6,3 +6,9 @@ returns-in-Name-clause-begins c = rw (c.in-Name.is, view_name c.in-Name.name) c.
 
 pub returns-in-TypeName-clause-begins : goal.returns-in-TypeName-clause-begins
 returns-in-TypeName-clause-begins c = rw (c.in-TypeName.is, view_type_name c.in-TypeName.name) c.begin_with_type.ensures.begins
+
+pub returns-in-Name-clause-reads : goal.returns-in-Name-clause-reads
+returns-in-Name-clause-reads c = rw (c.in-Name.is, view_name c.in-Name.name) c.begin_with_name.ensures.reads
+
+pub returns-in-TypeName-clause-reads : goal.returns-in-TypeName-clause-reads
+returns-in-TypeName-clause-reads c = rw (c.in-TypeName.is, view_type_name c.in-TypeName.name) (c.begin_with_type.ensures.reads c.args.scope.now)

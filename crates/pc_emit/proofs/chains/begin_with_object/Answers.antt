@@ -15,7 +15,7 @@ returns-in-Dot-clause-begins c =
 pub returns-in-Args-clause-begins : goal.returns-in-Args-clause-begins
 returns-in-Args-clause-begins c =
     let at : slice_get (map suffix_view c.args.suffixes.now) 0 ≡ Some (t.args (exprs_view c.in-Args.args) c.in-Args.span) = first_view c.args.suffixes.now _ _ (sym c.in-Some.ensures.value) (ap suffix_view c.in-Args.is ∙ view_args c.in-Args.args c.in-Args.span) in
-    rw c.begin_object.ensures (begins_with_create c.args.context.now c.args.actor c.args.constructors.now (map suffix_view c.args.suffixes.now) (ap is_args at))
+    rw (c.begin_object.ensures, c.create.ensures) (begins_with_create c.args.context.now c.args.actor c.args.constructors.now (map suffix_view c.args.suffixes.now) (ap is_args at))
 
 pub returns-in-Dot-clause-within : goal.returns-in-Dot-clause-within
 returns-in-Dot-clause-within c = rw c.begin_behind_name.ensures (two_taken c.args.actor _ c.args.suffixes.now)

@@ -9,7 +9,7 @@ pub returns-in-Dot-clause-cut : goal.returns-in-Dot-clause-cut
 returns-in-Dot-clause-cut c =
     let some : 0 < c.args.left = omega (arith, c.if-left-eq0.false) in
     let within : c.args.left - 1 < length c.args.suffixes.now = omega (arith, some, c.requires.within) in
-    rw (c.text_of-in-Dot.ensures, c.as_slice.ensures)
+    rw (c.text_of.ensures, c.as_slice.ensures)
     (before_dot c.args.context.now (map suffix_view c.args.suffixes.now) c.args.left c.in-Dot.name some
     (at_view suffix_view c.args.suffixes.now (c.args.left - 1) c.index-suffixes-left.result _ within c.index-suffixes-left.is (ap suffix_view c.in-Dot.is ∙ view_dot c.in-Dot.name)))
 
@@ -17,9 +17,9 @@ pub returns-in-Args-clause-cut : goal.returns-in-Args-clause-cut
 returns-in-Args-clause-cut c =
     let some : 0 < c.args.left = omega (arith, c.if-left-eq0.false) in
     let within : c.args.left - 1 < length c.args.suffixes.now = omega (arith, some, c.requires.within) in
-    rw c.text_of-in-Args.ensures
+    rw c.apply-in-Args.ensures
     (before_args c.args.context.now (map suffix_view c.args.suffixes.now) c.args.left _ _ some
     (at_view suffix_view c.args.suffixes.now (c.args.left - 1) c.index-suffixes-left.result _ within c.index-suffixes-left.is (ap suffix_view c.in-Args.is ∙ view_args _ _)))
 
 pub returns-then-left-eq0-clause-cut : goal.returns-then-left-eq0-clause-cut
-returns-then-left-eq0-clause-cut c = rw (c.text_of.ensures, c.if-left-eq0.true) (before_none c.args.context.now (map suffix_view c.args.suffixes.now))
+returns-then-left-eq0-clause-cut c = rw (c.apply.ensures, c.if-left-eq0.true) (before_none c.args.context.now (map suffix_view c.args.suffixes.now))

@@ -1,4 +1,5 @@
 use Rattle.std.proofs.Common.{drop, Err, ◌≡◌, ◌≤◌, length, take, map, ℕ, ◌+◌, false, List, [], ◌∷◌, ◌++◌, Some, sym, ap, ◌∙◌, subst, arith, refl}
+use Rattle.std.specs.Prelude.{option_map}
 use Rattle.std.proofs.lemmas.Result.{err_from_is_err_and, on_ok_weaker}
 use Rattle.std.proofs.lemmas.List.{drop_all, append-nil}
 use Rattle.std.proofs.lemmas.Option.{slice_get_read}
@@ -7,6 +8,7 @@ use Rattle.pc_tree.proofs.Views.{view_assign, view_args, view_infix, view_not, v
 use Rattle.pc_tree.specs.Tree as tree
 use Rattle.pc_tree.specs.declared.expression.Item.{Item}
 use Rattle.pc_tree.specs.View.{expr_view, suffix_view, seq_view, exprs_view, arms_view, item_view, items_view, other_view}
+use Rattle.pc_resolve.specs.Meanings.{meaning_view}
 use Rattle.pc_body_spec.specs.Scopes.{Visible, resolve, scope_after}
 use Rattle.pc_body_spec.specs.Expressions as spec
 use Rattle.pc_body_spec.specs.Roses.{leaf, rose, two, put, puts, push, three, and_then}
@@ -14,9 +16,9 @@ use Rattle.pc_core.specs.declared.nodes.NodeKind.{NodeKind}
 use Rattle.pc_core.specs.declared.nodes.NodeKind.TheVariants as kinds
 use Rattle.pc_emit.specs.declared.waiting.OpenArm.{OpenArm}
 use Rattle.pc_emit.specs.Giving.{GivesNodes}
-use Rattle.pc_emit.specs.Closing.{closing, arm_closes, seq_closes, link_closes, this_closes, name_closes, names_none, link_of, first_of, begun, begun_by}
+use Rattle.pc_emit.specs.Closing.{closing, arm_closes, seq_closes, link_closes, this_closes, names_none, link_of, first_of, begun, begun_by}
 use Rattle.pc_emit.specs.Closing.{rest_of, taken, behind_tops, OpensInnerPart, OpensOne}
-use Rattle.pc_emit.specs.Closing.{is_missing as misses}
+use Rattle.pc_emit.specs.Closing.{ReadsAtom, reading_rose, is_missing as misses, none_named, target_meaning}
 use Rattle.pc_emit.proofs.Suffixes.{chain_opens, write_opens, begun_first, begun_value, cut_behind}
 use Rattle.pc_emit.proofs.Walks.{arm_parts, seq_parts, sequence_is, inner_stops, inner_gives, links_stop, beginning_stops, begins_with_atom, begins_with_first, chain_stops, write_start, name_written, assign_none, wait_on, arms_from, stops, stops_one, stops_still, operands_none, right_none, push_none, exprs_from, called_is, arm_is, cond_none, body_none, arm_stops, opens_stop, scope_kept, items_from, on_ok}
 use Rattle.pc_lists.proofs.Cuts.{take_whole}
@@ -141,7 +143,7 @@ chain-returns-in_err-opened-clause-gives t c =
     let p = err_from_is_err_and c.from_residual.result c.from_residual.ensures.1 in
     let xs = c.as_slice-suffixes.result.now in
     let h = c.deref-head.result.now in
-    let beg = c.begin-beginning.result in
+    let beg = c.begin-beginning.result.0 in
     let m = c.args.setting.now.number in
     let d = c.args.setting.now.depth in
     let sc = c.args.scope.now in
@@ -156,7 +158,7 @@ chain-returns-in_err-origin-clause-gives t c =
     let p = err_from_is_err_and c.from_residual-in_err-origin.result c.from_residual-in_err-origin.ensures.1 in
     let xs = c.as_slice-suffixes.result.now in
     let h = c.deref-head.result.now in
-    let beg = c.begin-beginning.result in
+    let beg = c.begin-beginning.result.0 in
     let m = c.args.setting.now.number in
     let d = c.args.setting.now.depth in
     let sc = c.args.scope.now in
@@ -167,14 +169,16 @@ chain-returns-in_err-origin-clause-gives t c =
     let part = λ (z : List Visible). begun_by o.origin (put m (spec.expr_of cx z d (expr_view h))) c.open_chain.new.nodes in
     let e = c.in_err-origin.field-0.0 in
     let n2 = c.chain_origin.new.nodes in
-    let stopped : GivesNodes (Err e) n2 (part sc) = subst (λ z. GivesNodes (Err e) n2 (part z)) c.in_ok-opened.ensures.scope c.in_err-origin.ensures.gives in
+    let atom = c.begin-beginning.result.1 in
+    let reads = subst (λ z. ReadsAtom cx z (expr_view h) atom) (c.as_slice.ensures ∙ sym c.in_ok-opened.ensures.scope) c.begin-beginning.ensures.reads in
+    let stopped : GivesNodes (Err e) n2 (part sc) = subst (λ z. GivesNodes (Err e) n2 (part z)) c.in_ok-opened.ensures.scope (c.in_err-origin.ensures.gives reads) in
     rw (p.1, p.2, w) (inner_stops e n2 n2 (part sc) (closing (link_closes m d) o.links) _ (c.in_ok-opened.ensures.gives a) stopped)
 
 pub chain-returns-clause-gives : goal.chain-returns-clause-gives
 chain-returns-clause-gives t c =
     let xs = c.as_slice-suffixes.result.now in
     let h = c.deref-head.result.now in
-    let beg = c.begin-beginning.result in
+    let beg = c.begin-beginning.result.0 in
     let m = c.args.setting.now.number in
     let d = c.args.setting.now.depth in
     let sc = c.args.scope.now in
@@ -184,15 +188,17 @@ chain-returns-clause-gives t c =
     let o = c.in_ok-opened.opened in
     let part = λ (z : List Visible). begun_by o.origin (put m (spec.expr_of cx z d (expr_view h))) c.open_chain.new.nodes in
     let n2 = c.chain_origin.new.nodes in
-    let there = subst (λ z. part z ≡ Some (c.in_ok-origin.origin, n2)) c.in_ok-opened.ensures.scope c.in_ok-origin.ensures.gives in
+    let atom = c.begin-beginning.result.1 in
+    let reads = subst (λ z. ReadsAtom cx z (expr_view h) atom) (c.as_slice.ensures ∙ sym c.in_ok-opened.ensures.scope) c.begin-beginning.ensures.reads in
+    let there = subst (λ z. part z ≡ Some (c.in_ok-origin.origin, n2)) c.in_ok-opened.ensures.scope (c.in_ok-origin.ensures.gives reads) in
     rw w (inner_gives c.close_links.result n2 c.close_links.new.nodes c.in_ok-origin.origin (part sc) (closing (link_closes m d) o.links) _ (c.in_ok-opened.ensures.gives a) there c.close_links.ensures)
 
 pub store-returns-in_err-opened-clause-gives : goal.store-returns-in_err-opened-clause-gives
-store-returns-in_err-opened-clause-gives t c = λ v before there first.
+store-returns-in_err-opened-clause-gives t c = λ v before means there first.
     let p = err_from_is_err_and c.from_residual.result c.from_residual.ensures.1 in
     let xs = c.as_slice-suffixes.result.now in
     let h = c.deref-head.result.now in
-    let beg = c.begin-beginning.result in
+    let beg = c.begin-beginning.result.0 in
     let m = c.args.setting.now.number in
     let d = c.args.setting.now.depth in
     let sc = c.args.scope.now in
@@ -206,11 +212,11 @@ store-returns-in_err-opened-clause-gives t c = λ v before there first.
     rw (p.1, p.2) (inner_stops e n1 n1 (put m r c.args.nodes.now) _ _ begin (chain_stops e n1 n1 (link_closes m d) (put m a) _ (c.in_err-opened.ensures.gives a)))
 
 pub store-returns-in_err-origin-clause-gives : goal.store-returns-in_err-origin-clause-gives
-store-returns-in_err-origin-clause-gives t c = λ v before there first.
+store-returns-in_err-origin-clause-gives t c = λ v before means there first.
     let p = err_from_is_err_and c.from_residual-in_err-origin.result c.from_residual-in_err-origin.ensures.1 in
     let xs = c.as_slice-suffixes.result.now in
     let h = c.deref-head.result.now in
-    let beg = c.begin-beginning.result in
+    let beg = c.begin-beginning.result.0 in
     let m = c.args.setting.now.number in
     let d = c.args.setting.now.depth in
     let sc = c.args.scope.now in
@@ -223,14 +229,16 @@ store-returns-in_err-origin-clause-gives t c = λ v before there first.
     let part = λ (z : List Visible). begun_by o.origin (put m (spec.expr_of cx z d (expr_view h))) c.open_chain.new.nodes in
     let e = c.in_err-origin.field-0.0 in
     let n2 = c.chain_origin.new.nodes in
-    let stopped : GivesNodes (Err e) n2 (part sc) = subst (λ z. GivesNodes (Err e) n2 (part z)) c.in_ok-opened.ensures.scope c.in_err-origin.ensures.gives in
+    let atom = c.begin-beginning.result.1 in
+    let reads = subst (λ z. ReadsAtom cx z (expr_view h) atom) (c.as_slice.ensures ∙ sym c.in_ok-opened.ensures.scope) c.begin-beginning.ensures.reads in
+    let stopped : GivesNodes (Err e) n2 (part sc) = subst (λ z. GivesNodes (Err e) n2 (part z)) c.in_ok-opened.ensures.scope (c.in_err-origin.ensures.gives reads) in
     rw (p.1, p.2) (inner_stops e n2 n2 (put m r c.args.nodes.now) _ _ begin (inner_stops e n2 n2 (part sc) (closing (link_closes m d) o.links) _ (c.in_ok-opened.ensures.gives a) stopped))
 
 pub store-returns-clause-gives : goal.store-returns-clause-gives
-store-returns-clause-gives t c = λ v before there first.
+store-returns-clause-gives t c = λ v before means there first.
     let xs = c.as_slice-suffixes.result.now in
     let h = c.deref-head.result.now in
-    let beg = c.begin-beginning.result in
+    let beg = c.begin-beginning.result.0 in
     let m = c.args.setting.now.number in
     let d = c.args.setting.now.depth in
     let sc = c.args.scope.now in
@@ -242,18 +250,21 @@ store-returns-clause-gives t c = λ v before there first.
     let o = c.in_ok-opened.opened in
     let part = λ (z : List Visible). begun_by o.origin (put m (spec.expr_of cx z d (expr_view h))) c.open_chain.new.nodes in
     let n2 = c.chain_origin.new.nodes in
-    let there = subst (λ z. part z ≡ Some (c.in_ok-origin.origin, n2)) c.in_ok-opened.ensures.scope c.in_ok-origin.ensures.gives in
+    let atom = c.begin-beginning.result.1 in
+    let reads = subst (λ z. ReadsAtom cx z (expr_view h) atom) (c.as_slice.ensures ∙ sym c.in_ok-opened.ensures.scope) c.begin-beginning.ensures.reads in
+    let there = subst (λ z. part z ≡ Some (c.in_ok-origin.origin, n2)) c.in_ok-opened.ensures.scope (c.in_ok-origin.ensures.gives reads) in
     let whole : put m r c.args.nodes.now ≡ closing (link_closes m d) o.links c.in_ok-origin.origin n2 = c.in_ok-opened.ensures.gives a ∙ ap (λ z. and_then z (closing (link_closes m d) o.links)) there in
     rw (begin, whole) c.close_write.ensures
 
 pub store_alone-returns-in-Name-clause-gives : goal.store_alone-returns-in-Name-clause-gives
-store_alone-returns-in-Name-clause-gives t c = λ v before there first.
+store_alone-returns-in-Name-clause-gives t c = λ v before means there first.
     let cx = c.args.setting.now.context.now in
     let sc = c.args.scope.now in
     let n = c.in-Name.name in
     let e : expr_view c.args.left.now ≡ tree.name n = ap expr_view c.in-Name.is ∙ view_name n in
     let known : names_none (resolve cx sc n.text) ≡ false = subst (λ z. misses cx sc z ≡ false) e there in
-    let gave = subst (λ z. GivesNodes c.write_name.result c.write_name.new.nodes (name_closes cx c.args.setting.now.number c.args.setting.now.depth c.args.span n (resolve cx z n.text) c.args.value c.args.nodes.now)) c.as_slice.ensures c.write_name.ensures in
+    let is : option_map meaning_view c.args.target ≡ Some (resolve cx sc n.text) = means ∙ ap (target_meaning cx sc) e in
+    let gave = c.write_name.ensures (resolve cx sc n.text) is in
     rw (e, name_written cx c.args.setting.now.number c.args.setting.now.depth c.args.span n (resolve cx sc n.text) v c.args.value before c.args.nodes.now known first) gave
 
 pub expr-returns-in_err-value-in-Assign-clause-gives : goal.expr-returns-in_err-value-in-Assign-clause-gives
@@ -263,9 +274,33 @@ expr-returns-in_err-value-in-Assign-clause-gives t c =
     let sc = c.args.scope.now in
     let l = expr_view c.deref-in-Assign.result.now in
     let r = spec.expr_of cx sc c.args.setting.now.depth (expr_view c.deref-in-Assign-2.result.now) in
-    let known : misses cx sc l ≡ false = ap (λ z. misses cx z l) (sym c.as_slice-in-Assign.ensures) ∙ sym c.is_missing.ensures ∙ c.if-is_missing.false in
+    let known : misses cx sc l ≡ false = ap (λ z. misses cx z l) (sym c.as_slice-in-Assign.ensures) ∙ ap none_named (sym c.target_of-target.ensures) ∙ sym c.is_missing.ensures ∙ c.if-is_missing.false in
     rw (p.1, p.2, c.in-Assign.is, view_assign c.in-Assign.left c.in-Assign.right c.in-Assign.span, sym c.deref-in-Assign.ensures, sym c.deref-in-Assign-2.ensures)
     (stops c.in_err-value-in-Assign.field-0.0 c.expr-in-Assign.new.nodes c.expr-in-Assign.new.nodes (put c.args.setting.now.number r c.args.nodes.now) _ c.in_err-value-in-Assign.ensures.gives (assign_none cx sc c.args.setting.now.number c.args.setting.now.depth c.in-Assign.span r (spec.expr_of cx sc c.args.setting.now.depth l) l c.args.nodes.now known))
+
+pub expr-returns-in_ok-value-in-Assign-clause-gives : goal.expr-returns-in_ok-value-in-Assign-clause-gives
+expr-returns-in_ok-value-in-Assign-clause-gives t c =
+    let m = c.args.setting.now.number in
+    let d = c.args.setting.now.depth in
+    let cx = c.args.setting.now.context.now in
+    let l = c.deref-in-Assign-3.result.now in
+    let r = spec.expr_of cx c.args.scope.now d (expr_view c.deref-in-Assign-2.result.now) in
+    let left = c.deref-in-Assign.ensures ∙ sym c.deref-in-Assign-3.ensures in
+    let same = c.as_slice-in-Assign.ensures ∙ sym c.in_ok-value-in-Assign.ensures.scope in
+    let means = c.target_of-target.ensures ∙ ap (λ z. target_meaning cx z (expr_view c.deref-in-Assign.result.now)) same ∙ ap (λ z. target_meaning cx c.expr-in-Assign.new.scope (expr_view z)) left in
+    let known : misses cx c.expr-in-Assign.new.scope (expr_view l) ≡ false = ap none_named (sym means) ∙ sym c.is_missing.ensures ∙ c.if-is_missing.false in
+    let gave = c.store.ensures.gives r c.args.nodes.now means known c.in_ok-value-in-Assign.ensures.gives in
+    rw (c.in-Assign.is, view_assign c.in-Assign.left c.in-Assign.right c.in-Assign.span, sym c.deref-in-Assign-3.ensures, sym c.deref-in-Assign-2.ensures)
+    (subst (λ z. GivesNodes c.store.result c.store.new.nodes (put m (spec.assign_of cx z d c.in-Assign.span r (spec.expr_of cx z d (expr_view l)) (expr_view l)) c.args.nodes.now)) c.in_ok-value-in-Assign.ensures.scope gave)
+
+pub chain_origin-returns-in-Reads-clause-gives : goal.chain_origin-returns-in-Reads-clause-gives
+chain_origin-returns-in-Reads-clause-gives t c = λ reads.
+    let d = c.args.setting.now.depth in
+    let cx = c.args.setting.now.context.now in
+    let e = expr_view c.args.head.now in
+    let same : spec.expr_of cx c.args.scope.now d e ≡ reading_rose c.in-Reads.reading (tree.span_of e) d = subst (ReadsAtom cx c.args.scope.now e) c.in-Reads.is reads d in
+    let gave = subst (λ s. GivesNodes c.read_atom.result c.read_atom.new.nodes (put c.args.setting.now.number (reading_rose c.in-Reads.reading s d) c.args.nodes.now)) c.span_of.ensures c.read_atom.ensures in
+    rw (c.in-None.is, same) gave
 
 pub first_args-returns-in_err-children-in-OnThis-clause-gives : goal.first_args-returns-in_err-children-in-OnThis-clause-gives
 first_args-returns-in_err-children-in-OnThis-clause-gives t c =
@@ -594,7 +629,7 @@ pub block-returns-in_ok-last-in-If-clause-scope : goal.block-returns-in_ok-last-
 block-returns-in_ok-last-in-If-clause-scope t c = on_ok c.close_arms.result (c.in_ok-last-in-If.ensures.scope ∙ c.in_ok-waiting-in-If.ensures.scope)
 
 pub first_args-returns-in_ok-children-in-Made-clause-scope : goal.first_args-returns-in_ok-children-in-Made-clause-scope
-first_args-returns-in_ok-children-in-Made-clause-scope t c = on_ok c.push.result c.in_ok-children-in-Made.ensures.scope
+first_args-returns-in_ok-children-in-Made-clause-scope t c = on_ok c.several.result c.in_ok-children-in-Made.ensures.scope
 
 pub first_args-returns-in_ok-children-in-OnThis-clause-scope : goal.first_args-returns-in_ok-children-in-OnThis-clause-scope
 first_args-returns-in_ok-children-in-OnThis-clause-scope t c = on_ok c.call_this.result c.in_ok-children-in-OnThis.ensures.scope
@@ -681,7 +716,7 @@ open_arms-returns-clause-gives t c = λ last.
 
 pub first_args-returns-in_ok-children-in-Made-clause-gives : goal.first_args-returns-in_ok-children-in-Made-clause-gives
 first_args-returns-in_ok-children-in-Made-clause-gives t c =
-    let gave = subst (λ s. GivesNodes c.push.result c.push.new.nodes (push c.args.setting.now.number c.in-Made.kind s c.args.setting.now.depth c.in_ok-children-in-Made.children c.exprs.new.nodes)) c.join-in-Made.ensures c.push.ensures in
+    let gave = subst (λ s. GivesNodes c.several.result c.several.new.nodes (push c.args.setting.now.number c.in-Made.kind s c.args.setting.now.depth c.in_ok-children-in-Made.children c.exprs.new.nodes)) c.join-in-Made.ensures c.several.ensures in
     rw (c.in-Made.is, c.in-Args.is, view_args c.in-Args.args c.in-Args.end, sym c.as_slice.ensures, c.in_ok-children-in-Made.ensures.gives) gave
 
 pub first_args-returns-in_err-children-in-Made-clause-gives : goal.first_args-returns-in_err-children-in-Made-clause-gives
