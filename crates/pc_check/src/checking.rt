@@ -1,5 +1,5 @@
 //! The walk through the nodes.
-ghost use Rattle.std.specs.Prelude.{◌≡◌, Some, Ok, Err, IfOk, IfErr};
+ghost use Rattle.std.specs.Prelude.{◌≡◌, [], Some, Ok, Err, IfOk, IfErr};
 ghost use Rattle.pc_ann.specs.declared.annotation.Ann.{Ann};
 ghost use Rattle.pc_sub.specs.declared.faults.DeclFault.{DeclFault};
 ghost use Rattle.pc_sub.specs.Declarations.{DeclOk, first_fault};
@@ -13,21 +13,29 @@ use crate::fault::CheckFault;
 use crate::inference::{infer_note, leaves_unset, masks_from};
 use crate::slots::{first_types, infer_slot};
 use crate::sources::{Source, source_at, sources};
-use pc_ann::Ann;
+use pc_ann::{Ann, Note};
 use pc_caps::List;
 use pc_core::Core;
 use pc_rules::one_annotation_is_valid;
 use pc_sub::declarations;
 use std::alloc::{AllocError, Global};
 
+// No notes yet, with room for as many as there are nodes.
+fn no_notes(alloc: Global, core: &Core) -> Result<List<Note>, AllocError>
+    ensures { IfOk result (λ notes. notes ≡ []) }
+{
+    Ok(List::from_vec(Vec::with_capacity(alloc, core.nodes().len())?))
+}
+
 // The annotation before the first node.
 fn nothing_noted(alloc: Global, core: &Core) -> Result<Ann, AllocError>
     ensures { IfOk result (λ ann. Walked core.now ann 0) }
 {
     let slots = first_types(alloc, core)?;
+    let notes = no_notes(alloc, core)?;
     Ok(Ann {
         slots: List::from_vec(slots),
-        notes: List::new(alloc),
+        notes,
     })
 }
 

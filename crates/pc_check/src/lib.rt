@@ -4,6 +4,8 @@
 //! node to which no rule applies with the masks that reach it, or a constructor that leaves a field unset, each with
 //! notes that prove it. If one of these is returned no annotation is valid, and a core has at most one of them
 //! (`faults_are_one`). The notes before a node are the same in any two annotations that reach it (`prefixes_agree`).
+//!
+//! How the code is to be read is in `CONTRIBUTING.md` (How to read the code).
 #![tactic(auto)]
 
 mod checking;

@@ -6,6 +6,8 @@
 //! 31 rules and in both directions (`conditions_are_the_rule`, `conditions_are_the_record`). If no rule applies, each
 //! that is considered fails by one condition (`each_rule_fails`), one is considered (`there_is_a_reason`), and the
 //! node, the masks and the reasons are the same whichever notes lead to them (`one_explanation`).
+//!
+//! How the code is to be read is in `CONTRIBUTING.md` (How to read the code).
 #![tactic(auto)]
 
 mod asking;

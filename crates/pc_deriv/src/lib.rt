@@ -7,6 +7,8 @@
 //! those of the annotation read, with each node's own masks in both versions, and its first fault is that of `read`.
 //!
 //! Not proved: running times. Tests use the example's text, its cuts and variants, and measure no time.
+//!
+//! How the code is to be read is in `CONTRIBUTING.md` (How to read the code).
 #![tactic(auto)]
 
 mod fault;

@@ -52,6 +52,7 @@ pub fn push_decimal(out: &mut Vec<u8>, number: u32) -> Result<(), AllocError>
 
 /// Appends the digits of a number, in decimal.
 #[tactic(auto, using(crate::proofs::LastDigits::no_digit, crate::proofs::LastDigits::decimal_room, crate::proofs::LastDigits::decimal_put))]
+#[inline(never)]
 fn push_decimals(out: &mut Vec<u8>, number: u32) -> Result<(), AllocError>
     ensures { OnOk result (out.new.items ≡ out.old.items ++ decimal number) }
 {
@@ -80,6 +81,7 @@ pub fn push_hex(out: &mut Vec<u8>, number: u64) -> Result<(), AllocError>
 
 /// Appends the digits of a number, in hexadecimal.
 #[tactic(auto, using(crate::proofs::LastDigits::no_digit, crate::proofs::LastDigits::hex_room, crate::proofs::LastDigits::hex_put))]
+#[inline(never)]
 fn push_hexes(out: &mut Vec<u8>, number: u64) -> Result<(), AllocError>
     ensures { OnOk result (out.new.items ≡ out.old.items ++ digits 16 false number) }
 {

@@ -92,7 +92,8 @@ fn push_masks(out: &mut Vec<u8>, version: Version, note: &Note) -> Result<(), Al
 
 /// Whether two nodes have the same masks.
 fn has_masks_of(note: &Note, other: &Note) -> bool
-    ensures { IsTrue result → (note.now.live_before ≡ other.now.live_before) × (note.now.set_before ≡ other.now.set_before) × (note.now.live_after ≡ other.now.live_after) × (note.now.set_after ≡ other.now.set_after) }
+    ensures { IsTrue result → (note.now.live_before ≡ other.now.live_before) × (note.now.set_before ≡ other.now.set_before)
+        × (note.now.live_after ≡ other.now.live_after) × (note.now.set_after ≡ other.now.set_after) }
 {
     note.live_before.0 == other.live_before.0
         && note.set_before.0 == other.set_before.0

@@ -5,6 +5,7 @@ use Rattle.std.proofs.lemmas.Bool.{eqb-true, eq-eqb, cases_lt, true≢false, bot
 use Rattle.std.proofs.lemmas.List.{length-take}
 use Rattle.std.proofs.Math.Seq.{take-add}
 use Rattle.pc_core.specs.CoreData.{CoreData}
+use Rattle.pc_deriv.specs.Limits.{derivation_limit}
 use Rattle.pc_deriv.specs.declared.line.LineFault.{LineFault}
 use Rattle.pc_judge.specs.declared.faults.JudgeFault.{JudgeFault}
 use Rattle.pc_referee.specs.Asked.{Pairs}
@@ -17,7 +18,7 @@ use Rattle.pc_feed.specs.Asked.{IsAsked, Grew}
 use Rattle.pc_feed.specs.Laws.{OneIsAsked}
 use Rattle.pc_feed.specs.Feeding.{Feeds, EndsSo}
 use Rattle.pc_feed.specs.Streams.{StreamData, IsFed}
-use Rattle.pc_feed.specs.Parts.{part_size, file_limit, AsksNodes, FileJudged, PartsRead, AllRead, PartFed, IsPartAt, Size, PartTaken, PartsEnd}
+use Rattle.pc_feed.specs.Parts.{part_size, AsksNodes, FileJudged, PartsRead, AllRead, PartFed, IsPartAt, Size, PartTaken, PartsEnd}
 
 -- ---- what the referee is asked about
 
@@ -51,32 +52,32 @@ part_stopped core told from bytes part before now taken new a b fault.Memory h =
 part_length : (from : ℕ) (t part : List ℕ) → part ≡ take part_size (drop from t) → length part ≡ min part_size (length t - from)
 part_length from t part e = ap (λ (x : List ℕ). length x) e ∙ length-take part_size (drop from t) ∙ ap (λ n. min part_size n) (length-drop from t)
 
-longer_by : (told : Option (List ℕ)) (part : List ℕ) → 0 < length part → IfSome told (λ t. part ≡ take part_size (drop file_limit t)) → IfSome told (λ t. file_limit < length t)
+longer_by : (told : Option (List ℕ)) (part : List ℕ) → 0 < length part → IfSome told (λ t. part ≡ take part_size (drop derivation_limit t)) → IfSome told (λ t. derivation_limit < length t)
 longer_by None part l h = tt
-longer_by (Some t) part l h = let e = part_length file_limit t part h in omega (arith, e, l)
+longer_by (Some t) part l h = let e = part_length derivation_limit t part h in omega (arith, e, l)
 
-pub too_long : (told : Option (List ℕ)) (from taken : ℕ) (part : List ℕ) → from ≡ file_limit → 0 < length part → IsPartAt told from part → taken ≡ length part
-    → (0 < taken) × IfSome told (λ t. file_limit < length t)
+pub too_long : (told : Option (List ℕ)) (from taken : ℕ) (part : List ℕ) → from ≡ derivation_limit → 0 < length part → IsPartAt told from part → taken ≡ length part
+    → (0 < taken) × IfSome told (λ t. derivation_limit < length t)
 too_long told from taken part e l h s = (omega (arith, s, l), longer_by told part l (subst (λ n. IfSome told (λ t. part ≡ take part_size (drop n t))) e h.1))
 
-pub not_past : (from : ℕ) (part : List ℕ) (past : Bool) → past ≡ false → ((from ≡ file_limit) × (0 < length part) → past ≡ true) → from ≡ file_limit → length part ≡ 0
+pub not_past : (from : ℕ) (part : List ℕ) (past : Bool) → past ≡ false → ((from ≡ derivation_limit) × (0 < length part) → past ≡ true) → from ≡ derivation_limit → length part ≡ 0
 not_past from part past e f at = elim (cases_lt 0 (length part)) [ inl l ↦ absurd (both_ways past e (f (at, l))) | inr l ↦ omega (arith, l) ]
 
 -- whether it is full
-size_by : (from n : ℕ) (part : List ℕ) (full : Bool) → nat_eq n part_size ≡ full → n ≡ length part → length part ≤ part_size → (from ≡ file_limit → length part ≡ 0) → from ≤ file_limit → Size from part full
+size_by : (from n : ℕ) (part : List ℕ) (full : Bool) → nat_eq n part_size ≡ full → n ≡ length part → length part ≤ part_size → (from ≡ derivation_limit → length part ≡ 0) → from ≤ derivation_limit → Size from part full
 size_by from n part true e s l none m =
     let all : n ≡ part_size = eqb-true n part_size e in
     let size : length part ≡ part_size = sym s ∙ all in
     (size, below size)
   where
-    below : length part ≡ part_size → from < file_limit
-    below size = elim (cases_lt from file_limit) [ inl k ↦ k | inr k ↦ let at : from ≡ file_limit = omega (arith, k, m) in let empty = none at in absurd (omega (arith, empty, size)) ]
+    below : length part ≡ part_size → from < derivation_limit
+    below size = elim (cases_lt from derivation_limit) [ inl k ↦ k | inr k ↦ let at : from ≡ derivation_limit = omega (arith, k, m) in let empty = none at in absurd (omega (arith, empty, size)) ]
 size_by from n part false e s l none m = elim (cases_lt (length part) part_size) [
   | inl k ↦ (k, none)
   | inr k ↦ let all : n ≡ part_size = omega (arith, s, l, k) in absurd (true≢false (sym (eq-eqb n part_size all) ∙ e))
 ]
 
-pub size_of : (from n : ℕ) (part : List ℕ) → n ≡ length part → length part ≤ part_size → (from ≡ file_limit → length part ≡ 0) → from ≤ file_limit → Size from part (nat_eq n part_size)
+pub size_of : (from n : ℕ) (part : List ℕ) → n ≡ length part → length part ≤ part_size → (from ≡ derivation_limit → length part ≡ 0) → from ≤ derivation_limit → Size from part (nat_eq n part_size)
 size_of from n part s l none m = size_by from n part (nat_eq n part_size) refl s l none m
 
 -- ---- all parts
@@ -99,7 +100,7 @@ whole_by (Some t) from bytes part l k h = let e = part_length from t part k in h
 pub record Fulls (core : CoreData) (told : Option (List ℕ)) (from : ℕ) (stream : StreamData) (a b : Option Pairs) : Type 0 where
   pub count : ℕ
   pub place : from ≡ count * part_size
-  pub within : from ≤ file_limit
+  pub within : from ≤ derivation_limit
   pub read : PartsRead core told from stream a b
 
 front_none : (told : Option (List ℕ)) → IfSome told (λ t. [] ≡ take 0 t)
@@ -153,9 +154,9 @@ module _ (core : CoreData) (told : Option (List ℕ)) (from : ℕ) (s : StreamDa
       let part = h.2.0 in
       let place = so.place in
       let within = so.within in
-      let few : length (so.read.bytes ++ h.0) ≤ file_limit = elim (cases_lt from file_limit) [
+      let few : length (so.read.bytes ++ h.0) ≤ derivation_limit = elim (cases_lt from derivation_limit) [
         | inl m ↦ omega (arith, both, size, part, place, m)
-        | inr m ↦ let at : from ≡ file_limit = omega (arith, within, m) in let empty = h.2.1 at in omega (arith, both, size, at, empty)
+        | inr m ↦ let at : from ≡ derivation_limit = omega (arith, within, m) in let empty = h.2.1 at in omega (arith, both, size, at, empty)
       ] in
       record {
         bytes = so.read.bytes ++ h.0;

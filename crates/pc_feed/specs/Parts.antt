@@ -2,6 +2,7 @@
 use Rattle.std.specs.Prelude.{◌≡◌, ℕ, ◌<◌, ◌≤◌, Bool, true, false, List, ◌++◌, length, take, drop, Option, Some, None, IfSome, Result, Ok, Err}
 use Rattle.pc_core.specs.CoreData.{CoreData}
 use Rattle.pc_ann.specs.declared.annotation.Ann.{Ann}
+use Rattle.pc_deriv.specs.Limits.{derivation_limit}
 use Rattle.pc_valid.specs.Valid.{Valid}
 use Rattle.pc_deriv.specs.Faults.{IsText, IsFault}
 use Rattle.pc_deriv.specs.Laws.{as_read}
@@ -13,12 +14,9 @@ use Rattle.pc_feed.specs.Lines.{lines_in}
 use Rattle.pc_feed.specs.Asked.{IsAsked}
 use Rattle.pc_feed.specs.Streams.{StreamData, IsFed}
 
--- how many bytes a part has, and how many a derivation may have
+-- how many bytes a part has
 abbrev pub part_size : ℕ
 part_size = 65536
-
-abbrev pub file_limit : ℕ
-file_limit = 33554432
 
 -- A referee's list, if it is known, grew by the nodes that are found right in the text of these bytes.
 abbrev pub AsksNodes : CoreData → List ℕ → Option Pairs → Option Pairs → Type 0
@@ -27,7 +25,7 @@ AsksNodes core bytes (Some pairs) after = (more : Pairs) × IsAsked core (lines_
 
 -- The whole file was read: these are all its bytes, if they are known, and not more than a derivation may have.
 pub record ReadWhole (told : Option (List ℕ)) (bytes : List ℕ) : Type 0 where
-  pub within : length bytes ≤ file_limit
+  pub within : length bytes ≤ derivation_limit
   pub all : IfSome told (λ t. bytes ≡ t)
 
 -- How judging a file ended, depending on what is known of the file, on how often reading it had failed before and after
@@ -41,7 +39,7 @@ FileJudged core told before now taken old new (Err (fault.Invalid f)) =
 -- Its faults rose.
 FileJudged core told before now taken old new (Err fault.Failed) = before < now
 -- The part after the greatest number of bytes of a derivation is not empty.
-FileJudged core told before now taken old new (Err fault.TooLong) = (0 < taken) × IfSome told (λ t. file_limit < length t)
+FileJudged core told before now taken old new (Err fault.TooLong) = (0 < taken) × IfSome told (λ t. derivation_limit < length t)
 FileJudged core told before now taken old new (Err fault.Memory) = Unit {0}
 
 -- ---- the parts
@@ -84,14 +82,14 @@ NoPart before now fault.Memory = Unit {0}
 
 -- A full part, or the last one.
 abbrev pub Size : (from : ℕ) → List ℕ → Bool → Type 0
-Size from part true = (length part ≡ part_size) × (from < file_limit)
-Size from part false = (length part < part_size) × (from ≡ file_limit → length part ≡ 0)
+Size from part true = (length part ≡ part_size) × (from < derivation_limit)
+Size from part false = (length part < part_size) × (from ≡ derivation_limit → length part ≡ 0)
 
 -- A part was read and fed after these bytes.
 abbrev pub PartTaken : CoreData → Option (List ℕ) → (from : ℕ) → List ℕ → (before now taken : ℕ) → StreamData → Option Pairs → Option Pairs → Result Bool DerivationFault → Type 0
 PartTaken core told from bytes before now taken new old after (Ok full) = (part : List ℕ) × IsPartAt told from part × Size from part full × PartFed core bytes part new old after (Ok tt)
 PartTaken core told from bytes before now taken new old after (Err fault.Failed) = before < now
-PartTaken core told from bytes before now taken new old after (Err fault.TooLong) = (0 < taken) × IfSome told (λ t. file_limit < length t)
+PartTaken core told from bytes before now taken new old after (Err fault.TooLong) = (0 < taken) × IfSome told (λ t. derivation_limit < length t)
 PartTaken core told from bytes before now taken new old after (Err (fault.Text f)) = ⊥
 PartTaken core told from bytes before now taken new old after (Err (fault.Invalid f)) = ⊥
 PartTaken core told from bytes before now taken new old after (Err fault.Memory) = Unit {0}
@@ -100,7 +98,7 @@ PartTaken core told from bytes before now taken new old after (Err fault.Memory)
 abbrev pub PartsEnd : CoreData → Option (List ℕ) → (before now taken : ℕ) → StreamData → Option Pairs → Option Pairs → Result (Unit {0}) DerivationFault → Type 0
 PartsEnd core told before now taken new old after (Ok _) = AllRead core told new old after
 PartsEnd core told before now taken new old after (Err fault.Failed) = before < now
-PartsEnd core told before now taken new old after (Err fault.TooLong) = (0 < taken) × IfSome told (λ t. file_limit < length t)
+PartsEnd core told before now taken new old after (Err fault.TooLong) = (0 < taken) × IfSome told (λ t. derivation_limit < length t)
 PartsEnd core told before now taken new old after (Err (fault.Text f)) = ⊥
 PartsEnd core told before now taken new old after (Err (fault.Invalid f)) = ⊥
 PartsEnd core told before now taken new old after (Err fault.Memory) = Unit {0}

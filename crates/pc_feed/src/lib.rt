@@ -8,6 +8,8 @@
 //! with a file, of which it holds one part at a time. A node's children are the last of the nodes without a parent, and
 //! a body's are the only ones (`children_wait_last`); the notes of these nodes determine, whatever notes follow,
 //! whether the next node satisfies its rule (`waiting_notes_tell`). So a judge needs to keep no other notes.
+//!
+//! How the code is to be read is in `CONTRIBUTING.md` (How to read the code).
 #![tactic(auto)]
 
 mod fault;
@@ -22,5 +24,5 @@ pub use fault::StreamFault;
 pub use laws::{
     children_wait_last, one_end, one_list_is_asked, valid_asks_all, waiting_notes_tell,
 };
-pub use parts::{DerivationFault, judge_file};
+pub use parts::{DERIVATION_LIMIT, DerivationFault, judge_file};
 pub use stream::Stream;

@@ -1,7 +1,8 @@
 //! A file that is judged in parts.
 ghost use Rattle.std.specs.Prelude.{◌≡◌, ◌≤◌, ◌<◌, ◌↔◌, ℕ, List as Sequence, [], length, IfOk, IfErr, IsTrue};
 ghost use Rattle.pc_core.specs.CoreData.{CoreData};
-ghost use Rattle.pc_feed.specs.Parts.{FileJudged, IsPartAt, NoPart, PartFed, PartTaken, PartsEnd, file_limit};
+ghost use Rattle.pc_deriv.specs.Limits.{derivation_limit};
+ghost use Rattle.pc_feed.specs.Parts.{FileJudged, IsPartAt, NoPart, PartFed, PartTaken, PartsEnd};
 ghost use Rattle.pc_feed.specs.Streams.{IsFed};
 
 use crate::fault::StreamFault;
@@ -18,7 +19,7 @@ use std::alloc::Global;
 const PART_SIZE: u32 = 65_536;
 
 /// How many bytes a derivation may have.
-const FILE_LIMIT: u32 = 33_554_432;
+pub const DERIVATION_LIMIT: u32 = 33_554_432;
 
 /// Why the derivation in a file is refused.
 #[derive(Clone, Copy, Debug, PartialEq, Eq)]
@@ -75,9 +76,9 @@ fn read_part<F: Files>(
 
 // Whether bytes from this place on are more than a derivation may have.
 fn is_past(from: u32, part: &[u8]) -> bool
-    ensures { IsTrue result ↔ ((from ≡ file_limit) × (0 < length part.now)) }
+    ensures { IsTrue result ↔ ((from ≡ derivation_limit) × (0 < length part.now)) }
 {
-    from == FILE_LIMIT && !part.is_empty()
+    from == DERIVATION_LIMIT && !part.is_empty()
 }
 
 // Reads the part from one place on, and feeds it. Returns whether the part is full.
@@ -89,7 +90,7 @@ fn take_part<F: Files, R: Referee>(
     stream: &mut Stream<'_>,
     referee: &mut R,
 ) -> Result<bool, DerivationFault>
-    requires place { from ≤ file_limit }
+    requires place { from ≤ derivation_limit }
     requires fed { (bytes : Sequence ℕ) × IsFed stream.old.core bytes stream.old }
     ensures later { (n : Sequence ℕ) → F.faults files.old n ≤ F.faults files.new n }
     ensures same { (n : Sequence ℕ) → F.bytes files.new n ≡ F.bytes files.old n }

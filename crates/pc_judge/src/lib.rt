@@ -2,6 +2,8 @@
 //!
 //! Proved: `judge` is Ok iff an annotation is valid for a core, and otherwise returns exactly the first fault; it does
 //! not allocate. There is at most one first fault, and none if the annotation is valid.
+//!
+//! How the code is to be read is in `CONTRIBUTING.md` (How to read the code).
 #![tactic(auto)]
 
 mod examples;

@@ -3,6 +3,8 @@
 //!
 //! Proved: each referee answers as the rules say; `Rules` does not allocate and keeps nothing; `ListReferee` keeps the
 //! number and the note of each node that it found right, in order, and nothing else.
+//!
+//! How the code is to be read is in `CONTRIBUTING.md` (How to read the code).
 #![tactic(auto)]
 
 mod list_referee;

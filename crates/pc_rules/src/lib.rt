@@ -6,6 +6,8 @@
 //! that none is valid (`same_have_no_rule`, `same_are_unset`). A rule and the masks before a node determine what is said
 //! of it (`rules_determine`); what consuming, defining and the end of a sequence do to the masks; at most one annotation of
 //! a core is valid (`one_annotation_is_valid`). A small program meets its rules, and wrong notes of it meet none.
+//!
+//! How the code is to be read is in `CONTRIBUTING.md` (How to read the code).
 #![tactic(auto)]
 
 mod calls;

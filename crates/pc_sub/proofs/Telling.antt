@@ -80,12 +80,13 @@ kept_same R S other old new to from k = record {
 -- ---- what the sets tell
 
 module _ (core : CoreData) (g : Groups) where
-  pub tells_none : (sets : List (List Mask)) → Each (λ b set. (e : ℕ) → e < length core.entities → Holds set e) sets → TellsGroups core g 0 sets
-  tells_none sets all = record { tells = λ b set at abstract e low. (λ h. λ k t es l is has. absurd (omega (arith, l)), λ h. all b set at e low) }
+  pub tells_none : (sets : List (List Mask)) → length sets ≡ length core.entities → Each (λ b set. (e : ℕ) → e < length core.entities → Holds set e) sets → TellsGroups core g 0 sets
+  tells_none sets long all = record { long = long; tells = λ b set at abstract e low. (λ h. λ k t es l is has. absurd (omega (arith, l)), λ h. all b set at e low) }
 
   -- A group without traits and interfaces says nothing about them.
   pub tells_skip : (n : ℕ) (sets : List (List Mask)) → ((b : ℕ) (t : Method) (es : List ℕ) → IsGroup core g n t es → Has es b → IsAbstract core b → ⊥) → TellsGroups core g n sets → TellsGroups core g (n + 1) sets
   tells_skip n sets never before = record {
+    long = before.long;
     tells = λ b set at abstract e low.
         let k = before.tells b set at abstract e low in (
           λ h. λ j t es l is has. elim (split j n l) [
@@ -98,6 +99,7 @@ module _ (core : CoreData) (g : Groups) where
 
   pub tells_next : (n : ℕ) (t : Method) (es : List ℕ) (other : List Mask) (old new : List (List Mask)) → IsGroup core g n t es → IsSetOf core (λ e. HasFor core e t) other → Kept (λ b. Has es b) other old new → TellsGroups core g n old → TellsGroups core g (n + 1) new
   tells_next n t es other old new group has_for kept before = record {
+    long = kept.long ∙ before.long;
     tells = λ b set at abstract e low.
         let was = kept.each b set at in
         let k = before.tells b was.0 was.1 abstract e low in (
@@ -139,6 +141,7 @@ module _ (core : CoreData) (g : Groups) where
 
     pub tells_all : (n : ℕ) (sets : List (List Mask)) → length g.firsts ≤ n → TellsGroups core g n sets → TellsConforming core sets
     tells_all n sets all before = record {
+      long = before.long;
       tells = λ b set at abstract e low.
           let k = before.tells b set at abstract e low in
           (λ h. groups_conform n b e all (k.0 h), λ h. k.1 (conforms_groups n b e h));

@@ -19,6 +19,7 @@ pub record Kept (R : ℕ → Type 0) (other : List Mask) (old new : List (List M
 abbrev pub HasForGroups : CoreData → Groups → ℕ → (above entity : ℕ) → Type 0
 HasForGroups core g n b e = (k : ℕ) (t : Method) (es : List ℕ) → k < n → IsGroup core g k t es → Has es b → HasFor core e t
 
--- The sets contain exactly these for each trait and interface.
+-- There is a set for each entity, and those of the traits and interfaces tell so.
 pub record TellsGroups (core : CoreData) (g : Groups) (n : ℕ) (sets : List (List Mask)) : Type 0 where
+  pub long : length sets ≡ length core.entities
   pub tells : Each (λ b set. IsAbstract core b → IsSetOf core (HasForGroups core g n b) set) sets

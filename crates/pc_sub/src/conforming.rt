@@ -8,10 +8,9 @@ use crate::faults::DeclFault;
 use crate::stands::stands_for;
 use pc_core::{Core, EntityDef, Method};
 
-/// Whether an entity conforms to the trait or interface `above`: for each method there it has one of the same name and
-/// kind that may be called in its place, where entities are compared by chains of `is` alone. Every entity conforms if
-/// `above` has no methods. Does not allocate, and with the core's tables (`tabulate`) takes a time that does not grow
-/// with the core.
+/// Whether an entity conforms to the trait or interface `above`: for each method there it has one of the same name and kind
+/// that may be called in its place, where entities are compared by chains of `is` alone. It is true of every entity if
+/// `above` has no methods. Takes no memory. If the core has its tables (`tabulate`), it is one look-up.
 pub fn conforms(core: &Core, entity: u32, above: u32) -> bool
     ensures methods { IsTrue result ↔ Conforms core.now entity above }
     ensures value { result ≡ spec.conforms core.now entity above }

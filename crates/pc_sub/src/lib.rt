@@ -4,6 +4,8 @@
 //! entity has. `conforms` says whether it has them. `declarations` is Ok iff the declarations fit, and otherwise names
 //! the first that does not. `tabulate` gives a core its tables, and `is_sub`, `conforms` and `declarations` return the
 //! same with them as without; how long they take is not proved.
+//!
+//! How the code is to be read is in `CONTRIBUTING.md` (How to read the code).
 #![tactic(auto)]
 
 mod alike;

@@ -27,7 +27,8 @@ fn any_abstract(core: &Core, entities: &[u32]) -> bool
 
 // For each entity the set of all.
 fn all_sets(alloc: Global, count: usize) -> Result<List<EntitySet>, AllocError>
-    ensures { IfOk result (Each (λ b set. (e : ℕ) → e < count → Holds set e)) }
+    ensures long { IfOk result (λ sets. length sets ≡ count) }
+    ensures all { IfOk result (Each (λ b set. (e : ℕ) → e < count → Holds set e)) }
 {
     let mut sets = List::new(alloc);
     for _ in 0..count {

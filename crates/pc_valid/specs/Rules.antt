@@ -151,7 +151,7 @@ pub record PutOwn (core : CoreData) (own : Note) (notes : List Note) (node : Nod
 
 -- ---- calls
 
--- A constructor of a class or a primitive.
+-- A constructor of a class.
 pub record New (core : CoreData) (own : Note) (notes : List Note) (number : ℕ) : Type 0 where
   pub called : Method
   pub is_called : slice_get core.methods number ≡ Some called

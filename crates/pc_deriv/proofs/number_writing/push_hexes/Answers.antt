@@ -19,5 +19,8 @@ digits-preserved c =
 
 pub returns : goal.returns
 returns c =
-    subst (λ l. OnOk c.push_row.result (c.push_row.new.out.items ≡ c.args.out.now.items ++ l))
-    (ap₂ (λ d l. d ∷ l) c.hex_glyph-2.ensures (rest_all c.digits.last 16 c.digits.at c.digits.invariant.1) ∙ hex_whole c.args.number c.digits.front c.digits.at c.digits.last (omega (arith, c.digits-test.false)) c.digits.invariant.3) c.push_row.ensures
+    let at = c.digits.at in
+    let last = c.digits.last in
+    let whole = hex_whole c.args.number c.digits.front at last (omega (arith, c.digits-test.false)) c.digits.invariant.3 in
+    let same = ap₂ (λ d l. d ∷ l) c.hex_glyph-2.ensures (rest_all last 16 at c.digits.invariant.1) ∙ whole in
+    subst (λ l. OnOk c.push_row.result (c.push_row.new.out.items ≡ c.args.out.now.items ++ l)) same c.push_row.ensures

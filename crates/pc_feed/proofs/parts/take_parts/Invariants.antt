@@ -1,5 +1,5 @@
 use Rattle.std.proofs.Common.{◌≡◌, ℕ, ◌+◌, ◌-◌, ◌≤◌, List}
-use Rattle.pc_feed.specs.Parts.{file_limit}
+use Rattle.pc_deriv.specs.Limits.{derivation_limit}
 use Rattle.pc_feed.proofs.FileParts.{Fulls}
 use Rattle.pc_feed.proofs.parts.take_parts.Given as goal
 
@@ -11,4 +11,4 @@ invariant-parts g l = record {
 }
 
 abbrev pub decreases-parts : goal.decreases-parts
-decreases-parts g l = file_limit + 1 - l.from
+decreases-parts g l = derivation_limit + 1 - l.from

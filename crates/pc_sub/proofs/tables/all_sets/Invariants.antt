@@ -1,7 +1,10 @@
-use Rattle.std.proofs.Common.{ℕ, ◌<◌}
+use Rattle.std.proofs.Common.{◌≡◌, ℕ, ◌<◌, length}
 use Rattle.pc_lists.specs.Places.{Each}
 use Rattle.pc_core.specs.EntitySets.{Holds}
 use Rattle.pc_sub.proofs.tables.all_sets.Given as goal
 
 abbrev pub invariant-loop : goal.invariant-loop
-invariant-loop l = Each (λ b set. (e : ℕ) → e < l.count → Holds set e) l.sets
+invariant-loop l = record {
+  long : length l.sets ≡ l.counter;
+  all : Each (λ b set. (e : ℕ) → e < l.count → Holds set e) l.sets;
+}
