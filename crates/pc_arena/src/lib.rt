@@ -11,6 +11,8 @@
 //!
 //! Neither proved nor tested: that a block goes back to the allocator when its row is no longer needed (in the logic,
 //! what is owned may be forgotten).
+//!
+//! How the code is to be read is in `CONTRIBUTING.md` (How to read the code).
 #![tactic(auto)]
 
 mod arena;

@@ -7,6 +7,8 @@
 //! `able_stay`, `few_change`), and how long an actor waits under seed 0 (`round_robin_is_fair`).
 //!
 //! Not proved: time. No test measures it.
+//!
+//! How the code is to be read is in `CONTRIBUTING.md` (How to read the code).
 #![tactic(auto)]
 
 mod able;

@@ -18,6 +18,8 @@
 //! - `Lists`, `Maps` and `Pass`: two changes commute;
 //! - `Reach`: where objects are in every configuration that a run leads to;
 //! - `OnlyAccesses`: what a step leaves unchanged in the objects.
+//!
+//! How the code is to be read is in `CONTRIBUTING.md` (How to read the code).
 #![tactic(auto)]
 
 mod laws;

@@ -9,6 +9,8 @@
 //!
 //! Neither proved nor tested: that a joined text shares its bytes with the two texts, how many pieces it has, and that
 //! memory goes back to the allocator.
+//!
+//! How the code is to be read is in `CONTRIBUTING.md` (How to read the code).
 #![tactic(auto)]
 
 mod entry;

@@ -1,5 +1,4 @@
--- When waiting messages are isolated in depth: it is not only their arguments that are let alone, but also the objects
--- that fields lead to from there.
+-- When waiting messages are isolated in depth: let alone are their arguments, and what fields lead to from there.
 use Rattle.std.specs.Prelude.{◌≡◌, ◌≢◌, ◌⊎◌, ℕ, Bool, true, false, Option, Some, slice_get}
 use Rattle.pc_heap.specs.Objects.{ObjectMap, class_at, value_at}
 use Rattle.pc_heap.specs.declared.value.Address.{Address}
@@ -28,33 +27,26 @@ pub record FieldLeads (core : CoreData) (objects : ObjectMap) (q : Cap) (a b : A
   pub declared : field_cap core objects a place ≡ Some q
   pub holds : value_at objects a place ≡ Some (At b)
 
--- Fields of allowed capabilities lead, one after another, from the object at a to the one at b; an object reaches
--- itself without any.
+-- Fields of allowed capabilities lead, one after another, from the object at a to the one at b, which may be a itself.
 pub data FieldsReach (core : CoreData) (objects : ObjectMap) (allowed : Cap → Bool) (a : Address) : Address → Type 0 where
   itself : {b : Address} → b ≡ a → FieldsReach core objects allowed a b
   further : {b : Address} → (o : Address) (q : Cap) → FieldsReach core objects allowed a o → allowed q ≡ true → FieldLeads core objects q o b → FieldsReach core objects allowed a b
 
--- A field keeps its contents with its object if it is declared `iso`, `trn` or `ref`. The columns are iso, trn, ref,
--- val, box and tag.
+-- Fields that keep their contents with their object, and fields that show them to be read: all but `tag`. The columns
+-- are iso, trn, ref, val, box and tag.
 abbrev pub keeps : Cap → Bool
 keeps = at true true true false false false
 
--- A field shows its contents, which may be read through it, unless it is declared `tag`.
 abbrev pub shows : Cap → Bool
 shows = at true true true true true false
 
 -- The k-th message that waits for actor j.
 abbrev pub waiting_at : Configuration → (j k : ℕ) → Option Message
-waiting_at c j k = do
-  actor ← slice_get c.actors j
-  slice_get actor.mailbox k
+waiting_at c j k = slice_get c.actors j >>= λ actor. slice_get actor.mailbox k
 
 -- The capability with which the n-th parameter of a message's method is declared.
 abbrev pub parameter_cap : CoreData → Message → ℕ → Option Cap
-parameter_cap core message n = do
-  method ← slice_get core.methods message.method
-  parameter ← slice_get method.params n
-  Some parameter.cap
+parameter_cap core message n = slice_get core.methods message.method >>= λ method. slice_get method.params n >>= λ parameter. Some parameter.cap
 
 -- The n-th argument of that message is the object at a, and its parameter is declared with capability q.
 pub record Waits (core : CoreData) (c : Configuration) (j k n : ℕ) (q : Cap) (a : Address) : Type 0 where
@@ -71,15 +63,11 @@ Inside core c j k n b = (a : Address) × Waits core c j k n cap.Iso a × FieldsR
 abbrev pub SeenFrom : CoreData → Configuration → (j k n : ℕ) → Address → Type 0
 SeenFrom core c j k n b = (a : Address) × (Waits core c j k n cap.Iso a ⊎ Waits core c j k n cap.Val a) × FieldsReach core c.objects shows a b
 
--- Waiting messages are isolated in depth.
+-- No actor's next step touches what is inside a waiting argument, or what leads there by fields that show their
+-- contents; none writes what is seen from one; what is inside an argument is neither inside another nor seen from it.
 pub record Isolated (core : CoreData) (c : Configuration) : Type 0 where
-  -- No actor's next step touches what is inside a waiting argument,
   pub untouched : (j k n : ℕ) (b : Address) → Inside core c j k n b → (i : ℕ) (x : Access) → access core c i ≡ Some x → x.address ≢ b
-  -- or an object from which fields that show their contents lead there;
   pub unreached : (j k n : ℕ) (b : Address) → Inside core c j k n b → (i : ℕ) (x : Access) → access core c i ≡ Some x → FieldsReach core c.objects shows x.address b → ⊥
-  -- none writes what is seen from a waiting argument;
   pub unwritten : (j k n : ℕ) (b : Address) → SeenFrom core c j k n b → (i : ℕ) (x : Access) → access core c i ≡ Some x → x.write ≡ true → x.address ≢ b
-  -- no object is inside two waiting arguments: they are the same actor, message and parameter;
   pub apart : (j k n g l m : ℕ) (b : Address) → Inside core c j k n b → Inside core c g l m b → (j ≡ g) × (k ≡ l) × (n ≡ m)
-  -- and what is inside one argument is seen from no other.
   pub unseen : (j k n g l m : ℕ) (b : Address) → Inside core c j k n b → SeenFrom core c g l m b → (j ≡ g) × (k ≡ l) × (n ≡ m)

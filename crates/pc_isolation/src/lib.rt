@@ -1,7 +1,8 @@
 //! Isolation in depth: what fields lead to from a waiting argument is let alone too, and is passed as a whole.
 //!
 //! Proved, for every core with a valid annotation and over every list of actors; each public call does nothing, and its
-//! contract is a law of `specs/Laws.antt`, in terms of the machine alone:
+//! contract is a law of `specs/ValidLaws.antt` or `specs/Examples.antt`. What the laws conclude is in terms of the
+//! machine alone (`specs/Laws.antt`):
 //! - `valid_is_isolated`: no step touches what is inside a waiting `iso` argument, or an object that leads there; none
 //!   writes what is seen from a waiting `iso` or `val` argument; what is inside one argument is neither inside nor seen
 //!   from any other.
@@ -13,6 +14,8 @@
 //! place holds (`Mailed` for regions, `Fields` for chains of fields, `Arguments`, `Isolation`); and since nothing that
 //! is seen is written, and only accesses change fields (`pc_events`), a step leaves it unchanged (`Reaching`, `Steps`,
 //! `Takes`, `Passing`).
+//!
+//! How the code is to be read is in `CONTRIBUTING.md` (How to read the code).
 #![tactic(auto)]
 
 mod laws;

@@ -6,6 +6,8 @@
 //! the configuration, and do not allocate. If memory runs out, the configuration is unchanged.
 //!
 //! Not proved: time. A test takes a million steps, but does not measure time.
+//!
+//! How the code is to be read is in `CONTRIBUTING.md` (How to read the code).
 #![tactic(auto)]
 
 mod access;

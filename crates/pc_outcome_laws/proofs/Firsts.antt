@@ -3,39 +3,18 @@ use Rattle.std.proofs.Common.{◌≡◌, ◌⊎◌, ◌<◌, ◌≤◌, ◌+◌,
 use Rattle.std.specs.Prelude.{◌&&◌, ◌||◌, IsSomeAnd, slice_get}
 use Rattle.std.specs.List.{AllByRecursion, count_by, list_any}
 use Rattle.std.specs.Str.{bytes_eq}
-use Rattle.std.proofs.lemmas.Bool.{and_parts, cases_lt, false≢true}
+use Rattle.std.proofs.lemmas.Bool.{cases_lt, false≢true}
 use Rattle.std.proofs.lemmas.Option.{slice_get_within}
 use Rattle.std.proofs.lemmas.Slice.Eq.{bytes_eq-Decides}
 use Rattle.pc_outcomes.specs.declared.entry.Ending.{Ending}
-use Rattle.pc_outcomes.specs.declared.entry.Ending.TheVariants.{Done, Cut, TooLong}
 use Rattle.pc_outcomes.specs.declared.entry.Entry.{Entry}
 use Rattle.pc_outcomes.specs.declared.entry.Play.{Play}
 use Rattle.pc_outcomes.specs.Plays.{has_outcome, same_ending}
 use Rattle.pc_outcomes.specs.Tables.{AreEntries, Ascend, IsEntry, IsFirstPlay, shows_outcome}
+use Rattle.pc_outcomes.proofs.Grouping.{ending_self, outcome_is}
 use Rattle.pc_outcome_laws.proofs.Lists.{all_at, any_take, none_counted, some_at, there}
 
 -- ---- outcomes
-
-ending_is : (a b : Ending) → same_ending a b ≡ true → a ≡ b
-ending_is Done Done e = refl
-ending_is Cut Cut e = refl
-ending_is TooLong TooLong e = refl
-ending_is Done Cut e = absurd (false≢true e)
-ending_is Done TooLong e = absurd (false≢true e)
-ending_is Cut Done e = absurd (false≢true e)
-ending_is Cut TooLong e = absurd (false≢true e)
-ending_is TooLong Done e = absurd (false≢true e)
-ending_is TooLong Cut e = absurd (false≢true e)
-
-ending_self : (a : Ending) → same_ending a a ≡ true
-ending_self Done = refl
-ending_self Cut = refl
-ending_self TooLong = refl
-
-pub outcome_is : (t : List ℕ) (a : Ending) (p : Play) → has_outcome t a p ≡ true → (t ≡ p.text) × (a ≡ p.ending)
-outcome_is t a p h =
-    let both = and_parts (bytes_eq t p.text) (same_ending a p.ending) h in
-    ((bytes_eq-Decides t p.text).0 both.0, ending_is a p.ending both.1)
 
 pub has_own : (t : List ℕ) (a : Ending) (p : Play) → t ≡ p.text → a ≡ p.ending → has_outcome t a p ≡ true
 has_own t a p e f =

@@ -8,7 +8,8 @@ use Rattle.pc_outcomes.specs.declared.entry.Entry.{Entry}
 use Rattle.pc_outcomes.specs.declared.entry.Play.{Play}
 use Rattle.pc_outcomes.specs.Plays.{has_outcome}
 use Rattle.pc_outcomes.specs.Tables.{AreEntries, shows_outcome, total_steps, total_texts}
-use Rattle.pc_outcome_laws.proofs.Firsts.{entry_at, firsts, one_table, outcome_is}
+use Rattle.pc_outcomes.proofs.Grouping.{outcome_is}
+use Rattle.pc_outcome_laws.proofs.Firsts.{entry_at, firsts, one_table}
 use Rattle.pc_outcome_laws.proofs.Lists.{found}
 
 -- ---- steps

@@ -2,7 +2,7 @@
 use Rattle.std.proofs.Common.{◌≡◌, ◌<◌, ◌≤◌, ◌+◌, ℕ, zero, suc, Bool, true, false, cond, List, [], ◌∷◌, ◌++◌, length, take, Option, Some, None, refl, sym, ap, ap₂, ◌∙◌, subst, arith}
 use Rattle.std.specs.Prelude.{◌||◌, IfSome, IsSomeAnd, slice_get}
 use Rattle.std.specs.List.{AllByRecursion, count_by, list_any}
-use Rattle.std.proofs.lemmas.Bool.{false≢true}
+use Rattle.std.proofs.lemmas.Bool.{false≢true, or_right}
 use Rattle.std.proofs.lemmas.List.Sums.{sum_by-cons}
 use Rattle.std.proofs.lemmas.Option.{none-some, same_Some}
 
@@ -37,15 +37,11 @@ front {X} P one (x ∷ xs) (y ∷ ys) l a b =
 
 -- ---- tests
 
-any_or : (a b : Bool) → b ≡ true → (a || b) ≡ true
-any_or true b e = refl
-any_or false b e = e
-
 pub any_take : {X : Type 0} (f : X → Bool) (xs : List X) (n i : ℕ) (x : X) → i < n → slice_get xs i ≡ Some x → f x ≡ true → list_any f (take n xs) ≡ true
 any_take f [] n i x l e h = absurd (none-some x e)
 any_take f (y ∷ xs) zero i x l e h = absurd (omega (arith, l))
 any_take f (y ∷ xs) (suc n) zero x l e h = ap (λ (b : Bool). b || list_any f (take n xs)) (ap f (same_Some y x e) ∙ h)
-any_take f (y ∷ xs) (suc n) (suc i) x l e h = any_or (f y) (list_any f (take n xs)) (any_take f xs n i x (omega (arith, l)) e h)
+any_take f (y ∷ xs) (suc n) (suc i) x l e h = or_right (f y) (list_any f (take n xs)) (any_take f xs n i x (omega (arith, l)) e h)
 
 -- None passes, if none is counted.
 none_here : (b : Bool) (n : ℕ) (more : Bool) → (n ≡ 0 → more ≡ false) → cond b 1 0 + n ≡ 0 → (b || more) ≡ false

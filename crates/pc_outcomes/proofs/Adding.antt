@@ -1,22 +1,23 @@
 -- A play is added to a table in the making.
-use Rattle.std.proofs.Common.{◌≡◌, ◌^◌, ℕ, zero, suc, ◌+◌, ◌<◌, ◌≤◌, Bool, true, false, cond, not, nat_lt, List, [], ◌∷◌, ◌++◌, length, get_or, Option, Some, None, Err, refl, sym, ap, ◌∙◌, subst, arith, length-append}
+use Rattle.std.proofs.Common.{◌≡◌, ◌^◌, ℕ, zero, suc, ◌+◌, ◌<◌, ◌≤◌, Bool, true, false, cond, not, nat_lt, List, [], ◌∷◌, ◌++◌, length, get_or, Option, Some, None, Err, refl, sym, ap, ◌∙◌, subst, arith}
 use Rattle.std.specs.Prelude.{◌||◌, IfSome, slice_get, slice_set, position}
 use Rattle.std.specs.List.{list_any, position_or_len, AllByRecursion}
 use Rattle.std.proofs.lemmas.Bool.{ltb-false}
 use Rattle.std.proofs.lemmas.List.Folds.{list_any_at}
 use Rattle.std.proofs.lemmas.List.Quantifiers.{position-Some}
-use Rattle.std.proofs.lemmas.List.Sums.{sum_by_push, count_by-le-length}
+use Rattle.std.proofs.lemmas.List.Sums.{count_by-le-length}
 use Rattle.std.proofs.lemmas.Option.{get_or_from_slice_get, slice_get-get_or}
 use Rattle.pc_core.specs.CoreData.{CoreData}
 use Rattle.pc_outcomes.specs.declared.entry.Entry.{Entry}
 use Rattle.pc_outcomes.specs.declared.entry.Play.{Play}
 use Rattle.pc_outcomes.specs.declared.table.Totals.{Totals}
-use Rattle.pc_outcomes.specs.Plays.{ArePlays, IsPlayOfSeed}
+use Rattle.pc_outcomes.specs.Plays.{IsPlayOfSeed}
 use Rattle.pc_outcomes.specs.Tables.{AnswersTable, shows_outcome, IsEntry, StepsPass, TextsPass, steps_limit, texts_limit, total_steps}
 use Rattle.pc_outcomes.specs.declared.fault.OutcomesFault.{OutcomesFault}
 use Rattle.pc_outcomes.specs.declared.fault.OutcomesFault.TheVariants as fault
 use Rattle.pc_outcomes.specs.Under.{Under, AddsTo, one_more, entry_of}
-use Rattle.pc_outcomes.proofs.Grouping.{counted, counted_entries, set_counted, texts_counted, new_entries, texts_new}
+use Rattle.pc_outcomes.proofs.Grouping.{counted, set_counted, texts_counted, texts_new}
+use Rattle.pc_outcomes.proofs.Growing.{none_yet, steps_push, with_new, with_shown}
 
 -- ---- lists
 
@@ -26,12 +27,6 @@ There (Some x) = Unit {0}
 
 gone : {X : Type 0} (x : X) → Some x ≡ None → ⊥
 gone x e = subst There e tt
-
-if_push : {X : Type 0} (P : ℕ → X → Type 0) (xs : List X) (y : X) → ((i : ℕ) → IfSome (slice_get xs i) (P i)) → P (length xs) y → (i : ℕ) → IfSome (slice_get (xs ++ y ∷ []) i) (P i)
-if_push P [] y a b zero = b
-if_push P [] y a b (suc i) = tt
-if_push P (x ∷ xs) y a b zero = a zero
-if_push P (x ∷ xs) y a b (suc i) = if_push (λ k. P (suc k)) xs y (λ k. a (suc k)) b i
 
 none_here : {X : Type 0} (p : X → Bool) (x : X) (xs : List X) → (length xs ≤ position_or_len p xs → list_any p xs ≡ false) → (b : Bool) → suc (length xs) ≤ cond (not b) (1 + position_or_len p xs) 0 → (b || list_any p xs) ≡ false
 none_here p x xs more true l = absurd (omega (arith, l))
@@ -50,18 +45,9 @@ not_found p xs e = none_of p xs (nat_lt (position_or_len p xs) (length xs)) (pos
 
 -- ---- plays and entries
 
-abbrev steps_in : Play → ℕ
-steps_in p = p.steps
-
 module _ (core : CoreData) (seed : ℕ) (es : List Entry) (totals : Totals) (u : Under core seed es totals) (p : Play) (is : IsPlayOfSeed core seed p) where
-  plays_push : ArePlays core (seed + 1) (u.told.plays ++ p ∷ [])
-  plays_push = record {
-    all = length-append u.told.plays (p ∷ []) ∙ ap (λ (n : ℕ). n + 1) u.told.are.all;
-    are = if_push (λ s. IsPlayOfSeed core s) u.told.plays p u.told.are.are (subst (λ (s : ℕ). IsPlayOfSeed core s p) (sym u.told.are.all) is);
-  }
-
-  steps_push : total_steps (u.told.plays ++ p ∷ []) ≡ totals.steps + p.steps
-  steps_push = sum_by_push steps_in u.told.plays p ∙ ap (λ (n : ℕ). n + p.steps) (sym u.steps)
+  steps_now : totals.steps + p.steps ≡ total_steps (u.told.plays ++ p ∷ [])
+  steps_now = ap (λ (n : ℕ). n + p.steps) u.steps ∙ sym (steps_push core seed es u.told p is)
 
   pub steps_pass : steps_limit < totals.steps + p.steps → StepsPass core seed
   steps_pass l = record { entries = es; told = u.told; play = p; is = is; passes = let e = u.steps in omega (arith, e, l) }
@@ -78,22 +64,16 @@ module _ (core : CoreData) (seed : ℕ) (es : List Entry) (totals : Totals) (u :
   }
 
   module _ (s : totals.steps + p.steps ≤ steps_limit) where
-    few_now : total_steps (u.told.plays ++ p ∷ []) ≤ steps_limit
-    few_now = let e = steps_push in omega (arith, e, s)
+    few : total_steps u.told.plays + p.steps ≤ steps_limit
+    few = let e = u.steps in omega (arith, e, s)
 
     pub adds_new : position (λ e. shows_outcome e p) es ≡ None → totals.texts + length p.text ≤ texts_limit → Under core (seed + 1) (es ++ entry_of seed p ∷ []) (record { steps = totals.steps + p.steps; texts = totals.texts + length p.text })
     adds_new n l =
         let none = not_found (λ e. shows_outcome e p) es n in
         subst (λ (k : ℕ). Under core (seed + 1) (es ++ entry_of k p ∷ []) (record { steps = totals.steps + p.steps; texts = totals.texts + length p.text })) u.told.are.all
         (record {
-          told = record {
-            plays = u.told.plays ++ p ∷ [];
-            are = plays_push;
-            entries_are = new_entries u.told.plays p es none u.told.entries_are;
-            few_steps = few_now;
-            few_bytes = let e = texts_new u.told.plays p es in let f = u.texts in omega (arith, e, f, l);
-          };
-          steps = sym steps_push;
+          told = with_new core seed es u.told p is few none (let e = u.texts in omega (arith, e, l));
+          steps = steps_now;
           texts = let e = texts_new u.told.plays p es in let f = u.texts in omega (arith, e, f);
         })
 
@@ -111,14 +91,8 @@ module _ (core : CoreData) (seed : ℕ) (es : List Entry) (totals : Totals) (u :
       adds_again =
           subst (λ (x : List Entry). Under core (seed + 1) x (record { steps = totals.steps + p.steps; texts = totals.texts })) (sym now_is)
           (record {
-            told = record {
-              plays = u.told.plays ++ p ∷ [];
-              are = plays_push;
-              entries_are = counted_entries u.told.plays p es shown u.told.entries_are;
-              few_steps = few_now;
-              few_bytes = let e = texts_counted u.told.plays p es in let f = u.told.few_bytes in omega (arith, e, f);
-            };
-            steps = sym steps_push;
+            told = with_shown core seed es u.told p is few shown;
+            steps = steps_now;
             texts = u.texts ∙ sym (texts_counted u.told.plays p es);
           })
 
@@ -149,17 +123,7 @@ pub begins : (core : CoreData) (es : List Entry) (totals : Totals) → es ≡ []
 begins core es totals e t =
     subst (λ (x : List Entry). Under core 0 x totals) (sym e)
     (subst (λ (x : Totals). Under core 0 [] x) (sym t)
-    (record {
-      told = record {
-        plays = [];
-        are = record { all = refl; are = λ s. tt };
-        entries_are = record { each = tt; every = tt; ascend = tt; differ = tt };
-        few_steps = omega arith;
-        few_bytes = omega arith;
-      };
-      steps = refl;
-      texts = refl;
-    }))
+    (record { told = none_yet core; steps = refl; texts = refl }))
 
 -- ---- the ways out
 

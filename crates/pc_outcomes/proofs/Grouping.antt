@@ -3,7 +3,7 @@ use Rattle.std.proofs.Common.{◌≡◌, ℕ, zero, suc, ◌+◌, ◌<◌, ◌�
 use Rattle.std.specs.Prelude.{◌&&◌, ◌||◌, IsSomeAnd, slice_get, slice_set}
 use Rattle.std.specs.List.{AllByRecursion, count_by, list_any}
 use Rattle.std.specs.Str.{bytes_eq}
-use Rattle.std.proofs.lemmas.Bool.{and_parts, false≢true}
+use Rattle.std.proofs.lemmas.Bool.{and_parts, false≢true, or_right}
 use Rattle.std.proofs.lemmas.List.{take-append-le, take_at}
 use Rattle.std.proofs.lemmas.List.Folds.{list_any-append}
 use Rattle.std.proofs.lemmas.List.Sums.{sum_by_push, sum_by-cons}
@@ -29,7 +29,7 @@ ending_is Cut TooLong e = absurd (false≢true e)
 ending_is TooLong Done e = absurd (false≢true e)
 ending_is TooLong Cut e = absurd (false≢true e)
 
-ending_self : (a : Ending) → same_ending a a ≡ true
+pub ending_self : (a : Ending) → same_ending a a ≡ true
 ending_self Done = refl
 ending_self Cut = refl
 ending_self TooLong = refl
@@ -37,7 +37,7 @@ ending_self TooLong = refl
 text_self : (t : List ℕ) → bytes_eq t t ≡ true
 text_self t = (bytes_eq-Decides t t).1 refl
 
-outcome_is : (t : List ℕ) (a : Ending) (p : Play) → has_outcome t a p ≡ true → (t ≡ p.text) × (a ≡ p.ending)
+pub outcome_is : (t : List ℕ) (a : Ending) (p : Play) → has_outcome t a p ≡ true → (t ≡ p.text) × (a ≡ p.ending)
 outcome_is t a p h =
     let both = and_parts (bytes_eq t p.text) (same_ending a p.ending) h in
     ((bytes_eq-Decides t p.text).0 both.0, ending_is a p.ending both.1)
@@ -242,13 +242,9 @@ module _ (ps : List Play) (p : Play) where
   any_new : (q : Play) (es : List Entry) → list_any (λ f. shows_outcome f q) es ≡ true → list_any (λ f. shows_outcome f q) (es ++ new ∷ []) ≡ true
   any_new q es h = list_any-append (λ f. shows_outcome f q) es (new ∷ []) ∙ ap (λ (b : Bool). b || list_any (λ f. shows_outcome f q) (new ∷ [])) h
 
-  any_or : (a b : Bool) → b ≡ true → (a || b) ≡ true
-  any_or true b r = refl
-  any_or false b r = r
-
   any_last : (es : List Entry) → list_any (λ f. shows_outcome f p) (es ++ new ∷ []) ≡ true
   any_last [] = ap (λ (b : Bool). b || false) (self p)
-  any_last (e ∷ es) = any_or (shows_outcome e p) (list_any (λ f. shows_outcome f p) (es ++ new ∷ [])) (any_last es)
+  any_last (e ∷ es) = or_right (shows_outcome e p) (list_any (λ f. shows_outcome f p) (es ++ new ∷ [])) (any_last es)
 
   ascend_new : (low : ℕ) (es : List Entry) → AllByRecursion (IsEntry ps) es → Ascend low es → low ≤ length ps → Ascend low (es ++ new ∷ [])
   ascend_new low [] is a l = (l, tt)

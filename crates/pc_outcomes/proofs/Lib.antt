@@ -1,4 +1,5 @@
-mod Grouping
+pub mod Grouping
+pub mod Growing
 mod Ended
 mod Adding
 mod Finding

@@ -7,6 +7,8 @@
 //! `text_of` writes a table as text.
 //!
 //! Not proved: that these are all outcomes of a program. The seeds are a sample of its schedules.
+//!
+//! How the code is to be read is in `CONTRIBUTING.md` (How to read the code).
 #![tactic(auto)]
 
 mod entries;

@@ -4,6 +4,8 @@
 //! Proved: `play` writes what the run of the seed's list writes, with the same results and faults as `run` of `pc_run`;
 //! it keeps no list. `play_through` only takes the steps, and returns the machine and its progress. The line of a
 //! seed's list fits a schedule (`lines_fit`).
+//!
+//! How the code is to be read is in `CONTRIBUTING.md` (How to read the code).
 #![tactic(auto)]
 
 mod laws;

@@ -31,6 +31,8 @@
 //!   `LiveStarts`, `LiveTrees`;
 //! - calls: `Arguments`, `ArgumentsSettle`, `CallForms`, `FunctionCall`, `MessageSent`;
 //! - what is new: `NewAddress`, `NewObject`, `NewActor`, `WorldGrows`, `GrownFits`.
+//!
+//! How the code is to be read is in `CONTRIBUTING.md` (How to read the code).
 #![tactic(auto)]
 
 mod laws;

@@ -8,6 +8,8 @@
 //! actors. `put_run` only writes, for steps that were taken in another way.
 //!
 //! Only tested: that each text is one call of `put`.
+//!
+//! How the code is to be read is in `CONTRIBUTING.md` (How to read the code).
 #![tactic(auto)]
 
 mod counts;

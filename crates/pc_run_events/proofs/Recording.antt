@@ -48,7 +48,7 @@ with_more t (deed.Send r m) a b = refl
 with_more t (deed.Make n m) a b = refl
 with_more t (deed.New q e) a b = refl
 
-touches_push : (ts : List RunEvent) (t : RunEvent) → touches_in (ts ++ t ∷ []) ≡ touches_in ts ++ touches_with t t.deed []
+pub touches_push : (ts : List RunEvent) (t : RunEvent) → touches_in (ts ++ t ∷ []) ≡ touches_in ts ++ touches_with t t.deed []
 touches_push [] t = refl
 touches_push (u ∷ us) t = ap (touches_with u u.deed) (touches_push us t) ∙ with_more u u.deed (touches_in us) (touches_with t t.deed [])
 
@@ -118,7 +118,7 @@ module _ (ts : List RunEvent) (place actor : ℕ) (clock : List ℕ) where
   noted_touch o q None = quiet_touches o q
   noted_touch o q (Some x) = touches_push ts (event_of (deed.Touch x))
 
-none_of : (core : CoreData) (c : Configuration) (i : ℕ) (h : Ahead) → ahead_of core c i ≡ h → (IsTask h → ⊥) → (o : Option Access) → access core c i ≡ o → o ≡ None
+pub none_of : (core : CoreData) (c : Configuration) (i : ℕ) (h : Ahead) → ahead_of core c i ≡ h → (IsTask h → ⊥) → (o : Option Access) → access core c i ≡ o → o ≡ None
 none_of core c i h is not None e = refl
 none_of core c i h is not (Some x) e = absurd (not (subst IsTask is (access_is_task core c i x e)))
 
@@ -131,6 +131,26 @@ module _ (core : CoreData) (c next d : Configuration) (i sent : ℕ) (ts : List 
   touches_by ahead.Skipped is b = absurd b
   touches_by ahead.Lacks is b = absurd b
   touches_by ahead.TooLong is b = absurd b
+
+-- ---- a step that does nothing
+
+task_take : ahead.Task ≡ ahead.Take → ⊥
+task_take e = cc
+
+task_send : (r : ℕ) → ahead.Task ≡ ahead.Send r → ⊥
+task_send r e = cc
+
+task_spawn : ahead.Task ≡ ahead.Spawn → ⊥
+task_spawn e = cc
+
+-- A step inside of a frame that accesses no field and makes no object.
+module _ (core : CoreData) (list : List ℕ) (n i : ℕ) (is : ahead_of core (at_place core list n) i ≡ ahead.Task) (none : access core (at_place core list n) i ≡ None) (unmade : NoneMade (at_place core list n) (at_place core list (suc n))) where
+  pub nothing_done : (d : Deed) → Does core list n i d → ⊥
+  nothing_done (deed.Take m sent) does = task_take (sym is ∙ does.0)
+  nothing_done (deed.Send r m) does = task_send r (sym is ∙ does.0)
+  nothing_done (deed.Make a m) does = task_spawn (sym is ∙ does.0)
+  nothing_done (deed.New a e) does = unmade.1 a e does.1
+  nothing_done (deed.Touch x) does = none-some x (sym none ∙ does)
 
 -- ---- one more event
 
@@ -148,7 +168,7 @@ first_method (Some a) k e = in_mailbox a.mailbox e
     in_mailbox [] e = absurd (omega (arith, e))
     in_mailbox (m ∷ ms) e = (m.method, refl)
 
-first_waits : (c : Configuration) (a k : ℕ) → waiting_for c a ≡ suc k → (m : ℕ) × (method_waiting c a 0 ≡ Some m)
+pub first_waits : (c : Configuration) (a k : ℕ) → waiting_for c a ≡ suc k → (m : ℕ) × (method_waiting c a 0 ≡ Some m)
 first_waits c a k e = first_method (slice_get c.actors a) k e
 
 clocks : (core : CoreData) (list : List ℕ) (p : ℕ) (clock : List ℕ) → length clock ≡ length (at_place core list p).actors → Counts core list (suc p) (AtOrBefore core list p) (number clock) → Clocks core list p clock
@@ -236,31 +256,11 @@ module _ (core : CoreData) (list : List ℕ) (n : ℕ) (events : List RunEvent) 
             ];
       }
 
-    -- What a step of this kind does is all that it does.
     abbrev here : Configuration
     here = at_place core list n
 
-    kind_same : (h g : Ahead) → ahead_of core here i ≡ h → ahead_of core here i ≡ g → h ≡ g
-    kind_same h g is it = sym is ∙ it
-
-    task_take : ahead.Task ≡ ahead.Take → ⊥
-    task_take e = cc
-
-    task_send : (r : ℕ) → ahead.Task ≡ ahead.Send r → ⊥
-    task_send r e = cc
-
-    task_spawn : ahead.Task ≡ ahead.Spawn → ⊥
-    task_spawn e = cc
-
     abbrev next : Configuration
     next = at_place core list (suc n)
-
-    nothing_by : ahead_of core here i ≡ ahead.Task → access core here i ≡ None → NoneMade here next → (d : Deed) → Does core list n i d → ⊥
-    nothing_by is none made (deed.Take m sent) does = task_take (kind_same ahead.Task ahead.Take is does.0)
-    nothing_by is none made (deed.Send r m) does = task_send r (kind_same ahead.Task (ahead.Send r) is does.0)
-    nothing_by is none made (deed.Make a m) does = task_spawn (kind_same ahead.Task ahead.Spawn is does.0)
-    nothing_by is none made (deed.New a e) does = made.1 a e does.1
-    nothing_by is none made (deed.Touch x) does = none-some x (sym none ∙ does)
 
     -- The events with one more, if there is this deed.
     abbrev With : Option Deed → Type 0
@@ -291,7 +291,7 @@ module _ (core : CoreData) (list : List ℕ) (n : ℕ) (events : List RunEvent) 
     task_by : ahead_of core here i ≡ ahead.Task → NoneMade here next ⊎ OneMade core here next i → (o : Option Access) → access core here i ≡ o → With (task_deed o (object_made (len here.objects) next i))
     task_by is made (Some x) e = recorded_more (deed.Touch x) e
     task_by is (inl none) None e =
-        subst With (sym (nothing_made none)) (recorded_same (λ j d v does. nothing_by is e none d (subst (λ (z : ℕ). Does core list n z d) (one_actor core list n j i v ev) does)))
+        subst With (sym (nothing_made none)) (recorded_same (λ j d v does. nothing_done core list n i is e none d (subst (λ (z : ℕ). Does core list n z d) (one_actor core list n j i v ev) does)))
     task_by is (inr one) None e = subst With (sym (object_is one)) (recorded_more (deed.New one.address one.entity) (is, one.made))
 
     -- ---- every kind

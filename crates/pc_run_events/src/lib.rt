@@ -7,6 +7,8 @@
 //! message is that of the message in the mailbox, and an object that is made is at an address that had none before. The
 //! accesses among the events are those of `pc_trace`, and those that conflict are ordered. `write_events` writes their
 //! lines, byte for byte.
+//!
+//! How the code is to be read is in `CONTRIBUTING.md` (How to read the code).
 #![tactic(auto)]
 
 mod deeds;

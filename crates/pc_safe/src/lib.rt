@@ -7,6 +7,8 @@
 //! every core that has a valid annotation. `entities` of `pc_noted_receivers` is exported here too: what a valid
 //! annotation notes of receivers is held by every run. Both runs stop with a `SafeFault`, which is the `StepsFault` of
 //! `pc_list_steps`.
+//!
+//! How the code is to be read is in `CONTRIBUTING.md` (How to read the code).
 #![tactic(auto)]
 
 mod runs;

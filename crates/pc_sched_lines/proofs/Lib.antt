@@ -1,4 +1,4 @@
 mod Grouping
 mod OneLine
-mod Spelling
+pub mod Spelling
 pub mod Spreads

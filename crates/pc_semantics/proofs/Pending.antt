@@ -16,6 +16,18 @@ pub no_task : (es : List Entry) → slice_get es 0 ≡ None → None ≡ slice_g
 no_task [] is = refl
 no_task (x ∷ es) is = absurd (none-some x (sym is))
 
+-- Where there is no entry, no task goes.
+pub none_goes : (es : List Entry) → slice_get es 0 ≡ None → all_tasks es ≡ drop 1 (all_tasks es)
+none_goes [] is = refl
+none_goes (x ∷ es) is = absurd (none-some x (sym is))
+
+-- An entry that nothing follows goes with its task.
+pub goes_alone : (es : List Entry) (e : Entry) → slice_get es 0 ≡ Some e → behind_tasks e.behind ≡ [] → all_tasks (drop 1 es) ≡ drop 1 (all_tasks es)
+goes_alone [] e is none = absurd (none-some e is)
+goes_alone (x ∷ es) e is none =
+    let rest : behind_tasks x.behind ≡ [] = ap (λ z. behind_tasks z.behind) (same_Some x e is) ∙ none in
+    ap (λ z. z ++ all_tasks es) (sym rest)
+
 -- The items of a sequence are the evaluation of the first and then the others, each after a drop.
 pub items_are : (c : ℕ) (cs : List ℕ) → item_tasks (c ∷ cs) ≡ task.Eval c ∷ as_items cs
 items_are c [] = refl

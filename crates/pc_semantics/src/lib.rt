@@ -8,6 +8,8 @@
 //! in order, each lack, a text that is too long, and races that are seen. A step that does not move leaves the
 //! configuration as it was (`only_moves_change`). The types of stacks, tasks, slots and mailboxes, with their calls:
 //! `Tasks` and `Slots` are the lists of the definitions, even if they need less memory.
+//!
+//! How the code is to be read is in `CONTRIBUTING.md` (How to read the code).
 #![tactic(auto)]
 
 mod access;

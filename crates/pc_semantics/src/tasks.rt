@@ -1,14 +1,15 @@
 //! The tasks of a frame.
-ghost use Rattle.std.specs.Prelude.{◌≡◌, ◌<◌, ◌∷◌, ◌++◌, [], length, take, drop, slice_get, Some, MatchOption, OnOk, OnErr};
+ghost use Rattle.std.specs.Prelude.{◌≡◌, ◌<◌, ◌∷◌, ◌++◌, [], length, take, drop, slice_get, Some, true, MatchOption, OnOk, OnErr};
 ghost use Rattle.pc_semantics.specs.Children.{evaluations};
 ghost use Rattle.pc_semantics.specs.Evaluation.{item_tasks};
 ghost use Rattle.pc_semantics.specs.Pending.{all_tasks, as_items, behind_tasks, entry_tasks, single};
 
 use crate::frames::Task;
 use crate::stack::Stack;
-use pc_caps::SharedList;
+use pc_core::Children;
 use std::alloc::{AllocError, Global};
 use std::marker::Model;
+use std::mem;
 
 /// What a frame has to do. Contracts see it as a list, the first task on top.
 ///
@@ -30,11 +31,11 @@ struct Entry {
 enum Behind {
     Nothing,
     // Each child is evaluated.
-    Evaluations(SharedList<u32>, usize),
+    Evaluations(Children, usize),
     // Before each child is evaluated, a value is dropped.
-    Items(SharedList<u32>, usize),
+    Items(Children, usize),
     // The same after the first of these values has been dropped.
-    Dropped(SharedList<u32>, usize),
+    Dropped(Children, usize),
 }
 
 impl Model for Tasks {
@@ -88,17 +89,14 @@ impl Tasks {
     }
 
     /// Replaces the first task, and returns the old one. It does not allocate.
+    #[tactic(auto, using(crate::proofs::Pending::top_task))]
     pub fn replace_top(&mut self, task: Task) -> Task
         requires { 0 < length self.old }
         ensures new { self.new ≡ task ∷ drop 1 self.old }
         ensures top { slice_get self.old 0 ≡ Some result }
     {
-        let Entry {
-            task: before,
-            behind,
-        } = self.entries.replace_top(alone(task));
-        let _ = self.entries.replace_top(Entry { task, behind });
-        before
+        let entry = self.entries.top_mut();
+        mem::replace(&mut entry.task, task)
     }
 
     /// Puts tasks before the others, in this order. An `Err` changes nothing.
@@ -118,7 +116,7 @@ impl Tasks {
     }
 
     /// Puts the evaluations of these children before the other tasks. An `Err` changes nothing.
-    pub fn push_evaluations(&mut self, children: &SharedList<u32>) -> Result<(), AllocError>
+    pub fn push_evaluations(&mut self, children: &Children) -> Result<(), AllocError>
         ensures ok { OnOk result (self.new ≡ evaluations children.now ++ self.old) }
         ensures err { OnErr result (self.new ≡ self.old) }
     {
@@ -135,7 +133,7 @@ impl Tasks {
 
     /// Replaces the first task by the items of a sequence: each is evaluated, and its value is dropped before the next
     /// one. An `Err` changes nothing.
-    pub fn go_on_with_items(&mut self, children: &SharedList<u32>) -> Result<(), AllocError>
+    pub fn go_on_with_items(&mut self, children: &Children) -> Result<(), AllocError>
         requires { 0 < length self.old }
         ensures ok { OnOk result (self.new ≡ item_tasks children.now ++ drop 1 self.old) }
         ensures err { OnErr result (self.new ≡ self.old) }
@@ -164,7 +162,7 @@ fn alone(task: Task) -> Entry
 }
 
 // The evaluation of the child at a place, and then of those after it.
-fn evaluation_at(children: SharedList<u32>, place: usize) -> Option<Entry>
+fn evaluation_at(children: Children, place: usize) -> Option<Entry>
     ensures { MatchOption result (evaluations (drop place children) ≡ []) (λ e. entry_tasks e ≡ evaluations (drop place children)) }
 {
     let child = *children.as_slice().get(place)?;
@@ -175,7 +173,7 @@ fn evaluation_at(children: SharedList<u32>, place: usize) -> Option<Entry>
 }
 
 // A value is dropped, and then the item at a place is evaluated.
-fn item_at(children: SharedList<u32>, place: usize) -> Option<Entry>
+fn item_at(children: Children, place: usize) -> Option<Entry>
     ensures { MatchOption result (as_items (drop place children) ≡ []) (λ e. entry_tasks e ≡ as_items (drop place children)) }
 {
     let _ = children.as_slice().get(place)?;
@@ -186,7 +184,7 @@ fn item_at(children: SharedList<u32>, place: usize) -> Option<Entry>
 }
 
 // The item at a place, after the value before it has been dropped.
-fn dropped_at(children: SharedList<u32>, place: usize) -> Option<Entry>
+fn dropped_at(children: Children, place: usize) -> Option<Entry>
     ensures { MatchOption result (drop 1 (as_items (drop place children)) ≡ []) (λ e. entry_tasks e ≡ drop 1 (as_items (drop place children))) }
 {
     let child = *children.as_slice().get(place)?;
@@ -208,11 +206,26 @@ fn following(behind: Behind) -> Option<Entry>
     }
 }
 
+// Whether nothing follows a task before the entry below.
+fn is_alone(entry: &Entry) -> bool
+    ensures { result ≡ true → behind_tasks entry.now.behind ≡ [] }
+{
+    match entry.behind {
+        Behind::Nothing => true,
+        Behind::Evaluations(..) | Behind::Items(..) | Behind::Dropped(..) => false,
+    }
+}
+
 // Removes the first task.
+#[tactic(auto, using(crate::proofs::Pending::goes_alone, crate::proofs::Pending::none_goes))]
 fn advance(entries: &mut Stack<Entry>)
     ensures { all_tasks entries.new ≡ drop 1 (all_tasks entries.old) }
 {
-    if entries.len() == 0 {
+    let Some(entry) = entries.top() else {
+        return;
+    };
+    if is_alone(entry) {
+        entries.discard(1);
         return;
     }
     let Entry { behind, .. } = entries.replace_top(alone(Task::Discard));

@@ -7,6 +7,8 @@
 //! frame is of a method that is reached, each message that is sent has its row, and nothing that is never sent waits in
 //! a mailbox (`held_covers`). At a call on a trait or an interface, the methods of exactly the entities that conform to
 //! it are looked at.
+//!
+//! How the code is to be read is in `CONTRIBUTING.md` (How to read the code).
 #![tactic(auto)]
 
 mod calls;

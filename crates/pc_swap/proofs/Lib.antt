@@ -1,4 +1,4 @@
 pub mod Orders
 mod Places
-mod Telling
+pub mod Telling
 mod Whole

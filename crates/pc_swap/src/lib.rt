@@ -6,6 +6,8 @@
 //! the next steps of two actors of a machine are apart; otherwise it names the first part that fails
 //! (`kept_are_not_apart`). It does not allocate. `swap` exchanges two turns of a list iff their steps are apart, and
 //! then both lists lead to the same configuration.
+//!
+//! How the code is to be read is in `CONTRIBUTING.md` (How to read the code).
 #![tactic(auto)]
 
 mod kept;

@@ -6,8 +6,7 @@ ghost use Rattle.pc_tasks.specs.Inside.{relieved, within};
 
 use crate::frames::{go_on_with, push_value};
 use crate::values::none;
-use pc_caps::SharedList;
-use pc_core::{Core, NodeKind};
+use pc_core::{Children, Core, NodeKind};
 use pc_heap::{Text, Value};
 use pc_semantics::{Frame, Lack, Outcome, Task};
 use std::alloc::AllocError;
@@ -45,11 +44,7 @@ fn take_slot(frame: &mut Frame, slot: u32) -> Result<Outcome, AllocError>
 
 // All children are evaluated, and then this task is done.
 #[tactic(auto, using(std::proofs::Common::append_assoc))]
-fn children_first(
-    frame: &mut Frame,
-    children: &SharedList<u32>,
-    then: Task,
-) -> Result<Outcome, AllocError>
+fn children_first(frame: &mut Frame, children: &Children, then: Task) -> Result<Outcome, AllocError>
     requires { 0 < length frame.old.tasks }
     ensures ok { IfOk result (λ o. within frame.old (spec.children_first (relieved frame.old) children.now then) ≡ Some (o, frame.new)) }
     ensures err { OnErr result (frame.new ≡ frame.old) }
@@ -83,7 +78,7 @@ fn first_then(
 }
 
 // The items of a sequence, one after another: every value but the last is dropped.
-fn items_first(frame: &mut Frame, children: &SharedList<u32>) -> Result<Outcome, AllocError>
+fn items_first(frame: &mut Frame, children: &Children) -> Result<Outcome, AllocError>
     requires { 0 < length frame.old.tasks }
     ensures ok { IfOk result (λ o. within frame.old (Goes (doing (relieved frame.old) (spec.item_tasks children.now))) ≡ Some (o, frame.new)) }
     ensures err { OnErr result (frame.new ≡ frame.old) }
@@ -96,7 +91,7 @@ fn items_first(frame: &mut Frame, children: &SharedList<u32>) -> Result<Outcome,
 fn evaluate(
     frame: &mut Frame,
     number: u32,
-    children: &SharedList<u32>,
+    children: &Children,
     kind: &NodeKind,
 ) -> Result<Outcome, AllocError>
     requires { 0 < length frame.old.tasks }

@@ -5,6 +5,8 @@
 //! `pc_semantics`: all kinds of evaluation, fields, slots, operators and choices. A step that lacks something, that
 //! would make too long a text, or that runs out of memory leaves the frame and the objects unchanged. `inside_step`
 //! leads from there to the definition of an actor's `step`.
+//!
+//! How the code is to be read is in `CONTRIBUTING.md` (How to read the code).
 #![tactic(auto)]
 
 mod ahead;

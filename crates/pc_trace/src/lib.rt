@@ -9,6 +9,8 @@
 //! Proved: `trace` reports exactly the accesses of the run, with these clocks, for any core; its verdict names the
 //! first event that is not ordered with an earlier one that it conflicts with, and the latest such earlier one, or
 //! there is none. `accepted_trace` reports the same of a safe core, for which there is none.
+//!
+//! How the code is to be read is in `CONTRIBUTING.md` (How to read the code).
 #![tactic(auto)]
 
 mod clash;

@@ -23,6 +23,8 @@
 //! - frames: `Running` (it goes on), `Finish` (what its node's children left), `Begin` (that of a method), `Callers`
 //!   (the one that waits), `Popped` (the arguments), `Origins` (the object of a field);
 //! - objects: `Heaps`, `Growth`, `AllFields`; values, masks and places: `Values`, `Basic`, `Tables`, `Places`.
+//!
+//! How the code is to be read is in `CONTRIBUTING.md` (How to read the code).
 #![tactic(auto)]
 
 mod laws;
