@@ -5,6 +5,8 @@
 //! (`only_refused_words_ask_for_nothing`), and each form with names that are neither empty nor begin with `-` asks for
 //! its command (`written_forms_are_taken`). `seed_of`, `size_of` and `number_of` read numbers from words, or report
 //! that they are not numbers.
+//!
+//! How the code is to be read is in `CONTRIBUTING.md` (How to read the code).
 #![tactic(auto)]
 
 mod laws;

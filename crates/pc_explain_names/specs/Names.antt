@@ -4,7 +4,7 @@ use Rattle.pc_caps.specs.declared.span.Span.{Span}
 use Rattle.pc_lists.specs.Texts.{Text}
 use Rattle.pc_names.specs.declared.fault.NameFault.{NameFault}
 use Rattle.pc_names.specs.declared.fault.NameFault.TheVariants as fault
-use Rattle.pc_refusals.specs.Lines.{no_main_line}
+use Rattle.pc_refusal_lines.specs.Lines.{no_main_line}
 use Rattle.pc_tree.specs.Tree as t
 use Rattle.pc_window.specs.Head.{head}
 use Rattle.pc_window.specs.Places.{piece_of}

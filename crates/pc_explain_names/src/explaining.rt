@@ -4,7 +4,7 @@ ghost use Rattle.pc_explain_names.specs.Homes.{entity_around as entity_is, metho
 ghost use Rattle.pc_explain_names.specs.NameLines as lines;
 ghost use Rattle.pc_explain_names.specs.Names as spec;
 ghost use Rattle.pc_members.specs.Views.{members_view};
-ghost use Rattle.pc_refusals.specs.Lines.{no_main_line};
+ghost use Rattle.pc_refusal_lines.specs.Lines.{no_main_line};
 ghost use Rattle.pc_tree.specs.View.{entity_view, file_view};
 
 use crate::bearers::kind_word;

@@ -4,6 +4,8 @@
 //! source's line with carets, the entity and the method that contain the name, and the rule. For a name that nothing
 //! has, the rule lists the locals, parameters, fields and methods that could be there, including an added `create` and
 //! the methods that the entity takes over; for a name that is taken, the first thing that has it.
+//!
+//! How the code is to be read is in `CONTRIBUTING.md` (How to read the code).
 #![tactic(auto)]
 
 mod bearers;

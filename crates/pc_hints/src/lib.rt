@@ -3,6 +3,8 @@
 //! Proved: `chosen` returns the hint of its definition, and `push_hint` appends exactly its words, or memory ran out.
 //! What a hint promises fits what it is proposed for (`hints_fit`): it promises that the condition holds, but not that
 //! the program is then accepted.
+//!
+//! How the code is to be read is in `CONTRIBUTING.md` (How to read the code).
 #![tactic(auto)]
 
 mod choice;

@@ -3,6 +3,7 @@ use Rattle.std.proofs.Common.{◌≡◌, ◌≤◌, ℕ, ◌++◌, Option, Some,
 use Rattle.std.specs.Prelude.{Result}
 use Rattle.pc_ann.specs.declared.annotation.Ann.{Ann}
 use Rattle.pc_core.specs.Formed.{Formed}
+use Rattle.pc_deriv.specs.Limits.{derivation_limit}
 use Rattle.pc_valid.specs.Valid.{Valid}
 use Rattle.pc_deriv.specs.Faults.{IsText}
 use Rattle.pc_deriv.specs.Laws.{as_read}
@@ -15,7 +16,7 @@ use Rattle.pc_feed.specs.Laws.{ValidAsksAll}
 use Rattle.pc_feed.specs.Parts.{AsksNodes, FileJudged, ReadWhole}
 use Rattle.pc_lists.specs.Texts.{Text}
 use Rattle.pc_refusals.specs.After.After.{stops, goes}
-use Rattle.pc_refusals.specs.Derivation.{DerivationStage, derivation_limit, in_parts, text_status}
+use Rattle.pc_refusals.specs.Derivation.{DerivationStage, in_parts, text_status}
 use Rattle.pc_refusals.specs.Derivation.Deriving.{reads, garbled}
 use Rattle.pc_refusals.specs.Derivation.Judging.{holds, fails}
 use Rattle.pc_refusals.specs.Inner.Derivations.{DerivationJudged, NotDone}

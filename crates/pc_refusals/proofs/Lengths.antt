@@ -11,6 +11,7 @@ use Rattle.pc_caps.specs.declared.capability.Cap.{Cap}
 use Rattle.pc_caps.specs.declared.capability.Cap.TheVariants as cap
 use Rattle.pc_caps.specs.declared.capability.Form.{Form}
 use Rattle.pc_caps.specs.declared.capability.Form.TheVariants as form
+use Rattle.pc_deriv.specs.Limits.{derivation_limit}
 use Rattle.pc_masks.specs.declared.mask.Mask.{Mask}
 use Rattle.pc_ann.specs.declared.annotation.Note.{Note}
 use Rattle.pc_ann.specs.declared.annotation.Ann.{Ann}
@@ -25,7 +26,6 @@ use Rattle.pc_deriv.specs.Text.{head_line, slot_line, type_text, mask_text, mask
 use Rattle.pc_deriv.specs.Text.{MasksFit, NoteFits}
 use Rattle.pc_deriv.specs.declared.version.Version.{Version}
 use Rattle.pc_deriv.specs.declared.version.Version.TheVariants as version
-use Rattle.pc_refusals.specs.Derivation.{derivation_limit}
 
 -- The parts of a line.
 rule_size : (r : Rule) → length (rule_name r) ≤ 11

@@ -18,7 +18,7 @@ use Rattle.pc_refusals.specs.FromFile.{FromFile}
 use Rattle.pc_refusals.specs.FromFile.FromFile.{refuses, goes_on}
 use Rattle.pc_refusals.specs.Named.{Named, Reading, whole, longer, IsReading}
 use Rattle.pc_refusals.specs.NameFaults.{name_status, name_line}
-use Rattle.pc_refusals.specs.Refusal.{offset_line}
+use Rattle.pc_refusal_lines.specs.Refusal.{offset_line}
 use Rattle.pc_refusals.specs.Source.{FileStage, SyntaxStage, Length, Lexing, Parsing, Elaborating, TreeStage, CoreStage, TextStage, SourceStage, source_limit}
 use Rattle.pc_refusals.specs.Source.Length.{fits, is_longer}
 use Rattle.pc_refusals.specs.Source.Lexing.{lexed, faulty}

@@ -6,7 +6,7 @@ use Rattle.pc_refusals.specs.After.{After}
 use Rattle.pc_refusals.specs.After.After.{stops, goes}
 use Rattle.pc_refusals.specs.Inner.Reading.{NotRead}
 use Rattle.pc_refusals.specs.Inner.Stages.{PartStops, PartGives, PartEnds, StageEnds}
-use Rattle.pc_refusals.specs.Lines.{longer_line}
+use Rattle.pc_refusal_lines.specs.Lines.{longer_line}
 use Rattle.pc_refusals.specs.Named.{Reading, whole, longer, Named, IsReadingOf, IsReading}
 use Rattle.pc_refusals.specs.Source.{Length}
 use Rattle.pc_refusals.specs.Source.Length.{fits}

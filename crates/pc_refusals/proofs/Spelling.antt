@@ -15,7 +15,7 @@ use Rattle.pc_lists.specs.Texts.{Text}
 use Rattle.pc_refusals.specs.After.After.{stops, goes}
 use Rattle.pc_refusals.specs.Inner.Refusals.{IsLexStop, IsRefusal}
 use Rattle.pc_refusals.specs.Inner.Stages.{StageStops, StageEndsAs}
-use Rattle.pc_refusals.specs.Refusal.{offset_line}
+use Rattle.pc_refusal_lines.specs.Refusal.{offset_line}
 use Rattle.pc_refusals.specs.Source.{Lexing, Parsing, SyntaxStage}
 use Rattle.pc_refusals.specs.Source.Lexing.{lexed, faulty}
 use Rattle.pc_refusals.specs.Source.Parsing.{astray, nested}

@@ -12,7 +12,7 @@ use Rattle.pc_refusals.specs.Accepting.Typing.{declared, no_rule, unset}
 use Rattle.pc_refusals.specs.CoreFaults.{method_start, node_start}
 use Rattle.pc_refusals.specs.Inner.Refusals.{IsCoreStop}
 use Rattle.pc_refusals.specs.Inner.Stages.{StageStops}
-use Rattle.pc_refusals.specs.Refusal.{offset_line}
+use Rattle.pc_refusal_lines.specs.Refusal.{offset_line}
 use Rattle.pc_refusals.specs.Verdict.{refused}
 use Rattle.pc_refusals.specs.declared.source.Source.{Source}
 use Rattle.pc_refusals.specs.declared.stop.Stop.{Stop}

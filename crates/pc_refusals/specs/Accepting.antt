@@ -8,7 +8,7 @@ use Rattle.pc_lists.specs.Texts.{Text}
 use Rattle.pc_refusals.specs.After.{After}
 use Rattle.pc_refusals.specs.CoreFaults.{decl_offset, decl_text}
 use Rattle.pc_refusals.specs.Named.{Reading}
-use Rattle.pc_refusals.specs.Refusal.{offset_line}
+use Rattle.pc_refusal_lines.specs.Refusal.{offset_line}
 use Rattle.pc_refusals.specs.Source.{SourceStage}
 use Rattle.pc_refusals.specs.Verdict.{Verdict, refused}
 use Rattle.pc_refusals.specs.declared.typing.Accepted.{Accepted}

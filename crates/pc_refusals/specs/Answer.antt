@@ -5,7 +5,7 @@ use Rattle.pc_io.specs.Sink.{HasRisen, GrowsByPrefix}
 use Rattle.pc_lists.specs.Texts.{Text}
 use Rattle.pc_io.specs.Change.{Change}
 use Rattle.pc_refusals.specs.Ends.{TellsPart}
-use Rattle.pc_refusals.specs.Lines.{unread_line}
+use Rattle.pc_refusal_lines.specs.Lines.{unread_line}
 use Rattle.pc_refusals.specs.Verdict.{Verdict}
 
 pub data Answer (V : Verdict → Type 0) (Failed : Text → Type 0) (out err : Change) (status : ℕ) : Type 0 where

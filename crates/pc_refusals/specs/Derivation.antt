@@ -1,6 +1,7 @@
 -- The stages of a derivation: its length, its text, and whether it is valid for a source.
 use Rattle.std.specs.Prelude.{ℕ, ◌+◌, Result, Ok, Err, codes}
 use Rattle.pc_ann.specs.declared.annotation.Ann.{Ann}
+use Rattle.pc_deriv.specs.Limits.{derivation_limit}
 use Rattle.pc_valid.specs.Valid.{Valid}
 use Rattle.pc_deriv.specs.Faults.{IsText, IsFault}
 use Rattle.pc_deriv.specs.declared.fault.DerivFault.{DerivFault}
@@ -11,16 +12,12 @@ use Rattle.pc_judge.specs.declared.faults.JudgeFault.TheVariants as fault
 use Rattle.pc_lists.specs.Texts.{Text}
 use Rattle.pc_refusals.specs.After.{After}
 use Rattle.pc_refusals.specs.CoreFaults.{decl_offset, decl_text}
-use Rattle.pc_refusals.specs.Lines.{bad_line, many_line, shape_line, slot_refusal_line, node_refusal_line, unset_line}
+use Rattle.pc_refusal_lines.specs.Lines.{bad_line, many_line, shape_line, slot_refusal_line, node_refusal_line, unset_line}
 use Rattle.pc_refusals.specs.Named.{Named, Reading}
-use Rattle.pc_refusals.specs.Refusal.{offset_line}
+use Rattle.pc_refusal_lines.specs.Refusal.{offset_line}
 use Rattle.pc_refusals.specs.Source.{Length}
 use Rattle.pc_refusals.specs.Verdict.{Verdict, refused}
 use Rattle.pc_refusals.specs.declared.source.Source.{Source}
-
--- the greatest number of bytes of a derivation
-abbrev pub derivation_limit : ℕ
-derivation_limit = 33554432
 
 -- A derivation is read in parts, and only the last part is counted in `taken`. If the file is longer, this part begins
 -- after all bytes that a derivation may have.

@@ -14,7 +14,7 @@ pub data FromFile {T : Type 0} (file : Named) (limit : ℕ) (Stages : Reading �
 abbrev pub FilePasses : {T : Type 0} → Named → (limit : ℕ) → (Reading → Result T Verdict → Type 0) → Type 0
 FilePasses {T} file limit Stages = (r : Reading) × (x : T) × IsReadingOf file limit r × Stages r (Ok x)
 
--- This is the one of two files, read one after another, that could not be read: the first, or the second, which is only
--- read if the first passes its stages.
+-- This is the one of two files that could not be read, where one comes after the other: the first, or the second if the
+-- first passes its stages.
 abbrev pub FailedInTurn : {T : Type 0} → (first : Named) → (limit : ℕ) → (Reading → Result T Verdict → Type 0) → (second : Named) → Text → Type 0
 FailedInTurn first limit Stages second name = FailedAt first name ⊎ (FilePasses first limit Stages × FailedAt second name)

@@ -3,7 +3,7 @@ use Rattle.std.specs.Prelude.{ℕ, codes}
 use Rattle.pc_lex.specs.declared.fault.LexFault.{LexFault}
 use Rattle.pc_lex.specs.declared.fault.LexFault.TheVariants as fault
 use Rattle.pc_lists.specs.Texts.{Text}
-use Rattle.pc_refusals.specs.Refusal.{offset_line}
+use Rattle.pc_refusal_lines.specs.Refusal.{offset_line}
 
 -- 8 if a limit is passed, and 3 for any other fault of a text. Running out of memory is not a fault; its status is 11.
 abbrev pub fault_status : LexFault → ℕ

@@ -8,12 +8,9 @@ pub mod Ends
 pub mod FromFile
 pub mod Inner
 pub mod LexFaults
-pub mod Lines
 pub mod NameFaults
 pub mod Named
-pub mod Place
 pub mod Referee
-pub mod Refusal
 pub mod Schedule
 pub mod Source
 pub mod Verdict

@@ -5,8 +5,8 @@ use Rattle.pc_names.specs.declared.fault.NameFault.TheVariants as fault
 use Rattle.pc_names.specs.declared.fault.Which.{Which}
 use Rattle.pc_names.specs.declared.fault.Which.TheVariants as which
 use Rattle.pc_lists.specs.Texts.{Text}
-use Rattle.pc_refusals.specs.Refusal.{offset_line}
-use Rattle.pc_refusals.specs.Lines.{no_main_line}
+use Rattle.pc_refusal_lines.specs.Refusal.{offset_line}
+use Rattle.pc_refusal_lines.specs.Lines.{no_main_line}
 
 -- 8 if a limit is passed, and 4 for any other fault of a file. Running out of memory is not a fault; its status is 11.
 abbrev pub name_status : NameFault → ℕ

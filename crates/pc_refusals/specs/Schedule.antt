@@ -7,7 +7,7 @@ use Rattle.pc_sched.specs.declared.turns.Turn.{Turn}
 use Rattle.pc_lists.specs.Texts.{Text}
 use Rattle.pc_refusals.specs.After.{After}
 use Rattle.pc_refusals.specs.Named.{Reading}
-use Rattle.pc_refusals.specs.Refusal.{offset_line}
+use Rattle.pc_refusal_lines.specs.Refusal.{offset_line}
 use Rattle.pc_refusals.specs.Source.{Length}
 use Rattle.pc_refusals.specs.Verdict.{Verdict, refused}
 

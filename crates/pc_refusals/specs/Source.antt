@@ -4,6 +4,7 @@ use Rattle.pc_tree.specs.Tree as t
 use Rattle.pc_token.specs.declared.kinds.Token.{Token}
 use Rattle.pc_grammar.specs.FileAnswers.{IsFileAnswer, spelled, unexpected, too_deep}
 use Rattle.pc_lex.specs.Answers.{TokenList}
+use Rattle.pc_lex.specs.Limits.{bytes_limit}
 use Rattle.pc_lex.specs.Pieces.{FirstLexFault}
 use Rattle.pc_lex.specs.declared.fault.LexFault.{LexFault}
 use Rattle.pc_core.specs.CoreData.{CoreData}
@@ -12,17 +13,17 @@ use Rattle.pc_names.specs.declared.fault.NameFault.{NameFault}
 use Rattle.pc_file_spec.specs.Cores.{Stands, IsElabFault}
 use Rattle.pc_refusals.specs.After.{After}
 use Rattle.pc_lists.specs.Texts.{Text}
-use Rattle.pc_refusals.specs.Refusal.{offset_line}
+use Rattle.pc_refusal_lines.specs.Refusal.{offset_line}
 use Rattle.pc_refusals.specs.LexFaults.{fault_status, fault_line}
-use Rattle.pc_refusals.specs.Lines.{longer_line}
+use Rattle.pc_refusal_lines.specs.Lines.{longer_line}
 use Rattle.pc_refusals.specs.Named.{Reading, whole, longer}
 use Rattle.pc_refusals.specs.NameFaults.{name_status, name_line}
 use Rattle.pc_refusals.specs.Verdict.{Verdict, refused}
 use Rattle.pc_refusals.specs.declared.source.Source.{Source}
 
--- the greatest number of bytes of a source
+-- the greatest number of bytes of a source: as many as a text may have that is read as tokens
 abbrev pub source_limit : ℕ
-source_limit = 1048576
+source_limit = bytes_limit
 
 -- The length of a file: 8 if it has more bytes than its limit.
 pub data Length (limit : ℕ) (name : Text) : Reading → Result Text Verdict → Type 0 where

@@ -1,7 +1,8 @@
 //! A derivation: read in parts and judged as they come, or read whole.
 ghost use Rattle.std.specs.Prelude.{◌≡◌, ◌≤◌, ℕ, List as Sequence, IfOk};
 ghost use Rattle.pc_deriv.specs.Laws.{as_read};
-ghost use Rattle.pc_refusals.specs.Derivation.{DerivationStage, Deriving, Judging, derivation_limit, in_parts, judge_line, text_line, text_status};
+ghost use Rattle.pc_deriv.specs.Limits.{derivation_limit};
+ghost use Rattle.pc_refusals.specs.Derivation.{DerivationStage, Deriving, Judging, in_parts, judge_line, text_line, text_status};
 ghost use Rattle.pc_refusals.specs.Inner.Derivations.{DerivationJudged, FileAsks};
 ghost use Rattle.pc_refusals.specs.Inner.Refusals.{IsDerivationStop, IsRefusal, IsTextStop};
 ghost use Rattle.pc_refusals.specs.Inner.Stages.{PartEnds, StageEnds};
@@ -18,14 +19,11 @@ use crate::source::Source;
 use crate::stop::Stop;
 use pc_ann::Ann;
 use pc_deriv::{DerivFault, LineFault, read};
-use pc_feed::{DerivationFault, judge_file, valid_asks_all};
+use pc_feed::{DERIVATION_LIMIT, DerivationFault, judge_file, valid_asks_all};
 use pc_io::{Bytes, Files};
 use pc_judge::{JudgeFault, judge};
 use pc_referee::Referee;
 use std::alloc::{AllocError, Global};
-
-/// The greatest number of bytes of a derivation.
-pub const DERIVATION_LIMIT: u32 = 33_554_432;
 
 // The line of the first fault of the derivation with this name.
 fn make_fault_line(

@@ -2,9 +2,13 @@
 //! written.
 //!
 //! Proved: each refusal has the status and the line of its definition; a file is read whole or refused by its length; a
-//! stage's value or refusal is the one of its definition; a text that a command returns is one call of `put` on out,
-//! and the line of a refusal is one on err. Everything here is below the crate that reads sources whole and has the
-//! commands.
+//! stage's value or refusal is the one of its definition; a text that a command returns goes to out, and the line of a
+//! refusal to err, or a first part of it if the sink fails. Everything here is below the crate that reads sources whole
+//! and has the commands.
+//!
+//! Only tested, in `pc_top_tests`: that each of these is one call of `put`.
+//!
+//! How the code is to be read is in `CONTRIBUTING.md` (How to read the code).
 #![tactic(auto)]
 
 mod core_faults;

@@ -1,6 +1,6 @@
 //! The lines on err, and the first line of `make`.
 ghost use Rattle.std.specs.Prelude.{◌≡◌, IfOk};
-ghost use Rattle.pc_refusals.specs.Lines as spec;
+ghost use Rattle.pc_refusal_lines.specs.Lines as spec;
 
 use crate::place::Place;
 use pc_io::Bytes;

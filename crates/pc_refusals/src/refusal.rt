@@ -2,7 +2,7 @@
 ghost use Rattle.std.specs.Prelude.{◌≡◌, IfOk};
 ghost use Rattle.pc_lists.specs.Texts.{Text};
 ghost use Rattle.pc_refusals.specs.Inner.Refusals.{IsRefusal};
-ghost use Rattle.pc_refusals.specs.Refusal.{offset_line};
+ghost use Rattle.pc_refusal_lines.specs.Refusal.{offset_line};
 
 use crate::lines::make_place_line;
 use crate::place::place_of;

@@ -1,6 +1,6 @@
 //! The refusal of words.
 ghost use Rattle.pc_refusals.specs.Inner.Refusals.{IsRefusal};
-ghost use Rattle.pc_refusals.specs.Lines.{usage_line};
+ghost use Rattle.pc_refusal_lines.specs.Lines.{usage_line};
 
 use crate::lines::make_usage_line;
 use crate::stop::Stop;

@@ -2,6 +2,8 @@
 //!
 //! Proved: for each of the 30 conditions, `push_sentence` appends exactly the sentence of its definition, or memory ran
 //! out; for a part without a type, the sentence says why it has none.
+//!
+//! How the code is to be read is in `CONTRIBUTING.md` (How to read the code).
 #![tactic(auto)]
 
 mod goals;

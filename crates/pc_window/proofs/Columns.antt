@@ -3,7 +3,7 @@ use Rattle.std.proofs.Common.{◌≡◌, ◌≤◌, ◌-◌, ◌+◌, ℕ, List,
 use Rattle.std.specs.List.{prefix_len}
 use Rattle.std.proofs.lemmas.List.{length-reverse}
 use Rattle.std.proofs.lemmas.List.Sums.{prefix_len-le-length}
-use Rattle.pc_refusals.specs.Place.{is_in_line, column_behind}
+use Rattle.pc_refusal_lines.specs.Place.{is_in_line, column_behind}
 
 pub column_within : (front : List ℕ) → column_behind front - 1 ≤ length front
 column_within front =

@@ -2,7 +2,7 @@
 use Rattle.std.specs.Prelude.{◌++◌}
 use Rattle.pc_caps.specs.declared.span.Span.{Span}
 use Rattle.pc_lists.specs.Texts.{Text}
-use Rattle.pc_refusals.specs.Refusal.{offset_line}
+use Rattle.pc_refusal_lines.specs.Refusal.{offset_line}
 use Rattle.pc_window.specs.Window.{window}
 
 -- The line by which the source with this name is refused, and the window of the span.

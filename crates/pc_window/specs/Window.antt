@@ -3,7 +3,7 @@ use Rattle.std.specs.Prelude.{ℕ, ◌+◌, ◌-◌, Bool, true, false, not, ◌
 use Rattle.std.specs.List.{prefix_len}
 use Rattle.pc_caps.specs.declared.span.Span.{Span}
 use Rattle.pc_lists.specs.Texts.{Text, line_end}
-use Rattle.pc_refusals.specs.Place.{is_in_line, line_behind, column_behind}
+use Rattle.pc_refusal_lines.specs.Place.{is_in_line, line_behind, column_behind}
 use Rattle.pc_window.specs.Places.{line_and_column}
 use Rattle.pc_window.specs.Shown.{shown, goes_on}
 

@@ -4,6 +4,8 @@
 //! Proved: each function appends exactly the bytes of its definition, or memory ran out. Bytes that a terminal would
 //! obey are shown as dots; there is a caret below each character of the span, and a tab below each tab before it; a
 //! piece is written in one line and cut if it is long, without splitting a character.
+//!
+//! How the code is to be read is in `CONTRIBUTING.md` (How to read the code).
 #![tactic(auto)]
 
 mod appending;

@@ -1,6 +1,6 @@
 //! Lines and columns.
 ghost use Rattle.std.specs.Prelude.{◌≡◌, ◌++◌, ◌<◌, ◌+◌, ◌^◌, OnOk, cond};
-ghost use Rattle.pc_refusals.specs.Place.{is_line_end, line_behind, column_behind};
+ghost use Rattle.pc_refusal_lines.specs.Place.{is_line_end, line_behind, column_behind};
 ghost use Rattle.pc_window.specs.Places as spec;
 
 use crate::pieces::front_of;

@@ -3,6 +3,8 @@
 //!
 //! Proved: each function appends exactly the bytes of its definition, or memory ran out; and a method can replace
 //! another iff there is nothing about it that does not fit (`misfits_are_all`).
+//!
+//! How the code is to be read is in `CONTRIBUTING.md` (How to read the code).
 #![tactic(auto)]
 
 mod caps;

@@ -2,9 +2,10 @@
 use Rattle.std.specs.Prelude.{◌≡◌, ◌⊎◌, Option, Result, Ok, Err}
 use Rattle.pc_ann.specs.declared.annotation.Ann.{Ann}
 use Rattle.pc_core.specs.CoreData.{CoreData}
+use Rattle.pc_deriv.specs.Limits.{derivation_limit}
 use Rattle.pc_referee.specs.Asked.{Pairs}
 use Rattle.pc_lists.specs.Texts.{Text}
-use Rattle.pc_refusals.specs.Derivation.{DerivationStage, Judging, derivation_limit}
+use Rattle.pc_refusals.specs.Derivation.{DerivationStage, Judging}
 use Rattle.pc_refusals.specs.Inner.Stages.{PartGives, PartStops, StageStops}
 use Rattle.pc_refusals.specs.Named.{Named}
 use Rattle.pc_refusals.specs.Referee.{JudgedFile}

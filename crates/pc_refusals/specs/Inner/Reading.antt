@@ -2,7 +2,7 @@
 use Rattle.std.specs.Prelude.{ℕ, ◌≡◌, ◌<◌, List, Option, Result, MatchResult}
 use Rattle.pc_io.specs.declared.bytes.Bytes.{Bytes}
 use Rattle.pc_lists.specs.Texts.{Text}
-use Rattle.pc_refusals.specs.Lines.{longer_line}
+use Rattle.pc_refusal_lines.specs.Lines.{longer_line}
 use Rattle.pc_refusals.specs.Named.{IsReading, whole, longer}
 use Rattle.pc_refusals.specs.declared.stop.Stop.{Stop}
 use Rattle.pc_refusals.specs.declared.stop.Stop.TheVariants.{Refused, File, Sink, Memory}

@@ -3,6 +3,7 @@ use Rattle.std.specs.Prelude.{ℕ, ◌≡◌, codes, slice_get}
 use Rattle.pc_check.specs.declared.fault.CheckFault.{CheckFault}
 use Rattle.pc_check.specs.declared.fault.CheckFault.TheVariants as check
 use Rattle.pc_deriv.specs.Laws.{as_read}
+use Rattle.pc_deriv.specs.Limits.{derivation_limit}
 use Rattle.pc_deriv.specs.declared.fault.DerivFault.{DerivFault}
 use Rattle.pc_deriv.specs.declared.fault.DerivFault.TheVariants as deriv
 use Rattle.pc_feed.specs.declared.parts.DerivationFault.{DerivationFault}
@@ -13,11 +14,11 @@ use Rattle.pc_names.specs.declared.fault.NameFault.{NameFault}
 use Rattle.pc_names.specs.declared.fault.NameFault.TheVariants as names
 use Rattle.pc_lists.specs.Texts.{Text}
 use Rattle.pc_refusals.specs.CoreFaults.{decl_offset, decl_text, method_start, node_start}
-use Rattle.pc_refusals.specs.Derivation.{derivation_limit, judge_line, text_line, text_status}
+use Rattle.pc_refusals.specs.Derivation.{judge_line, text_line, text_status}
 use Rattle.pc_refusals.specs.LexFaults.{fault_line, fault_status}
-use Rattle.pc_refusals.specs.Lines.{longer_line}
+use Rattle.pc_refusal_lines.specs.Lines.{longer_line}
 use Rattle.pc_refusals.specs.NameFaults.{name_line, name_status}
-use Rattle.pc_refusals.specs.Refusal.{offset_line}
+use Rattle.pc_refusal_lines.specs.Refusal.{offset_line}
 use Rattle.pc_refusals.specs.declared.source.Source.{Source}
 use Rattle.pc_refusals.specs.declared.stop.Stop.{Stop}
 use Rattle.pc_refusals.specs.declared.stop.Stop.TheVariants as stop

@@ -1,6 +1,7 @@
 use Rattle.std.proofs.lemmas.Result.{err_from_is_err_and}
+use Rattle.pc_deriv.specs.Limits.{derivation_limit}
 use Rattle.pc_refusals.specs.After.After.{stops}
-use Rattle.pc_refusals.specs.Derivation.{DerivationStage, Deriving, derivation_limit}
+use Rattle.pc_refusals.specs.Derivation.{DerivationStage, Deriving}
 use Rattle.pc_refusals.specs.Named.{file_at}
 use Rattle.pc_refusals.specs.Source.Length.{is_longer}
 use Rattle.pc_refusals.proofs.Parts.{not_read, whole_ends}

@@ -1,5 +1,6 @@
-use Rattle.pc_refusals.specs.Derivation.{derivation_limit, judge_line}
-use Rattle.pc_refusals.specs.Lines.{longer_line}
+use Rattle.pc_deriv.specs.Limits.{derivation_limit}
+use Rattle.pc_refusals.specs.Derivation.{judge_line}
+use Rattle.pc_refusal_lines.specs.Lines.{longer_line}
 use Rattle.pc_refusals.proofs.Judged.{refused_by}
 use Rattle.pc_refusals.proofs.derivation.refuse_derivation.Goals as goal
 

@@ -1,9 +1,0 @@
--- Lines that name a byte of a file.
-use Rattle.std.specs.Prelude.{ℕ, take}
-use Rattle.pc_lists.specs.Texts.{Text}
-use Rattle.pc_refusals.specs.Lines.{place_line}
-use Rattle.pc_refusals.specs.Place.{line_behind, column_behind}
-
--- The line that names the byte at an offset, and what is wrong there.
-abbrev pub offset_line : Text → Text → ℕ → Text → Text
-offset_line name bytes at what = place_line name (line_behind (take at bytes)) (column_behind (take at bytes)) what
