@@ -6,7 +6,7 @@ use Rattle.pc_args.specs.Asked.{Asked, command_of}
 use Rattle.pc_io.specs.Change.{Change}
 use Rattle.pc_refusals.specs.Inner.Answering.{AnswersText, CommandStops, EndsCommand, Puts}
 use Rattle.pc_refusals.specs.Inner.Refusals.{IsRefusal}
-use Rattle.pc_refusals.specs.Lines.{usage_line}
+use Rattle.pc_refusal_lines.specs.Lines.{usage_line}
 use Rattle.pc_refusals.specs.Named.{Files}
 use Rattle.pc_refusals.specs.declared.stop.Stop.{Stop}
 use Rattle.pc_refusals.proofs.Ending.{put_ends, stop_ends, words_stop}

@@ -2,12 +2,13 @@
 use Rattle.std.proofs.Common.{◌≡◌, List, [], ◌∷◌, Option, Some, Ok, inl, refl, sym, ap, subst}
 use Rattle.std.specs.Prelude.{IfSome, IsSome}
 use Rattle.pc_ann.specs.declared.annotation.Ann.{Ann}
+use Rattle.pc_deriv.specs.Limits.{derivation_limit}
 use Rattle.pc_deriv.specs.Text.{deriv_text}
 use Rattle.pc_deriv.specs.declared.version.Version.TheVariants as version
 use Rattle.pc_lists.specs.Texts.{Text}
 use Rattle.pc_args.specs.Asked.{Asked, judge, upgrade, command_of}
 use Rattle.pc_refusals.specs.After.After.{goes}
-use Rattle.pc_refusals.specs.Derivation.{derivation_limit, in_parts}
+use Rattle.pc_refusals.specs.Derivation.{in_parts}
 use Rattle.pc_refusals.specs.Derivation.Deriving.{reads}
 use Rattle.pc_refusals.specs.Derivation.Judging.{holds}
 use Rattle.pc_refusals.specs.FromFile.FromFile.{goes_on}

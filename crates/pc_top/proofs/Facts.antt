@@ -1,47 +1,42 @@
 -- From the result of the elaboration to the stages of a source.
-use Rattle.std.proofs.Common.{◌≡◌, ◌<◌, List, length, Ok, Err, refl, subst}
+use Rattle.std.proofs.Common.{◌≡◌, ◌<◌, length, Ok, Err, refl, subst}
 use Rattle.std.specs.Prelude.{Result}
 use Rattle.pc_core.specs.CoreData.{CoreData}
 use Rattle.pc_elab.specs.Cores.{IsFirstFault, IsSpelledFile}
 use Rattle.pc_file_spec.specs.Cores.{IsElabFault}
-use Rattle.pc_grammar.specs.SpellsFile.{SpellsFile}
 use Rattle.pc_names.specs.Names.{IsNotMemory, IsNameFault}
 use Rattle.pc_names.specs.declared.fault.NameFault.{NameFault}
 use Rattle.pc_names.specs.declared.fault.NameFault.TheVariants as names
 use Rattle.pc_text_order.specs.Laws.{TokensAscend}
-use Rattle.pc_token.specs.declared.kinds.Token.{Token}
 use Rattle.pc_tree.specs.Tree as t
 use Rattle.pc_lists.specs.Texts.{Text}
 use Rattle.pc_refusals.specs.After.After.{stops, goes}
 use Rattle.pc_refusals.specs.Inner.Refusals.{IsNameStop}
 use Rattle.pc_refusals.specs.Inner.Stages.{StageStops, StageEnds, PartStops, PartGives}
-use Rattle.pc_refusals.specs.Lines.{longer_line}
+use Rattle.pc_refusal_lines.specs.Lines.{longer_line}
 use Rattle.pc_refusals.specs.Named.{Named, longer, whole, IsReadingOf, text_as}
-use Rattle.pc_refusals.specs.Source.{Lexing, Parsing, Elaborating, CoreStage, SourceStage, source_limit}
+use Rattle.pc_refusals.specs.Source.{Elaborating, CoreStage, SourceStage, SyntaxStage, source_limit}
 use Rattle.pc_refusals.specs.Source.Length.{fits, is_longer}
 use Rattle.pc_refusals.specs.Source.Lexing.{lexed}
 use Rattle.pc_refusals.specs.Source.Parsing.{parsed}
 use Rattle.pc_refusals.specs.Source.Elaborating.{misnamed, misused}
 use Rattle.pc_refusals.specs.Source.TextStage.{has_core, has_none}
-use Rattle.pc_refusals.specs.Verdict.{refused}
+use Rattle.pc_refusals.specs.Verdict.{Verdict, refused}
 use Rattle.pc_refusals.specs.declared.stop.Stop.{Stop}
 use Rattle.pc_refusals.specs.declared.stop.Stop.TheVariants.{Refused, File, Sink, Memory}
 use Rattle.pc_refusals.proofs.Stops.{name_stops, stops_as}
 
-pub tokens_stop : (name bytes : Text) (s : Stop) → StageStops (Lexing name bytes) s → StageStops (CoreStage name bytes) s
-tokens_stop name bytes s h = stops_as (Lexing name bytes) (CoreStage name bytes) (λ v e. stops e) s h
+-- A source that has no tree has no core.
+treeless : {name bytes : Text} {v : Verdict} → SyntaxStage name bytes (Err v) → CoreStage name bytes (Err v)
+treeless (stops e) = stops e
+treeless (goes l p) = goes l (stops p)
 
--- The tree of a source that has these tokens.
-pub tree_stops : (name bytes : Text) (shown ts : List Token) (s : Stop) → shown ≡ ts → Lexing name bytes (Ok ts) → StageStops (Parsing name bytes shown) s → StageStops (CoreStage name bytes) s
-tree_stops name bytes shown ts s e l h =
-    stops_as (Parsing name bytes shown) (CoreStage name bytes) (λ v p. goes l (stops (subst (λ (xs : List Token). Parsing name bytes xs (Err v)) e p))) s h
+pub syntax_stops : (name bytes : Text) (s : Stop) → StageStops (SyntaxStage name bytes) s → StageStops (CoreStage name bytes) s
+syntax_stops name bytes s h = stops_as (SyntaxStage name bytes) (CoreStage name bytes) (λ v e. treeless e) s h
 
-pub tree_goes : {f : t.File} (name bytes : Text) (shown ts : List Token) → shown ≡ ts → Parsing name bytes shown (Ok f) → Parsing name bytes ts (Ok f)
-tree_goes {f = f} name bytes shown ts e h = subst (λ (xs : List Token). Parsing name bytes xs (Ok f)) e h
-
--- It is spelled by tokens in the order of the text.
-pub tree_spelled : (name bytes : Text) (ts shown : List Token) (f : t.File) → TokensAscend → Lexing name bytes (Ok ts) → shown ≡ ts → Parsing name bytes shown (Ok f) → IsSpelledFile f
-tree_spelled name bytes ts shown f law (lexed l) e (parsed p) = (ts, subst (SpellsFile f) e p.0, law bytes ts l.0)
+-- Its tree is spelled by tokens in the order of the text.
+pub tree_spelled : {name bytes : Text} {f : t.File} → TokensAscend → SyntaxStage name bytes (Ok f) → IsSpelledFile f
+tree_spelled {bytes = bytes} law (goes (lexed {ts = ts} l) (parsed p)) = (ts, p.0, law bytes ts l.0)
 
 -- a fault of its names, and one of its members
 pub names_stop : (name bytes : Text) (file : t.File) (f : NameFault) (s : Stop) → IsNameFault file f → IsNameStop name bytes f s → StageStops (Elaborating name bytes file) s
@@ -60,9 +55,9 @@ pub members_stop : (name bytes : Text) (file : t.File) (f : NameFault) (s : Stop
 members_stop name bytes file f s r h = name_stops (Elaborating name bytes file) name bytes f s (λ o. misused f o (member_fault file f o r)) h
 
 -- The core of a tree is that of the source, and if it is refused, so is the source.
-pub elaborating_ends : (name bytes : Text) (ts : List Token) (f : t.File) (r : Result CoreData Stop) → Lexing name bytes (Ok ts) → Parsing name bytes ts (Ok f) → StageEnds (Elaborating name bytes f) r → StageEnds (CoreStage name bytes) r
-elaborating_ends name bytes ts f (Ok core) l p h = goes l (goes p h)
-elaborating_ends name bytes ts f (Err s) l p h = stops_as (Elaborating name bytes f) (CoreStage name bytes) (λ v e. goes l (goes p e)) s h
+pub elaborating_ends : (name bytes : Text) (f : t.File) (r : Result CoreData Stop) → SyntaxStage name bytes (Ok f) → StageEnds (Elaborating name bytes f) r → StageEnds (CoreStage name bytes) r
+elaborating_ends name bytes f (Ok core) (goes l p) h = goes l (goes p h)
+elaborating_ends name bytes f (Err s) (goes l p) h = stops_as (Elaborating name bytes f) (CoreStage name bytes) (λ v e. goes l (goes p e)) s h
 
 -- The stages after the length of a source that was read whole.
 pub core_given : (file : Named) (bytes shown : Text) (core : CoreData) → IsReadingOf file source_limit (whole bytes) → shown ≡ bytes

@@ -1,8 +1,9 @@
 -- A derivation that is judged after the source was read.
 use Rattle.std.proofs.Common.{◌≡◌, ◌≤◌, ℕ, ◌+◌, Option, Ok, Err, inl, inr, refl, sym, subst}
 use Rattle.pc_ann.specs.declared.annotation.Ann.{Ann}
+use Rattle.pc_deriv.specs.Limits.{derivation_limit}
 use Rattle.pc_lists.specs.Texts.{Text}
-use Rattle.pc_refusals.specs.Derivation.{DerivationStage, Judging, derivation_limit, in_parts}
+use Rattle.pc_refusals.specs.Derivation.{DerivationStage, Judging, in_parts}
 use Rattle.pc_refusals.specs.Inner.Answering.{AnswerStops}
 use Rattle.pc_refusals.specs.Inner.Derivations.{DerivationJudged}
 use Rattle.pc_refusals.specs.Inner.Stages.{PartGives}

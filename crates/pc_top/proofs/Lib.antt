@@ -1,7 +1,7 @@
 mod Accepted
 mod Asking
 mod Begins
-mod Deriving
+pub mod Deriving
 mod DerivingRoom
 mod Ending
 mod Exact
@@ -10,11 +10,13 @@ mod Facts
 mod Failures
 mod InOrder
 mod Judging
+pub mod Neighbouring
 mod NumberRoom
 mod OneStages
 mod Premises
 mod Room
 mod Rooms
+pub mod RunEnds
 mod Shapes
 mod Verdicts
 mod Written

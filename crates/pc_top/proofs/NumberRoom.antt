@@ -9,7 +9,7 @@ use Rattle.pc_args.specs.Numbers.{Reads}
 use Rattle.pc_io.specs.Change.{Change}
 use Rattle.pc_refusals.specs.Accepting.{AcceptedStage}
 use Rattle.pc_refusals.specs.Inner.Answering.{AnswerStops, AnswersText, EndsCommand}
-use Rattle.pc_refusals.specs.Lines.{usage_line}
+use Rattle.pc_refusal_lines.specs.Lines.{usage_line}
 use Rattle.pc_refusals.specs.Named.{AllTold, Files, Named, NoneFailed, named}
 use Rattle.pc_refusals.specs.Source.{source_limit}
 use Rattle.pc_refusals.specs.Verdict.{Verdict, IsAccepting}

@@ -7,6 +7,7 @@ use Rattle.pc_core.specs.declared.declarations.Method.{Method}
 use Rattle.pc_core.specs.declared.nodes.Node.{Node}
 use Rattle.pc_core.specs.CoreData.{CoreData}
 use Rattle.pc_core.specs.Formed.{Formed}
+use Rattle.pc_deriv.specs.Limits.{derivation_limit}
 use Rattle.pc_deriv.specs.declared.fault.DerivFault.{DerivFault}
 use Rattle.pc_judge.specs.declared.faults.JudgeFault.{JudgeFault}
 use Rattle.pc_valid.specs.Valid.{NoRule, Unset}
@@ -20,11 +21,11 @@ use Rattle.pc_refusals.specs.Accepting.{AcceptedStage, Typing}
 use Rattle.pc_refusals.specs.Accepting.Typing.{typed, declared, no_rule, unset}
 use Rattle.pc_refusals.specs.After.{HasOneEnd}
 use Rattle.pc_refusals.specs.CoreFaults.{decl_offset, decl_text}
-use Rattle.pc_refusals.specs.Derivation.{Deriving, DerivationStage, Judging, judge_line, text_status, text_line, derivation_limit}
+use Rattle.pc_refusals.specs.Derivation.{Deriving, DerivationStage, Judging, judge_line, text_status, text_line}
 use Rattle.pc_refusals.specs.Derivation.Deriving.{reads, garbled}
 use Rattle.pc_refusals.specs.Derivation.Judging.{holds, fails}
 use Rattle.pc_refusals.specs.Named.{Reading}
-use Rattle.pc_refusals.specs.Refusal.{offset_line}
+use Rattle.pc_refusal_lines.specs.Refusal.{offset_line}
 use Rattle.pc_refusals.specs.Schedule.{ScheduleStage, Scheduling}
 use Rattle.pc_refusals.specs.Schedule.Scheduling.{scheduled, bad_word, too_many}
 use Rattle.pc_refusals.specs.Source.{Length, SourceStage}

@@ -2,6 +2,7 @@
 use Rattle.std.proofs.Common.{◌≡◌, ◌≤◌, ℕ, List, length, Ok, Err, inl, inr, ap, subst, arith}
 use Rattle.std.specs.Prelude.{◌⊎◌, IfSome, IsSome}
 use Rattle.pc_ann.specs.declared.annotation.Ann.{Ann}
+use Rattle.pc_deriv.specs.Limits.{derivation_limit}
 use Rattle.pc_lists.specs.Texts.{Text}
 use Rattle.pc_core.specs.CoreData.{CoreData}
 use Rattle.pc_deriv.specs.Faults.{IsText}
@@ -12,7 +13,7 @@ use Rattle.pc_sched.specs.Limits.{schedule_limit, turn_limit}
 use Rattle.pc_sched.specs.Schedules.{TurnList, total}
 use Rattle.pc_sched.specs.declared.turns.Turn.{Turn}
 use Rattle.pc_refusals.specs.Accepting.{AcceptedStage}
-use Rattle.pc_refusals.specs.Derivation.{DerivationStage, Judging, derivation_limit}
+use Rattle.pc_refusals.specs.Derivation.{DerivationStage, Judging}
 use Rattle.pc_refusals.specs.Derivation.Judging.{holds, fails}
 use Rattle.pc_refusals.specs.Named.{Named, Reading, whole, IsReadingOf}
 use Rattle.pc_refusals.specs.Schedule.{ScheduleStage}

@@ -2,6 +2,7 @@
 use Rattle.std.proofs.Common.{◌≡◌, ◌≤◌, ℕ, length, Option, Some, Ok, inl, refl, sym, ap, subst}
 use Rattle.std.specs.Prelude.{IfSome}
 use Rattle.pc_ann.specs.declared.annotation.Ann.{Ann}
+use Rattle.pc_deriv.specs.Limits.{derivation_limit}
 use Rattle.pc_lists.specs.Texts.{Text}
 use Rattle.pc_args.specs.Asked.{Asked}
 use Rattle.pc_deriv.specs.Faults.{IsText}
@@ -9,7 +10,7 @@ use Rattle.pc_deriv.specs.Text.{deriv_text}
 use Rattle.pc_deriv.specs.declared.version.Version.TheVariants as version
 use Rattle.pc_refusals.specs.Accepting.{AcceptedStage}
 use Rattle.pc_refusals.specs.After.After.{goes}
-use Rattle.pc_refusals.specs.Derivation.{derivation_limit, in_parts}
+use Rattle.pc_refusals.specs.Derivation.{in_parts}
 use Rattle.pc_refusals.specs.Derivation.Deriving.{reads}
 use Rattle.pc_refusals.specs.Derivation.Judging.{holds}
 use Rattle.pc_refusals.specs.FromFile.FromFile.{goes_on}

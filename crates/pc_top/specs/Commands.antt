@@ -5,7 +5,7 @@ use Rattle.pc_lists.specs.Texts.{Text}
 use Rattle.pc_args.specs.Asked.{Asked, check, events, explain, judge, make, outcomes, places, play, run, schedule_of, sends, show, swap, trace, upgrade}
 use Rattle.pc_args.specs.Numbers.{IsSeed, IsSize}
 use Rattle.pc_io.specs.Change.{Change}
-use Rattle.pc_refusals.specs.Lines.{usage_line}
+use Rattle.pc_refusal_lines.specs.Lines.{usage_line}
 use Rattle.pc_refusals.specs.Named.{FailedAt, Files, named}
 use Rattle.pc_refusals.specs.Verdict.{Verdict, refused}
 use Rattle.pc_top.specs.Commands.Check.{IsCheck, WritesDerivation}
@@ -59,8 +59,8 @@ IsVerdictOf files (Some (schedule_of source seed)) v = IsSchedule (named files s
 IsVerdictOf files (Some (play source seed)) v = IsPlay (named files source) seed v
 IsVerdictOf files (Some (outcomes source count)) v = IsOutcomes (named files source) count v
 
--- The file that the command could not read: its failures rose. A later file is only read if the command gets that far,
--- so before that its failures are no cause.
+-- The file that the command could not read: its failures rose. Those of a later file are a cause only if the command
+-- gets that far.
 abbrev pub FailedOf : Files → Option Asked → Text → Type 0
 FailedOf files None name = ⊥
 FailedOf files (Some (check source)) name = FailedAt (named files source) name

@@ -3,17 +3,17 @@ use Rattle.std.specs.Prelude.{ℕ, ◌≤◌, List, length}
 use Rattle.pc_core.specs.CoreData.{CoreData}
 use Rattle.pc_grammar.specs.FileAnswers.{IsFileAnswer, spelled}
 use Rattle.pc_lex.specs.Answers.{TokenList}
+use Rattle.pc_lex.specs.Limits.{bytes_limit}
 use Rattle.pc_core_relation.specs.Files.{IsCoreOf}
 use Rattle.pc_valid.specs.Valid.{Derivable}
 use Rattle.pc_semantics.specs.Safety.{Safe}
 use Rattle.pc_token.specs.declared.kinds.Token.{Token}
 use Rattle.pc_tree.specs.Tree as t
-use Rattle.pc_refusals.specs.Source.{source_limit}
 
 -- The core of a source: the one that represents the file that its tokens spell. The source, the tokens and the nesting
 -- of the file are within their limits.
 pub record CoreOf (bytes : List ℕ) (core : CoreData) : Type 0 where
-  pub short : length bytes ≤ source_limit
+  pub short : length bytes ≤ bytes_limit
   pub tokens : List Token
   pub file : t.File
   pub lexed : TokenList bytes tokens

@@ -7,7 +7,7 @@ use Rattle.pc_io.specs.Sink.{HasRisen, GrowsByPrefix}
 use Rattle.pc_refusals.specs.Answer.{Answer}
 use Rattle.pc_top.specs.Asked.{FailedIn, IsVerdict}
 use Rattle.pc_refusals.specs.Ends.{TellsPart}
-use Rattle.pc_refusals.specs.Lines.{unread_line}
+use Rattle.pc_refusal_lines.specs.Lines.{unread_line}
 use Rattle.pc_refusals.specs.Named.{Files}
 use Rattle.pc_refusals.specs.Verdict.{Verdict}
 

@@ -12,12 +12,12 @@ use Rattle.pc_top.specs.Commands.Swap.{IsPlace, WritesSwap}
 use Rattle.pc_top.specs.Commands.Trace.{WritesTrace}
 
 -- What the command of the words writes, if the bytes of its files are known: the source's derivation, `accepted`, the
--- text of the run or the printed tree; or why the source is refused; or the numbers of the program that it generates,
--- and the text of its run; or the schedule with two turns exchanged or why they keep their order, and nothing if a step
--- before them would make a text that is too long; or the accesses of the run with their clocks, and nothing if a step
--- would make a text that is too long; or the lines of who sends what, which are right about every run; or a derivation
--- in version 2 of its text; or the schedule that a seed chooses, the text of its run, or the table of the outcomes of
--- the seeds below a count.
+-- text of the run, the printed tree or the core with its places; or why the source is refused, or that it is accepted;
+-- or the numbers of the program that it generates, and the text of its run; or the schedule with two turns exchanged or
+-- why they keep their order; or the accesses or the events of the run with their clocks; or the lines of who sends what,
+-- which are right about every run; or a derivation in version 2 of its text; or the schedule that a seed chooses, the
+-- text of its run, or the table of the outcomes of the seeds below a count. `swap`, `trace` and `events` write that, or
+-- nothing.
 abbrev pub OnOut : (Text → Option Text) → List Text → Change → Type 0
 OnOut told words out = OnOutOf told (command_of words) out
 

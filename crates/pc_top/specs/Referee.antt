@@ -1,4 +1,4 @@
--- What each command asks the referee.
+-- What the referee has recorded after each command.
 use Rattle.std.specs.Prelude.{ℕ, ◌≡◌, Option, Some, IfSome}
 use Rattle.pc_core.specs.CoreData.{CoreData}
 use Rattle.pc_referee.specs.Asked.{Pairs}
@@ -20,7 +20,7 @@ abbrev pub IsNoJudge : Option Asked → Type 0
 IsNoJudge asked = (source derivation : Text) → asked ≡ Some (judge source derivation) → ⊥
 
 -- If the status of `judge` is 0, the referee was asked about each node of the source's core, in order, with its note in
--- the derivation. No other command asks it anything.
+-- the derivation. Any other command leaves the list of what it was asked unchanged.
 abbrev pub Asks : (Text → Option Text) → Option Asked → (status : ℕ) → Option Pairs → Option Pairs → Type 0
 Asks told asked status before after =
     ((source derivation : Text) → asked ≡ Some (judge source derivation) → status ≡ 0 → JudgedAll (told source) (told derivation) before after)

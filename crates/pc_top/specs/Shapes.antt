@@ -1,14 +1,15 @@
 -- What verdicts have in common: which files a command goes through before its own last part.
 use Rattle.std.specs.Prelude.{ℕ, ◌≡◌, List}
 use Rattle.pc_ann.specs.declared.annotation.Ann.{Ann}
+use Rattle.pc_deriv.specs.Limits.{derivation_limit}
 use Rattle.pc_lists.specs.Texts.{Text}
 use Rattle.pc_core.specs.CoreData.{CoreData}
 use Rattle.pc_run.specs.Spreading.{spread}
 use Rattle.pc_sched.specs.Limits.{schedule_limit}
 use Rattle.pc_refusals.specs.Accepting.{AcceptedStage}
-use Rattle.pc_refusals.specs.Derivation.{DerivationStage, Judging, derivation_limit}
+use Rattle.pc_refusals.specs.Derivation.{DerivationStage, Judging}
 use Rattle.pc_refusals.specs.FromFile.{FailedInTurn, FromFile}
-use Rattle.pc_refusals.specs.Lines.{usage_line}
+use Rattle.pc_refusal_lines.specs.Lines.{usage_line}
 use Rattle.pc_refusals.specs.Named.{FailedAt, Named}
 use Rattle.pc_refusals.specs.Schedule.{ScheduleStage}
 use Rattle.pc_refusals.specs.Source.{SourceStage, source_limit}
@@ -28,7 +29,7 @@ LastOfTurns = Text → CoreData → List ℕ → Verdict → Type 0
 abbrev pub OfTurns : LastOfTurns → Named → Accepted → Verdict → Type 0
 OfTurns Last schedule accepted = FromFile schedule schedule_limit (ScheduleStage schedule.name) (λ turns. Last schedule.name accepted.source.core (spread turns))
 
--- A source is accepted, and then a schedule is read. The schedule is not looked at if the source is refused.
+-- A source is accepted, and then a schedule is read. If the source is refused, the verdict is the same for any schedule.
 abbrev pub OfScheduled : LastOfTurns → Named → Named → Verdict → Type 0
 OfScheduled Last source schedule = OfAccepted (OfTurns Last schedule) source
 
@@ -42,8 +43,8 @@ abbrev pub OfJudged : (Ann → Text) → Named → Named → Source → Verdict 
 OfJudged text source derivation s =
     FromFile derivation derivation_limit (DerivationStage derivation.name) (λ ann. EndsAs (λ _. text ann) (Judging source.name derivation.name s ann))
 
--- A source passes its stages, and then a derivation of it is judged. The derivation is not looked at if the source is
--- refused.
+-- A source passes its stages, and then a derivation of it is judged. If the source is refused, the verdict is the same
+-- for any derivation.
 abbrev pub OfDerivation : (Ann → Text) → Named → Named → Verdict → Type 0
 OfDerivation text source derivation = FromFile source source_limit (SourceStage source.name) (OfJudged text source derivation)
 
@@ -51,12 +52,12 @@ OfDerivation text source derivation = FromFile source source_limit (SourceStage 
 abbrev pub UnreadDerivation : Named → Named → Text → Type 0
 UnreadDerivation source derivation name = FailedInTurn source source_limit (SourceStage source.name) derivation name
 
--- A number among the words: the verdict is the one for the number that its word denotes, or 2 if it denotes none. The
--- word is looked at before any file is read.
+-- A number among the words: the verdict is the one for the number that its word denotes, or 2 if it denotes none,
+-- whatever the files are.
 pub data ByNumber (Is : ℕ → Type 0) (Of : ℕ → Verdict → Type 0) (v : Verdict) : Type 0 where
   spelled : (n : ℕ) → Is n → Of n v → ByNumber Is Of v
   no_number : ((n : ℕ) → Is n → ⊥) → v ≡ refused 2 usage_line → ByNumber Is Of v
 
--- The source that could not be read, which is only read if the word denotes a number.
+-- The source that could not be read. That is a cause only if the word denotes a number.
 abbrev pub UnreadNumbered : (ℕ → Type 0) → Named → Text → Type 0
 UnreadNumbered Is source name = ((n : ℕ) × Is n) × FailedAt source name

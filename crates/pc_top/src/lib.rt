@@ -10,8 +10,10 @@
 //!   `upgraded_derivations_are_accepted`).
 //! - The core of a source is formed (`cores_of_sources_are_formed`). If it has a derivation, it is safe
 //!   (`derivable_sources_are_safe`), and its waiting messages are isolated in depth (`derivable_sources_are_isolated`).
-//! - What `sends` reports is right about every run (`tables_tell_of_every_run`), and `play` does what `run` does for
-//!   the line that `schedule` writes (`plays_are_runs`).
+//! - What `sends` reports is right about every run (`tables_tell_of_every_run`), and `play` has the status and the
+//!   output of `run` for the line that `schedule` writes (`plays_are_runs`).
+//!
+//! How the code is to be read is in `CONTRIBUTING.md` (How to read the code).
 #![tactic(auto)]
 
 mod accepting;

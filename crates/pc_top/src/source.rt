@@ -12,7 +12,7 @@ use pc_elab::elaborate;
 use pc_io::{Bytes, Files};
 use pc_names::collect;
 use pc_refusals::{
-    SOURCE_LIMIT, Source, Stop, make_longer_line, read_file, read_tokens, read_tree, refuse_name,
+    SOURCE_LIMIT, Source, Stop, make_longer_line, parse_source, read_file, refuse_name,
 };
 use pc_text_order::tokens_are_in_order;
 use pc_tree::File;
@@ -44,14 +44,13 @@ pub fn take_source(alloc: Global, name: &str, bytes: Bytes) -> Result<Source, St
     Ok(Source { bytes, core })
 }
 
-// Goes through the stages after its length.
+// Goes through the stages after its length. Its tokens are let go before its core is made.
 fn read_core(alloc: Global, name: &str, bytes: &[u8]) -> Result<Core, Stop>
     requires { length bytes.now ≤ bytes_limit }
     ensures { StageEnds (CoreStage name.now bytes.now) result }
 {
-    let tokens = read_tokens(alloc, name, bytes)?;
     tokens_are_in_order();
-    let file = read_tree(alloc, name, bytes, tokens.as_slice())?;
+    let file = parse_source(alloc, name, bytes)?;
     elaborate_tree(alloc, name, bytes, &file)
 }
 

@@ -28,15 +28,16 @@ use std::alloc::Global;
 ///
 /// The status is 0 if the command is done, with its text on out, and otherwise that of the refusal, with its line on
 /// err. It is 12 if a run or a play comes to a text that is too long, with what was printed on out and the line on err;
-/// `swap` and `trace` write nothing then. It is 8 if `trace` comes to a step that would make the 65th actor, or if the
-/// plays of `outcomes` pass a limit, and 15 if a schedule does not have two turns at the given place. It is 9 if a file
-/// of the command could not be read, 10 if out or err failed, and 11 if memory ran out.
+/// `swap`, `trace` and `events` write nothing then. It is 8 if something passes a limit, such as the bytes of a file,
+/// the plays of `outcomes`, or the actors of a run if `trace` or `events` comes to a step that would make the 65th. It
+/// is 15 if a schedule does not have two turns at the given place, 9 if a file of the command could not be read, 10 if
+/// out or err failed, and 11 if memory ran out.
 ///
-/// The following are written in one call of `put` each on out: a derivation, `accepted`, a printed tree, each printed
-/// text of a run or a play and its numbers, the first line of a generated program, the report on two turns, all
-/// accesses of a run with their clocks, the whole table of who sends what, a schedule that a seed chooses, and a table
-/// of outcomes. The line on err is one call too; after a failed call on out, nothing more is written. `judge` asks the
-/// referee about each node of the derivation.
+/// The following are written in one call of `put` each on out: a derivation, `accepted`, an explanation, a printed
+/// tree, the core with its places, each printed text of a run or a play and its numbers, the first line of a generated
+/// program, the report on two turns, all accesses or all events of a run with their clocks, the whole table of who
+/// sends what, a schedule that a seed chooses, and a table of outcomes. The line on err is one call too; after a failed
+/// call on out, nothing more is written. `judge` asks the referee about each node of the derivation.
 pub fn rcap<F: Files, O: Sink, E: Sink, R: Referee>(
     alloc: Global,
     words: &[&str],
@@ -77,12 +78,13 @@ pub fn rcap<F: Files, O: Sink, E: Sink, R: Referee>(
     // A source or a generated program that is refused with status 1 has a core, and the core has no derivation.
     ensures refused { result ≡ 1 → HasNoDerivation (F.bytes files.old) (texts words.now) }
 
-    // Depending on the command, this is on out: the derivation of the source, `accepted`, the text of the run, the
-    // printed tree, the generated program's numbers and the text of its run, the exchanged schedule, the accesses of
-    // the run, the lines of who sends what, a valid derivation in version 2 of its text, the schedule that a seed
-    // chooses, the text of its run, or the table of the outcomes of some seeds. The lines of who sends what are right
-    // about every run: over every list of actors, of any length, what an actor is about to send has its line, and no
-    // message of a method that is reported as never sent waits anywhere.
+    // Depending on the command, this is on out: the derivation of the source, `accepted`, why the source is refused,
+    // the text of the run, the printed tree, the core with its places, the generated program's numbers and the text of
+    // its run, the exchanged schedule or why it stays, the accesses or the events of the run, the lines of who sends
+    // what, a valid derivation in version 2 of its text, the schedule that a seed chooses, the text of its run, or the
+    // table of the outcomes of some seeds. Of `swap`, `trace` and `events` it is that, or nothing. The lines of who
+    // sends what are right about every run: over every list of actors, of any length, what an actor is about to send
+    // has its line, and no message of a method that is reported as never sent waits anywhere.
     ensures writes { IsAccepting result → OnOut (F.bytes files.old) (texts words.now)
         (change (O.written out.old) (O.written out.new) (O.faults out.old) (O.faults out.new)) }
 

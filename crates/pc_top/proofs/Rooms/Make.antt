@@ -10,7 +10,7 @@ use Rattle.pc_gen.specs.Schedule.{schedule}
 use Rattle.pc_io.specs.Change.{Change}
 use Rattle.pc_run.specs.Spreading.{spread}
 use Rattle.pc_semantics.specs.Text.{run_text}
-use Rattle.pc_refusals.specs.Lines.{counts_line}
+use Rattle.pc_refusal_lines.specs.Lines.{counts_line}
 use Rattle.pc_refusals.specs.Named.{Files, text_as}
 use Rattle.pc_refusals.specs.Verdict.{Verdict, IsAccepting, headed}
 use Rattle.pc_refusals.specs.declared.typing.Accepted.{Accepted}

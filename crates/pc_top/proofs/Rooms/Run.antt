@@ -1,16 +1,15 @@
 -- The room of `run`.
-use Rattle.std.proofs.Common.{◌≡◌, ℕ, List, Option, Some, inl, inr, refl, sym, ap, subst, ◌∙◌}
+use Rattle.std.proofs.Common.{◌≡◌, ℕ, List, Some, inl, inr, refl, sym, ap, subst, ◌∙◌}
 use Rattle.std.specs.Io.KnownBytes.{Appends}
-use Rattle.std.proofs.lemmas.Option.{none-some, same_Some}
+use Rattle.std.proofs.lemmas.Option.{none-some}
 use Rattle.pc_lists.specs.Texts.{Text}
 use Rattle.pc_args.specs.Asked.{run}
 use Rattle.pc_core.specs.CoreData.{CoreData}
 use Rattle.pc_run.specs.Spreading.{spread}
 use Rattle.pc_semantics.specs.Runs.{outcomes}
 use Rattle.pc_semantics.specs.Text.{end_of, run_text}
-use Rattle.pc_semantics.specs.declared.outcome.Outcome.{Outcome}
 use Rattle.pc_semantics.specs.declared.outcome.Outcome.TheVariants.{TooLong}
-use Rattle.pc_refusals.specs.Lines.{too_long_line}
+use Rattle.pc_refusal_lines.specs.Lines.{too_long_line}
 use Rattle.pc_refusals.specs.Named.{Files, named}
 use Rattle.pc_refusals.specs.Verdict.{Verdict, stopped}
 use Rattle.pc_refusals.proofs.Statuses.{IsLate}
@@ -19,6 +18,7 @@ use Rattle.pc_top.specs.Commands.Run.Ran.{whole, cut}
 use Rattle.pc_top.specs.Shapes.{OfTurns}
 use Rattle.pc_top.proofs.Begins.{begins}
 use Rattle.pc_top.proofs.Room.{Room, inferring}
+use Rattle.pc_top.proofs.RunEnds.{step_same}
 use Rattle.pc_top.proofs.Shapes.{scheduled_one, scheduled_says, turns_late}
 pub mod Ends
 
@@ -30,16 +30,12 @@ pub ran_says : {name : Text} {core : CoreData} {list : List ℕ} {v : Verdict} �
 ran_says (whole h) = refl
 ran_says (cut n h) = refl
 
--- the step that ends a run
-step_same : (n m : ℕ) (a b : Option (ℕ × Outcome)) → a ≡ Some (n, TooLong) → b ≡ Some (m, TooLong) → a ≡ b → n ≡ m
-step_same n m a b p q e = ap (λ (x : ℕ × Outcome). x.0) (same_Some (n, TooLong) (m, TooLong) (sym p ∙ (e ∙ q)))
-
 pub one_ran : (name : Text) (core : CoreData) (list : List ℕ) (v w : Verdict) → Ran name core list v → Ran name core list w → v ≡ w
 one_ran name core list _ _ (whole h) (whole k) = refl
 one_ran name core list _ _ (whole h) (cut n k) = absurd (none-some (n, TooLong) (sym h ∙ k))
 one_ran name core list _ _ (cut n h) (whole k) = absurd (none-some (n, TooLong) (sym k ∙ h))
 one_ran name core list _ _ (cut n h) (cut m k) =
-    ap (λ (x : ℕ). stopped 12 (run_text core list) (too_long_line name x)) (step_same n m (end_of (outcomes core list)) (end_of (outcomes core list)) h k refl)
+    ap (λ (x : ℕ). stopped 12 (run_text core list) (too_long_line name x)) (step_same n m (end_of (outcomes core list)) h k)
 
 pub run_room : (files : Files) (source schedule : Text) → Room files (run source schedule)
 run_room files source schedule =

@@ -21,7 +21,6 @@ use Rattle.pc_top.proofs.Premises.{Laws}
 use Rattle.pc_top.proofs.Room.{Goes, Room, inferring, two_refuses}
 use Rattle.pc_top.proofs.Rooms.Swap.One.{one_place, one_swapping}
 use Rattle.pc_top.proofs.Shapes.{scheduled_one, scheduled_says, turns_late}
-pub mod Neighbouring
 pub mod One
 pub mod Told
 

@@ -10,7 +10,7 @@ use Rattle.pc_print.specs.Printing.{printed}
 use Rattle.pc_run.specs.Spreading.{spread}
 use Rattle.pc_semantics.specs.Text.{run_text}
 use Rattle.pc_lists.specs.Texts.{Text}
-use Rattle.pc_refusals.specs.Lines.{counts_line, usage_line}
+use Rattle.pc_refusal_lines.specs.Lines.{counts_line, usage_line}
 use Rattle.pc_refusals.specs.Named.{text_as}
 use Rattle.pc_top.specs.Commands.Run.{Ran}
 use Rattle.pc_refusals.specs.Verdict.{Verdict, headed, refused}

@@ -10,7 +10,7 @@ use Rattle.pc_sched.specs.declared.turns.Turn.{Turn}
 use Rattle.pc_semantics.specs.Runs.{outcomes}
 use Rattle.pc_semantics.specs.Text.{end_of, run_text}
 use Rattle.pc_semantics.specs.declared.outcome.Outcome.TheVariants.{TooLong}
-use Rattle.pc_refusals.specs.Lines.{too_long_line}
+use Rattle.pc_refusal_lines.specs.Lines.{too_long_line}
 use Rattle.pc_refusals.specs.Named.{Named}
 use Rattle.pc_refusals.specs.Verdict.{Verdict, done, stopped}
 use Rattle.pc_top.specs.CoreOf.{CoreOf}

@@ -16,7 +16,7 @@ use Rattle.pc_swap.specs.Swapping.{Exchanged}
 use Rattle.pc_swap.specs.declared.kept.Kept.{Kept}
 use Rattle.pc_swap.specs.declared.kept.Kept.TheVariants as kept
 use Rattle.pc_lists.specs.Texts.{Text, line_end}
-use Rattle.pc_refusals.specs.Lines.{no_place_line, too_long_line, usage_line}
+use Rattle.pc_refusal_lines.specs.Lines.{no_place_line, too_long_line, usage_line}
 use Rattle.pc_refusals.specs.Named.{Named}
 use Rattle.pc_refusals.specs.Verdict.{EndsWith, Verdict, refused}
 use Rattle.pc_top.specs.CoreOf.{CoreOf}
@@ -68,7 +68,7 @@ pub data IsSwap (source schedule : Named) (place : Text) (v : Verdict) : Type 0 
   placed : (n : ℕ) → IsPlace place n → IsSwapAt source schedule n v → IsSwap source schedule place v
   no_number : ((n : ℕ) → IsPlace place n → ⊥) → v ≡ refused 2 usage_line → IsSwap source schedule place v
 
--- The file that could not be read, which is only read if the word denotes a place.
+-- The file that could not be read. That is a cause only if the word denotes a place.
 abbrev pub UnreadSwap : Named → Named → Text → Text → Type 0
 UnreadSwap source schedule place name = ((n : ℕ) × IsPlace place n) × UnreadScheduled source schedule name
 

@@ -10,7 +10,7 @@ use Rattle.pc_trace.specs.Traces.{AllTouches, RanOn, TooLongAt, TooManyAt, Verdi
 use Rattle.pc_trace.specs.declared.touch.Touch.{Touch}
 use Rattle.pc_trace.specs.declared.touch.Verdict.TheVariants.{Ordered}
 use Rattle.pc_lists.specs.Texts.{Text, line_end}
-use Rattle.pc_refusals.specs.Lines.{many_actors_line, too_long_line}
+use Rattle.pc_refusal_lines.specs.Lines.{many_actors_line, too_long_line}
 use Rattle.pc_refusals.specs.Named.{Named}
 use Rattle.pc_refusals.specs.Verdict.{EndsWith, Verdict, refused}
 use Rattle.pc_top.specs.CoreOf.{CoreOf}

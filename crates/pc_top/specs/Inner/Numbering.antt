@@ -4,7 +4,7 @@ use Rattle.pc_lists.specs.Texts.{Text}
 use Rattle.pc_refusals.specs.Accepting.{AcceptedStage}
 use Rattle.pc_refusals.specs.Inner.Refusals.{IsRefusal}
 use Rattle.pc_refusals.specs.Inner.Stages.{PartGives, PartStops}
-use Rattle.pc_refusals.specs.Lines.{usage_line}
+use Rattle.pc_refusal_lines.specs.Lines.{usage_line}
 use Rattle.pc_refusals.specs.Named.{Files, named}
 use Rattle.pc_refusals.specs.Source.{source_limit}
 use Rattle.pc_refusals.specs.declared.stop.Stop.{Stop}

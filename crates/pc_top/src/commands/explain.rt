@@ -1,29 +1,31 @@
 //! `explain SRC`.
 ghost use Rattle.std.specs.Prelude.{◌≡◌, ◌≤◌, IfErr, IfOk, length};
 ghost use Rattle.pc_core_relation.specs.Files.{IsCoreOf};
+ghost use Rattle.pc_check.specs.Faults.{RefusesCore};
 ghost use Rattle.pc_elab.specs.Cores.{IsSpelledFile};
-ghost use Rattle.pc_lex.specs.Answers.{TokenList};
 ghost use Rattle.pc_lex.specs.Limits.{bytes_limit};
 ghost use Rattle.pc_lists.specs.Texts.{Text};
 ghost use Rattle.pc_names.specs.Names.{IsNotMemory};
+ghost use Rattle.pc_places.specs.Text.{HasTokens};
 ghost use Rattle.pc_refusals.specs.Inner.Answering.{AnswersText};
 ghost use Rattle.pc_refusals.specs.Inner.Stages.{StageEnds};
 ghost use Rattle.pc_refusals.specs.Named.{FailedAt, files_change, named, whole};
 ghost use Rattle.pc_tree.specs.View.{file_view};
 ghost use Rattle.pc_top.specs.Commands.Explain as spec;
-ghost use Rattle.pc_top.specs.Commands.Explain.{CoreText, ExplainedStage, Explaining, IsExplain, IsFileFault};
+ghost use Rattle.pc_top.specs.Commands.Explain.{ExplainedStage, Explaining, IsExplain, IsFileFault};
+ghost use Rattle.pc_top.specs.Inner.Explaining.{TellsCore};
 
 use pc_caps::List;
-use pc_check::check;
+use pc_check::{CheckFault, check};
 use pc_core::Core;
 use pc_elab::elaborate;
 use pc_explain::explain_core;
 use pc_explain_names::explain_names;
 use pc_io::Files;
 use pc_names::{NameFault, collect};
-use pc_refusals::{SOURCE_LIMIT, Stop, read_file, read_tokens, read_tree, refuse_name};
+use pc_places::tokens_of;
+use pc_refusals::{SOURCE_LIMIT, Stop, parse_source, read_file, refuse_name};
 use pc_text_order::tokens_are_in_order;
-use pc_token::Token;
 use pc_tree::File;
 use std::alloc::{AllocError, Global};
 
@@ -68,37 +70,49 @@ fn explain_fault(
     Ok(explain_names(alloc, name, bytes, file, fault)?)
 }
 
-// The text for a core: that it is accepted, or why it has no derivation.
-fn write_core(
+// Why a core has no derivation. The tokens of its source are read again, so that none are kept while the core is made
+// and checked.
+fn explain_refused(
     alloc: Global,
     name: &str,
     bytes: &[u8],
-    tokens: &[Token],
     core: &Core,
+    fault: &CheckFault,
 ) -> Result<List<u8>, AllocError>
-    ensures { IfOk result (CoreText name.now bytes.now tokens.now core.now) }
+    requires short { length bytes.now ≤ bytes_limit }
+    requires lexed { HasTokens bytes.now }
+    requires refused { RefusesCore core.now fault.now }
+    ensures { IfOk result (TellsCore name.now bytes.now core.now) }
+{
+    let tokens = tokens_of(alloc, bytes)?;
+    explain_core(alloc, name, bytes, tokens.as_slice(), core, fault)
+}
+
+// The text for a core: that it is accepted, or why it has no derivation.
+fn write_core(alloc: Global, name: &str, bytes: &[u8], core: &Core) -> Result<List<u8>, AllocError>
+    requires short { length bytes.now ≤ bytes_limit }
+    requires lexed { HasTokens bytes.now }
+    ensures { IfOk result (TellsCore name.now bytes.now core.now) }
 {
     match check(alloc, core) {
         Ok(_) => List::from_slice(alloc, b"accepted\n"),
-        Err(fault) => explain_core(alloc, name, bytes, tokens, core, &fault),
+        Err(fault) => explain_refused(alloc, name, bytes, core, &fault),
     }
 }
 
-// The text for the source with this name, these bytes, these tokens and this tree.
-fn explain_tree(
-    alloc: Global,
-    name: &str,
-    bytes: &[u8],
-    tokens: &[Token],
-    file: &File,
-) -> Result<List<u8>, Stop>
-    requires lexed { TokenList bytes.now tokens.now }
-    requires spelled { IsSpelledFile (file_view file.now) }
-    ensures { StageEnds (Explaining name.now bytes.now (file_view file.now)) result }
+// The text for the source with this name, these bytes and this tree.
+fn explain_tree(alloc: Global, name: &str, bytes: &[u8], file: File) -> Result<List<u8>, Stop>
+    requires short { length bytes.now ≤ bytes_limit }
+    requires lexed { HasTokens bytes.now }
+    requires spelled { IsSpelledFile (file_view file) }
+    ensures { StageEnds (Explaining name.now bytes.now (file_view file)) result }
 {
-    match core_of(alloc, file) {
-        Ok(core) => Ok(write_core(alloc, name, bytes, tokens, &core)?),
-        Err(fault) => explain_fault(alloc, name, bytes, file, fault),
+    match core_of(alloc, &file) {
+        Ok(core) => {
+            drop(file);
+            Ok(write_core(alloc, name, bytes, &core)?)
+        }
+        Err(fault) => explain_fault(alloc, name, bytes, &file, fault),
     }
 }
 
@@ -107,10 +121,9 @@ fn explain_bytes(alloc: Global, name: &str, bytes: &[u8]) -> Result<List<u8>, St
     requires { length bytes.now ≤ bytes_limit }
     ensures { StageEnds (ExplainedStage name.now (whole bytes.now)) result }
 {
-    let tokens = read_tokens(alloc, name, bytes)?;
     tokens_are_in_order();
-    let file = read_tree(alloc, name, bytes, tokens.as_slice())?;
-    explain_tree(alloc, name, bytes, tokens.as_slice(), &file)
+    let file = parse_source(alloc, name, bytes)?;
+    explain_tree(alloc, name, bytes, file)
 }
 
 /// Explains what `check` reports about the source with this name: returns `accepted`, or the line of its refusal, with

@@ -39,6 +39,7 @@ fn accept_made(alloc: Global, seed: u64, size: u32) -> Result<Accepted, Stop>
 {
     let file = make(alloc, seed, size)?;
     let text = print(alloc, &file)?;
+    drop(file);
     accept_text(alloc, NAME, Bytes::from_vec(text.into_vec()))
 }
 

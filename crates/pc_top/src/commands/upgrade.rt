@@ -29,6 +29,7 @@ pub fn upgrade_derivation<F: Files>(
     let read = read_source(alloc, files, source)?;
     let ann = read_derivation(alloc, files, derivation)?;
     judge_annotation(alloc, source, derivation, &read, &ann)?;
+    drop(read);
     let text = write2(alloc, &ann)?;
     Ok(text)
 }

@@ -13,13 +13,14 @@ use Rattle.pc_semantics.specs.Runs.{outcomes}
 use Rattle.pc_semantics.specs.Text.{end_of}
 use Rattle.pc_semantics.specs.declared.outcome.Outcome.TheVariants as outcome
 use Rattle.pc_refusals.specs.After.{HasOneEnd}
-use Rattle.pc_refusals.specs.Lines.{many_actors_line, too_long_line}
+use Rattle.pc_refusal_lines.specs.Lines.{many_actors_line, too_long_line}
 use Rattle.pc_refusals.specs.Verdict.{refused}
 use Rattle.pc_top.specs.Commands.Events.{EventsTelling}
 use Rattle.pc_top.specs.Commands.Events.EventsTelling.{tells, too_long, too_many}
 use Rattle.pc_top.proofs.InOrder.{less_apart, order_one}
 use Rattle.pc_top.proofs.Rooms.Trace.Crowding.{one_crowd}
-use Rattle.pc_top.proofs.Rooms.Trace.One.{crowd_apart, one_clock, step_same}
+use Rattle.pc_top.proofs.RunEnds.{step_same}
+use Rattle.pc_top.proofs.Rooms.Trace.One.{crowd_apart, one_clock}
 
 with_deed : ℕ → ℕ → Deed → List ℕ → RunEvent
 with_deed p i d c = record { place = p; actor = i; deed = d; clock = c }
@@ -63,7 +64,7 @@ module _ (core : CoreData) (list : List ℕ) where
   one_telling name _ _ (tells xs x h e) (too_long n k) = absurd (none-some (n, outcome.TooLong) (sym h.0.goes_on ∙ k.0))
   one_telling name _ _ (tells xs x h e) (too_many n k) = absurd (crowd_apart core list n k h.0.few)
   one_telling name _ _ (too_long n h) (tells ys y k f) = absurd (none-some (n, outcome.TooLong) (sym k.0.goes_on ∙ h.0))
-  one_telling name _ _ (too_long n h) (too_long m k) = ap (λ (x : ℕ). Err (refused 12 (too_long_line name x))) (step_same core list n m (end_of (outcomes core list)) h.0 k.0)
+  one_telling name _ _ (too_long n h) (too_long m k) = ap (λ (x : ℕ). Err (refused 12 (too_long_line name x))) (step_same n m (end_of (outcomes core list)) h.0 k.0)
   one_telling name _ _ (too_long n h) (too_many m k) = absurd (crowd_apart core list m k h.1)
   one_telling name _ _ (too_many n h) (tells ys y k f) = absurd (crowd_apart core list n h k.0.few)
   one_telling name _ _ (too_many n h) (too_long m k) = absurd (crowd_apart core list n h k.1)

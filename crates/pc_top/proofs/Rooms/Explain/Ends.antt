@@ -1,22 +1,21 @@
 -- From the results of the parts of `explain` to how it ends.
-use Rattle.std.proofs.Common.{◌≡◌, ◌≤◌, List, length, Ok, Err, inr, true, false, refl, ap, subst}
+use Rattle.std.proofs.Common.{◌≡◌, ◌≤◌, length, Ok, Err, inr, true, false, refl, ap, subst}
 use Rattle.std.specs.Prelude.{IfErr, Result}
 use Rattle.pc_elab.specs.Cores.{IsFirstFault}
 use Rattle.pc_explain_names.specs.Names.{names_text}
-use Rattle.pc_lex.specs.Answers.{TokenList}
 use Rattle.pc_lists.specs.Texts.{Text}
 use Rattle.pc_names.specs.Names.{IsNotMemory}
 use Rattle.pc_names.specs.declared.fault.NameFault.{NameFault}
-use Rattle.pc_token.specs.declared.kinds.Token.{Token}
+use Rattle.pc_places.specs.Text.{HasTokens}
 use Rattle.pc_tree.specs.Tree as t
-use Rattle.pc_refusals.specs.After.After.{goes, stops}
+use Rattle.pc_refusals.specs.After.After.{goes}
 use Rattle.pc_refusals.specs.FromFile.FromFile.{goes_on, refuses}
 use Rattle.pc_refusals.specs.Inner.Answering.{AnswersText}
 use Rattle.pc_refusals.specs.Inner.Refusals.{IsNameStop}
 use Rattle.pc_refusals.specs.Inner.Stages.{StageEnds, StageStops}
 use Rattle.pc_refusals.specs.NameFaults.{name_line, name_status}
 use Rattle.pc_refusals.specs.Named.{FailedAt, IsReadingOf, Named, whole}
-use Rattle.pc_refusals.specs.Source.{Lexing, Parsing, source_limit}
+use Rattle.pc_refusals.specs.Source.{SyntaxStage, source_limit}
 use Rattle.pc_refusals.specs.Source.Length.{fits}
 use Rattle.pc_refusals.specs.Source.Lexing.{lexed}
 use Rattle.pc_refusals.specs.Verdict.{Verdict, refused}
@@ -59,22 +58,16 @@ module _ (name bytes : Text) (file : t.File) (f : NameFault) (of : IsNotMemory f
 
 -- ---- a source that was read
 
-pub lexed_list : {name bytes : Text} {ts : List Token} → Lexing name bytes (Ok ts) → TokenList bytes ts
-lexed_list (lexed l) = l
+pub syntax_tokens : {name bytes : Text} {file : t.File} → SyntaxStage name bytes (Ok file) → HasTokens bytes
+syntax_tokens (goes (lexed {ts = ts} l) p) = (ts, l)
 
 module _ (name bytes : Text) (short : length bytes ≤ source_limit) where
-  pub tokens_stop : (s : Stop) → StageStops (Lexing name bytes) s → StageStops (ExplainedStage name (whole bytes)) s
-  tokens_stop s h = stops_as (Lexing name bytes) (ExplainedStage name (whole bytes)) (λ v e. has_none (goes (fits short) (stops e))) s h
+  pub syntax_stops : (s : Stop) → StageStops (SyntaxStage name bytes) s → StageStops (ExplainedStage name (whole bytes)) s
+  syntax_stops s h = stops_as (SyntaxStage name bytes) (ExplainedStage name (whole bytes)) (λ v e. has_none (goes (fits short) e)) s h
 
-  module _ (ts shown : List Token) (same : shown ≡ ts) (l : Lexing name bytes (Ok ts)) where
-    pub tree_stops : (s : Stop) → StageStops (Parsing name bytes shown) s → StageStops (ExplainedStage name (whole bytes)) s
-    tree_stops s h =
-        stops_as (Parsing name bytes shown) (ExplainedStage name (whole bytes)) (λ v p. has_none (goes (fits short) (goes l (subst (λ (xs : List Token). Parsing name bytes xs (Err v)) same p)))) s h
-
-    pub tree_ends : (file : t.File) (r : Result Text Stop) → Parsing name bytes shown (Ok file) → StageEnds (Explaining name bytes file) r → StageEnds (ExplainedStage name (whole bytes)) r
-    tree_ends file (Ok text) p h = has_tree (goes (fits short) (goes l (subst (λ (xs : List Token). Parsing name bytes xs (Ok file)) same p))) h
-    tree_ends file (Err s) p h =
-        stops_as (Explaining name bytes file) (ExplainedStage name (whole bytes)) (λ v e. has_tree (goes (fits short) (goes l (subst (λ (xs : List Token). Parsing name bytes xs (Ok file)) same p))) e) s h
+  pub tree_ends : (file : t.File) (r : Result Text Stop) → SyntaxStage name bytes (Ok file) → StageEnds (Explaining name bytes file) r → StageEnds (ExplainedStage name (whole bytes)) r
+  tree_ends file (Ok text) p h = has_tree (goes (fits short) p) h
+  tree_ends file (Err s) p h = stops_as (Explaining name bytes file) (ExplainedStage name (whole bytes)) (λ v e. has_tree (goes (fits short) p) e) s h
 
 -- ---- the command
 

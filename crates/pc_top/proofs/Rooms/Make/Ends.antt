@@ -21,7 +21,7 @@ use Rattle.pc_refusals.specs.Verdict.{Verdict, headed}
 use Rattle.pc_refusals.specs.declared.typing.Accepted.{Accepted}
 use Rattle.pc_refusals.specs.declared.stop.Stop.{Stop}
 use Rattle.pc_refusals.specs.declared.stop.Stop.TheVariants.{Refused, File, Sink, Memory}
-use Rattle.pc_top.proofs.Rooms.Run.Ends.{has_verdict}
+use Rattle.pc_top.proofs.RunEnds.{has_verdict}
 
 -- a text that is in no file is read without a failure
 pub never_failed : (name text n : Text) → FailedAt (text_as name text) n → ⊥

@@ -38,7 +38,7 @@ use Rattle.pc_top.specs.Shapes.ByNumber.{spelled}
 use Rattle.pc_top.proofs.Accepted.{source_whole}
 use Rattle.pc_top.proofs.Deriving.{accepted_lacks_nothing, accepted_source, source_says}
 use Rattle.pc_top.proofs.NumberRoom.{numbered_says}
-use Rattle.pc_top.proofs.Rooms.Run.Ends.{has_verdict}
+use Rattle.pc_top.proofs.RunEnds.{has_verdict}
 
 -- ---- two runs of one list
 

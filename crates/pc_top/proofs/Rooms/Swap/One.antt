@@ -1,12 +1,11 @@
 -- Any two verdicts on an exchange are equal.
-use Rattle.std.proofs.Common.{◌≡◌, ℕ, List, Option, Some, None, Ok, Err, refl, sym, ap, ◌∙◌, subst, arith}
-use Rattle.std.proofs.lemmas.Option.{none-some, same_Some}
+use Rattle.std.proofs.Common.{◌≡◌, ℕ, List, Some, None, Ok, Err, refl, sym, ap, ◌∙◌, subst, arith}
+use Rattle.std.proofs.lemmas.Option.{none-some}
 use Rattle.pc_core.specs.CoreData.{CoreData}
 use Rattle.pc_sched_lines.specs.Lines.{IsLine, LinesAreOne}
 use Rattle.pc_semantics.specs.Configurations.{Configuration}
 use Rattle.pc_semantics.specs.Runs.{after, outcomes}
 use Rattle.pc_semantics.specs.Text.{end_of}
-use Rattle.pc_semantics.specs.declared.outcome.Outcome.{Outcome}
 use Rattle.pc_semantics.specs.declared.outcome.Outcome.TheVariants as outcome
 use Rattle.pc_swap.specs.Kept.{IsKept}
 use Rattle.pc_swap.specs.Laws.{KeptAreNotApart}
@@ -14,12 +13,13 @@ use Rattle.pc_swap.specs.declared.kept.Kept.{Kept}
 use Rattle.pc_swap.specs.declared.kept.Kept.TheVariants.{SameActor, NotMoved, OneMailbox, BothSpawn}
 use Rattle.pc_lists.specs.Texts.{Text}
 use Rattle.pc_refusals.specs.After.{HasOneEnd}
-use Rattle.pc_refusals.specs.Lines.{too_long_line}
+use Rattle.pc_refusal_lines.specs.Lines.{too_long_line}
 use Rattle.pc_top.specs.Commands.Swap.{IsPlace, Neighbours, SwapText, Swapping, kept_line}
 use Rattle.pc_top.specs.Commands.Swap.SwapText.{exchanged, stay}
 use Rattle.pc_top.specs.Commands.Swap.Swapping.{tells, no_place, too_long}
 use Rattle.pc_refusals.specs.Verdict.{refused}
-use Rattle.pc_top.proofs.Rooms.Swap.Neighbouring.{neighbours_one, stands_within}
+use Rattle.pc_top.proofs.Neighbouring.{neighbours_one, stands_within}
+use Rattle.pc_top.proofs.RunEnds.{step_same}
 
 -- The first part that fails is one.
 one_reason : (core : CoreData) (c : Configuration) (i j : ℕ) (r s : Kept) → IsKept core c i j r → IsKept core c i j s → r ≡ s
@@ -39,10 +39,6 @@ one_reason core c i j BothSpawn SameActor a b = absurd (a.0 b)
 one_reason core c i j BothSpawn NotMoved a b = absurd (b.1 a.1)
 one_reason core c i j BothSpawn OneMailbox a b = absurd (a.2 b.2)
 one_reason core c i j BothSpawn BothSpawn a b = refl
-
--- the step before them that ends the run
-step_same : (n m : ℕ) (end : Option (ℕ × Outcome)) → end ≡ Some (n, outcome.TooLong) → end ≡ Some (m, outcome.TooLong) → n ≡ m
-step_same n m end p q = ap (λ (x : ℕ × Outcome). x.0) (same_Some (n, outcome.TooLong) (m, outcome.TooLong) (sym p ∙ q))
 
 goes_on : {core : CoreData} {t : Neighbours} {text : Text} → SwapText core t text → end_of (outcomes core t.front) ≡ None
 goes_on (exchanged new e l) = e.goes_on

@@ -9,12 +9,12 @@ use Rattle.pc_swap.specs.declared.kept.Kept.{Kept}
 use Rattle.pc_swap.specs.declared.kept.SwapFault.{SwapFault}
 use Rattle.pc_swap.specs.declared.kept.SwapFault.TheVariants as fault
 use Rattle.pc_lists.specs.Texts.{Text}
-use Rattle.pc_refusals.specs.Lines.{too_long_line}
+use Rattle.pc_refusal_lines.specs.Lines.{too_long_line}
 use Rattle.pc_refusals.specs.Verdict.{refused}
 use Rattle.pc_top.specs.Commands.Swap.{Neighbours, StandAt, Swapping, kept_line}
 use Rattle.pc_top.specs.Commands.Swap.SwapText.{exchanged, stay}
 use Rattle.pc_top.specs.Commands.Swap.Swapping.{tells, too_long}
-use Rattle.pc_top.proofs.Rooms.Swap.Neighbouring.{length_exchanged, turns_at}
+use Rattle.pc_top.proofs.Neighbouring.{length_exchanged, turns_at}
 
 module _ (name : Text) (core : CoreData) (list : List ℕ) (place : ℕ) (some : 1 ≤ place) (within : place < length list) where
   -- the result of the exchange, whatever turns are there

@@ -1,5 +1,5 @@
 -- Any two verdicts on a trace are equal: there is only one list of the accesses of a run.
-use Rattle.std.proofs.Common.{◌≡◌, ◌≤◌, ◌<◌, ℕ, suc, List, [], ◌∷◌, length, Option, Some, Ok, Err, refl, sym, ap, ap₂, ◌∙◌, subst, arith}
+use Rattle.std.proofs.Common.{◌≡◌, ◌≤◌, ◌<◌, ℕ, suc, List, [], ◌∷◌, length, Some, Ok, Err, refl, sym, ap, ap₂, ◌∙◌, subst, arith}
 use Rattle.std.specs.Prelude.{slice_get}
 use Rattle.std.proofs.lemmas.Option.{none-some, same_Some}
 use Rattle.pc_events.specs.Before.{at_place}
@@ -10,18 +10,18 @@ use Rattle.pc_semantics.specs.Runs.{after, outcomes}
 use Rattle.pc_semantics.specs.Safety.{access}
 use Rattle.pc_semantics.specs.Text.{end_of}
 use Rattle.pc_semantics.specs.declared.access.Access.{Access}
-use Rattle.pc_semantics.specs.declared.outcome.Outcome.{Outcome}
 use Rattle.pc_semantics.specs.declared.outcome.Outcome.TheVariants as outcome
 use Rattle.pc_trace.specs.Traces.{AllTouches, TooManyAt, TouchAt, actor_limit}
 use Rattle.pc_trace.specs.declared.touch.Touch.{Touch}
 use Rattle.pc_lists.specs.Texts.{Text}
 use Rattle.pc_refusals.specs.After.{HasOneEnd}
-use Rattle.pc_refusals.specs.Lines.{many_actors_line, too_long_line}
+use Rattle.pc_refusal_lines.specs.Lines.{many_actors_line, too_long_line}
 use Rattle.pc_top.specs.Commands.Trace.{Tracing, trace_text}
 use Rattle.pc_top.specs.Commands.Trace.Tracing.{tells, too_long, too_many}
 use Rattle.pc_refusals.specs.Verdict.{refused}
 use Rattle.pc_top.proofs.Rooms.Trace.Crowding.{crowded, one_crowd}
 use Rattle.pc_top.proofs.InOrder.{less_apart, order_one}
+use Rattle.pc_top.proofs.RunEnds.{step_same}
 
 -- ---- clocks
 
@@ -90,9 +90,6 @@ module _ (core : CoreData) (list : List ℕ) where
   one_list xs ys a b = order_one (λ (t u : Touch). t.place < u.place) apart xs ys a.order b.order (within xs ys a b) (within ys xs b a)
 
   -- ---- the verdict
-
-  pub step_same : (n m : ℕ) (end : Option (ℕ × Outcome)) → end ≡ Some (n, outcome.TooLong) → end ≡ Some (m, outcome.TooLong) → n ≡ m
-  step_same n m end p q = ap (λ (x : ℕ × Outcome). x.0) (same_Some (n, outcome.TooLong) (m, outcome.TooLong) (sym p ∙ q))
 
   pub crowd_apart : (n : ℕ) → TooManyAt core list n → length (after core list).actors ≤ actor_limit → ⊥
   crowd_apart n m few = let many = crowded core list n m in omega (arith, many, few)

@@ -3,7 +3,7 @@ use Rattle.std.proofs.Common.{◌≡◌, ℕ, List, Err, sym, subst}
 use Rattle.pc_core.specs.CoreData.{CoreData}
 use Rattle.pc_trace.specs.Traces.{TooLongAt, TooManyAt}
 use Rattle.pc_lists.specs.Texts.{Text}
-use Rattle.pc_refusals.specs.Lines.{many_actors_line, too_long_line}
+use Rattle.pc_refusal_lines.specs.Lines.{many_actors_line, too_long_line}
 use Rattle.pc_refusals.specs.Verdict.{refused}
 use Rattle.pc_top.specs.Commands.Trace.{Tracing}
 use Rattle.pc_top.specs.Commands.Trace.Tracing.{too_long, too_many}

@@ -16,8 +16,8 @@ returns-in_err-accepted-clause-answers g c =
     let files = files_change (g.F.Files.bytes c.args.files.now) (g.F.Files.faults c.args.files.now) (g.F.Files.faults c.accept_source.new.files) (g.F.Files.taken c.accept_source.new.files) in
     rw (p.1, p.2) (part_stops source_limit (AcceptedStage s) Derived (FailedAt (named files s)) (named files s) _ (λ n f. f) c.in_err-accepted.ensures.stage)
 
-pub write-requires : goal.write-requires
-write-requires g c =
+pub write_derivation-requires : goal.write_derivation-requires
+write_derivation-requires g c =
     let s = accepted_source c.in_ok-accepted.ensures.stage.2 in
     let small = (source_formed c.cores_of_sources_are_formed.ensures s.0).1 in
     small_notes c.in_ok-accepted.accepted.source.core c.in_ok-accepted.accepted.ann small s.1

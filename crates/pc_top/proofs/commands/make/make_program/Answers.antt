@@ -1,6 +1,6 @@
 use Rattle.std.proofs.Common.{refl}
 use Rattle.pc_io.specs.Change.{change}
-use Rattle.pc_refusals.specs.Lines.{usage_line}
+use Rattle.pc_refusal_lines.specs.Lines.{usage_line}
 use Rattle.pc_refusals.proofs.Ending.{ends_by, stop_ends, words_stop}
 use Rattle.pc_top.specs.Commands.Make.{IsMade, IsMake}
 use Rattle.pc_top.specs.Commands.Make.IsMake.{made, no_numbers}

@@ -9,7 +9,7 @@ use Rattle.pc_sched.specs.declared.turns.Turn.{Turn}
 use Rattle.pc_lists.specs.Texts.{Text}
 use Rattle.pc_refusals.specs.Accepting.{AcceptedStage}
 use Rattle.pc_refusals.specs.Inner.Answering.{EndsCommand}
-use Rattle.pc_refusals.specs.Lines.{counts_line}
+use Rattle.pc_refusal_lines.specs.Lines.{counts_line}
 use Rattle.pc_top.specs.Commands.Make.{IsMade, MadeRun, made_line, made_name, made_text}
 use Rattle.pc_refusals.specs.Named.{text_as}
 use Rattle.pc_top.specs.Commands.Run.{Ran}
