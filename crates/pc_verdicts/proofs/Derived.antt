@@ -16,8 +16,9 @@ use Rattle.pc_refusals.specs.Source.{source_limit}
 use Rattle.pc_refusals.specs.Verdict.{done}
 use Rattle.pc_refusals.specs.declared.typing.Accepted.{Accepted}
 use Rattle.pc_top.specs.Commands.Check.{Derived, IsCheck}
+use Rattle.pc_top.specs.CoresFormed.{CoresAreFormed}
+use Rattle.pc_top.proofs.Deriving.{accepted_source, small_notes, source_formed}
 use Rattle.pc_verdicts.proofs.Fitting.{NotesFit, SlotsAreSmall}
-use Rattle.pc_verdicts.proofs.Forming.{SourcesAreFormed, accepted_source, small_notes, source_formed}
 use Rattle.pc_verdicts.proofs.Shapes.{accepted_answers}
 use Rattle.pc_verdicts.proofs.Stages.{Answers, ReadOn}
 use Rattle.pc_verdicts.proofs.Typed.{Checked, checked, fails, is_valid, left, stopped}
@@ -29,7 +30,7 @@ valid_fits core ann formed v (fails f e) = absurd (none_with_fault core f formed
 valid_fits core ann formed v (stopped a n m h) = absurd (none_without_rule core a n formed h.0 (ann, v))
 valid_fits core ann formed v (left a m h) = absurd (none_with_unset core a m formed h.0 (ann, v))
 
-derived : SourcesAreFormed → {name : Text} {r : Reading} (a : Accepted) → AcceptedStage name r (Ok a) → Answers (Derived a)
+derived : CoresAreFormed → {name : Text} {r : Reading} (a : Accepted) → AcceptedStage name r (Ok a) → Answers (Derived a)
 derived law a h =
     let s = accepted_source h in
     let formed = source_formed law s.0 in
@@ -39,5 +40,5 @@ derived law a h =
       (text, record { version = version.One; slots = fits.0; notes = fits.1; within = small_notes a.source.core a.ann formed.1 s.1; same = refl }, refl, refl),
     )
 
-pub check_answers : SourcesAreFormed → (source : Named) → ReadOn source_limit source → IsSome source.told → Answers (IsCheck source)
+pub check_answers : CoresAreFormed → (source : Named) → ReadOn source_limit source → IsSome source.told → Answers (IsCheck source)
 check_answers law source on told = accepted_answers law Derived source on told (λ r a h. derived law a h)

@@ -27,7 +27,7 @@ use Rattle.pc_tree.specs.Tree as t
 use Rattle.pc_refusals.specs.LexFaults.{fault_line, fault_status}
 use Rattle.pc_refusals.specs.NameFaults.{name_line, name_status}
 use Rattle.pc_refusals.specs.Named.{Reading}
-use Rattle.pc_refusals.specs.Refusal.{offset_line}
+use Rattle.pc_refusal_lines.specs.Refusal.{offset_line}
 use Rattle.pc_refusals.specs.Source.{CoreStage, Elaborating, FileStage, Length, Lexing, Parsing, SourceStage, SyntaxStage, TextStage, TreeStage, source_limit}
 use Rattle.pc_refusals.specs.Source.Elaborating.{elaborated, misnamed, misused}
 use Rattle.pc_refusals.specs.Source.Lexing.{faulty, lexed}

@@ -119,10 +119,6 @@ slots_set [] i v f s = tt
 slots_set (x ∷ ss) zero v f s = (s, f.1)
 slots_set (x ∷ ss) (suc i) v f s = (f.0, slots_set ss i v f.1 s)
 
-pub notes_push : (ns : List Note) (t : Note) → NotesFit ns → NoteFits t → NotesFit (ns ++ t ∷ [])
-notes_push [] t f s = (s, tt)
-notes_push (x ∷ ns) t f s = (f.0, notes_push ns t f.1 s)
-
 after_fits : (t : Note) → NoteFits t → BothFit (masks_after t)
 after_fits t f = f.1.1
 

@@ -1,8 +1,8 @@
 -- An annotation is valid or has a first fault.
 use Rattle.std.proofs.Common.{◌≡◌, ◌⊎◌, ◌<◌, ◌+◌, ℕ, zero, suc, Bool, true, false, length, Option, Some, None, Ok, Err, inl, inr, refl, sym, ap, ◌∙◌, subst, arith}
 use Rattle.std.specs.Prelude.{slice_get}
-use Rattle.std.proofs.lemmas.Bool.{cases_eq, cases_lt}
-use Rattle.std.proofs.lemmas.Option.{none-some, same_Some}
+use Rattle.std.proofs.lemmas.Bool.{cases_eq}
+use Rattle.std.proofs.lemmas.Option.{get_or_from_slice_get, none-some, same_Some}
 use Rattle.pc_ann.specs.declared.annotation.Ann.{Ann}
 use Rattle.pc_ann.specs.declared.annotation.Note.{Note}
 use Rattle.pc_caps.specs.declared.capability.Cap.{Cap}
@@ -12,6 +12,7 @@ use Rattle.pc_core.specs.declared.nodes.Node.{Node}
 use Rattle.pc_core.specs.declared.nodes.Slot.{Slot}
 use Rattle.pc_judge.proofs.AtNode.{fails_set, passes}
 use Rattle.pc_judge.proofs.Exact.{before_all, before_next}
+use Rattle.pc_judge.proofs.Kept.{KeptBefore, kept_all, kept_next}
 use Rattle.pc_judge.specs.Computed.{leaves_unset}
 use Rattle.pc_judge.specs.Faults as spec
 use Rattle.pc_judge.specs.declared.faults.JudgeFault.{JudgeFault}
@@ -66,9 +67,6 @@ module _ (core : CoreData) (ann : Ann) (formed : Formed core) where
 
   -- ---- slots
 
-  abbrev KeptBefore : ℕ → Type 0
-  KeptBefore k = (j : ℕ) (y : Slot) → j < k → slice_get core.slots j ≡ Some y → spec.KeepsType ann j y
-
   keeps : (k : ℕ) (y : Slot) (o : Option (ℕ × Cap)) → y.written ≡ o → Told (spec.KeepsType ann k y)
   keeps k y None e = inl (λ ty is. absurd (none-some ty (sym e ∙ is)))
   keeps k y (Some ty) e = elim (same_option same_type (slice_get ann.slots k) (Some ty)) [
@@ -76,16 +74,13 @@ module _ (core : CoreData) (ann : Ann) (formed : Formed core) where
     | inr d ↦ inr (λ h. d (h ty e))
   ]
 
-  kept_more : (k : ℕ) (y : Slot) → slice_get core.slots k ≡ Some y → KeptBefore k → spec.KeepsType ann k y → KeptBefore (k + 1)
-  kept_more k y g kept right j z l e = elim (cases_lt j k) [
-    | inl less ↦ kept j z less e
-    | inr at ↦ let same : k ≡ j = omega (arith, l, at) in
-        let it : y ≡ z = same_Some y z (sym g ∙ ap (slice_get core.slots) same ∙ e) in
-        subst (λ (w : Slot). spec.KeepsType ann j w) it (subst (λ i. spec.KeepsType ann i y) same right)
-  ]
+  kept_more : (k : ℕ) (y : Slot) → slice_get core.slots k ≡ Some y → KeptBefore core ann k → spec.KeepsType ann k y → KeptBefore core ann (k + 1)
+  kept_more k y g kept right =
+      let same = get_or_from_slice_get core.slots k y y g in
+      kept_next core ann core.slots k k y refl (get_below core.slots k y g) refl kept (subst (λ (z : Slot). spec.KeepsType ann k z) (sym same) right)
 
-  slots_told : (rest k : ℕ) → k + rest ≡ length core.slots → KeptBefore k → KeepsWritten core ann ⊎ ((j : ℕ) × spec.FirstWrong core ann j)
-  slots_told zero k count kept = inl (λ j y e. let l = get_below core.slots j y e in kept j y (omega (arith, l, count)) e)
+  slots_told : (rest k : ℕ) → k + rest ≡ length core.slots → KeptBefore core ann k → KeepsWritten core ann ⊎ ((j : ℕ) × spec.FirstWrong core ann j)
+  slots_told zero k count kept = inl (kept_all core ann core.slots k refl (omega (arith, count)) kept)
   slots_told (suc rest) k count kept =
       let y = get_within core.slots k (omega (arith, count)) in
       elim (keeps k y.0 y.0.written refl) [

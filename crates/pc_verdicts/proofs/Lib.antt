@@ -7,16 +7,12 @@ pub mod Typed
 pub mod Same
 pub mod Judged
 pub mod Numbers
-pub mod Forming
-pub mod Spelling
 pub mod Runs
 pub mod Shapes
 pub mod Sources
 pub mod Derived
 pub mod Running
-pub mod Telling
 pub mod Swapping
-pub mod Entries
 pub mod Tabled
 pub mod Deciding
 pub mod Chains

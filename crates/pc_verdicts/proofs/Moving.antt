@@ -3,9 +3,10 @@ use Rattle.std.proofs.Common.{◌≡◌, ◌<◌, ◌+◌, ℕ, List, [], ◌∷
 use Rattle.std.specs.Prelude.{Result}
 use Rattle.pc_args.specs.Asked.{Asked, check, events, explain, judge, make, outcomes, places, play, run, schedule_of, sends, show, swap, trace, upgrade, command_of}
 use Rattle.pc_args.specs.Numbers.{IsSeed}
+use Rattle.pc_deriv.specs.Limits.{derivation_limit}
 use Rattle.pc_lists.specs.Texts.{Text}
 use Rattle.pc_refusals.specs.Accepting.{AcceptedStage}
-use Rattle.pc_refusals.specs.Derivation.{derivation_limit, in_parts}
+use Rattle.pc_refusals.specs.Derivation.{in_parts}
 use Rattle.pc_refusals.specs.FromFile.{FromFile}
 use Rattle.pc_refusals.specs.FromFile.FromFile.{goes_on, refuses}
 use Rattle.pc_refusals.specs.Named.{FailedAt, Files, Named, NoneFailed, Reading, IsReading, longer, named, whole}

@@ -5,7 +5,7 @@ use Rattle.std.specs.Str.Parse.{AllDigits, digits_value}
 use Rattle.std.proofs.lemmas.Bool.{cases_lt}
 use Rattle.pc_args.specs.Numbers.{IsNumber, IsSeed, IsSize}
 use Rattle.pc_lists.specs.Texts.{Text}
-use Rattle.pc_refusals.specs.Lines.{usage_line}
+use Rattle.pc_refusal_lines.specs.Lines.{usage_line}
 use Rattle.pc_refusals.specs.Verdict.{Verdict, refused}
 use Rattle.pc_top.specs.Commands.Outcomes.{IsCount, seeds_limit}
 use Rattle.pc_top.specs.Commands.Swap.{IsPlace}

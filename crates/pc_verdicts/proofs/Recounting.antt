@@ -1,6 +1,6 @@
 -- `events` has a verdict.
 use Rattle.std.proofs.Common.{◌≡◌, ◌⊎◌, ℕ, zero, suc, List, [], ◌∷◌, ◌++◌, length, Option, Some, None, Ok, Err, inl, inr, refl, sym, ap, ◌∙◌, subst, arith, append-nil}
-use Rattle.std.specs.Prelude.{IsSome, slice_get}
+use Rattle.std.specs.Prelude.{IsSome}
 use Rattle.std.proofs.lemmas.Option.{none-some}
 use Rattle.pc_core.specs.CoreData.{CoreData}
 use Rattle.pc_core.specs.Formed.{Formed}
@@ -8,73 +8,41 @@ use Rattle.pc_events.proofs.Boxes.{Boxes}
 use Rattle.pc_events.proofs.Events.{one_actor}
 use Rattle.pc_events.proofs.Order.{earlier_comes_before}
 use Rattle.pc_events.proofs.Totals.{moving}
-use Rattle.pc_events.specs.Before.{Carries, Event, at_place, waiting_for, waiting_of}
+use Rattle.pc_events.specs.Before.{Carries, Event, at_place, waiting_for}
 use Rattle.pc_events.specs.Clock.{Clocks}
-use Rattle.pc_lists.specs.Options.{◌>>=◌}
 use Rattle.pc_lists.specs.Texts.{Text}
 use Rattle.pc_regions.specs.Laws.{ValidIsSafe}
 use Rattle.pc_run.specs.Spreading.{spread}
-use Rattle.pc_run_events.proofs.Access.{IsTask, access_is_task}
+use Rattle.pc_run_events.proofs.Access.{IsTask}
 use Rattle.pc_run_events.proofs.Effects.{Effects, NoneMade, OneMade, effects_at}
 use Rattle.pc_run_events.proofs.Naming.{all_named}
-use Rattle.pc_run_events.specs.Events.{AllEvents, Does, EventAt, SentAt, method_waiting, touches_in, touches_with}
+use Rattle.pc_run_events.proofs.Recording.{first_waits, none_of, nothing_done, touches_push}
+use Rattle.pc_run_events.specs.Events.{AllEvents, Does, EventAt, SentAt, touches_in, touches_with}
 use Rattle.pc_run_events.specs.Lines.{events_text_of_run}
 use Rattle.pc_run_events.specs.declared.events.Deed.{Deed}
 use Rattle.pc_run_events.specs.declared.events.Deed.TheVariants as deed
 use Rattle.pc_run_events.specs.declared.events.RunEvent.{RunEvent}
 use Rattle.pc_sched.specs.Limits.{schedule_limit}
 use Rattle.pc_semantics.specs.Ahead.{ahead_of}
-use Rattle.pc_semantics.specs.Configurations.{Configuration}
 use Rattle.pc_semantics.specs.Safety.{Safe, access}
 use Rattle.pc_semantics.specs.declared.access.Access.{Access}
-use Rattle.pc_semantics.specs.declared.actors.Actor.{Actor}
 use Rattle.pc_semantics.specs.declared.ahead.Ahead.{Ahead}
 use Rattle.pc_semantics.specs.declared.ahead.Ahead.TheVariants as ahead
-use Rattle.pc_semantics.specs.declared.mailbox.Message.{Message}
 use Rattle.pc_trace.specs.declared.touch.Touch.{Touch}
-use Rattle.pc_refusals.specs.Lines.{many_actors_line, too_long_line}
+use Rattle.pc_refusal_lines.specs.Lines.{many_actors_line, too_long_line}
 use Rattle.pc_refusals.specs.Named.{Named}
 use Rattle.pc_refusals.specs.Source.{source_limit}
 use Rattle.pc_refusals.specs.Verdict.{EndsWith, refused}
 use Rattle.pc_top.specs.Commands.Events.{IsEvents, EventsTelling}
 use Rattle.pc_top.specs.Commands.Events.EventsTelling.{tells, too_long, too_many}
+use Rattle.pc_top.specs.CoresFormed.{CoresAreFormed}
+use Rattle.pc_top.proofs.Deriving.{accepted_core_safe, accepted_source, source_formed}
 use Rattle.pc_verdicts.proofs.Clocks.{carries_told, clocks_are_there, event_at, event_below}
 use Rattle.pc_verdicts.proofs.Deciding.{some_told}
-use Rattle.pc_verdicts.proofs.Forming.{SourcesAreFormed, accepted_core_safe, accepted_source, source_formed}
 use Rattle.pc_verdicts.proofs.Placing.{Listed, listed_more, listed_none, listed_rest}
 use Rattle.pc_verdicts.proofs.Shapes.{scheduled_answers}
 use Rattle.pc_verdicts.proofs.Stages.{Answers, HasEnd, ReadOn, ends_answer}
 use Rattle.pc_verdicts.proofs.Tracing.{Noted, RunEnd, all_noted, long, many, note_touch, ran, run_end, skip_touch, unaccessed}
-
--- ---- the accesses among events
-
-with_more : (t : RunEvent) (d : Deed) (a b : List Touch) → touches_with t d (a ++ b) ≡ touches_with t d a ++ b
-with_more t (deed.Touch x) a b = refl
-with_more t (deed.Take m sent) a b = refl
-with_more t (deed.Send r m) a b = refl
-with_more t (deed.Make n m) a b = refl
-with_more t (deed.New q e) a b = refl
-
-touches_push : (ts : List RunEvent) (t : RunEvent) → touches_in (ts ++ t ∷ []) ≡ touches_in ts ++ touches_with t t.deed []
-touches_push [] t = refl
-touches_push (u ∷ us) t = ap (touches_with u u.deed) (touches_push us t) ∙ with_more u u.deed (touches_in us) (touches_with t t.deed [])
-
--- ---- the message that waits first
-
-first_of : (ms : List Message) (k : ℕ) → length ms ≡ suc k → (m : ℕ) × ((slice_get ms 0 >>= (λ x. Some x.method)) ≡ Some m)
-first_of [] k e = absurd (omega (arith, e))
-first_of (m ∷ ms) k e = (m.method, refl)
-
-first_method : (o : Option Actor) (k : ℕ) → waiting_of o ≡ suc k → (m : ℕ) × ((o >>= (λ x. slice_get x.mailbox 0 >>= (λ y. Some y.method))) ≡ Some m)
-first_method None k e = absurd (omega (arith, e))
-first_method (Some a) k e = first_of a.mailbox k e
-
-first_waits : (c : Configuration) (a k : ℕ) → waiting_for c a ≡ suc k → (m : ℕ) × (method_waiting c a 0 ≡ Some m)
-first_waits c a k e = first_method (slice_get c.actors a) k e
-
-untaken : (h : Ahead) → (IsTask h → ⊥) → (core : CoreData) (c : Configuration) (i : ℕ) → ahead_of core c i ≡ h → (o : Option Access) → access core c i ≡ o → o ≡ None
-untaken h apart core c i is None e = refl
-untaken h apart core c i is (Some x) e = absurd (apart (subst IsTask is (access_is_task core c i x e)))
 
 module _ (core : CoreData) (list : List ℕ) where
   abbrev place_of : RunEvent → ℕ
@@ -115,19 +83,11 @@ module _ (core : CoreData) (list : List ℕ) where
         let d = deed.Touch x in
         (events ++ event_of (deed.Touch x) ∷ [], (recorded (deed.Touch x) a, subst (λ (l : List Touch). Noted core list (suc n) l) (sym (touches_push events (event_of (deed.Touch x)))) (note_touch core list n (touches_in events) h.1 i e x a clock c)))
 
-    -- Nothing is done.
-    idle : ahead_of core (at_place core list n) i ≡ ahead.Task → access core (at_place core list n) i ≡ None → NoneMade (at_place core list n) (at_place core list (suc n)) → (j : ℕ) (d : Deed) → j ≡ i → Does core list n j d → ⊥
-    idle is none unmade j (deed.Take m sent) same does = let bad : ahead.Take ≡ ahead.Task = sym does.0 ∙ ap (λ k. ahead_of core (at_place core list n) k) same ∙ is in cc bad
-    idle is none unmade j (deed.Send r m) same does = let bad : ahead.Send r ≡ ahead.Task = sym does.0 ∙ ap (λ k. ahead_of core (at_place core list n) k) same ∙ is in cc bad
-    idle is none unmade j (deed.Make a m) same does = let bad : ahead.Spawn ≡ ahead.Task = sym does.0 ∙ ap (λ k. ahead_of core (at_place core list n) k) same ∙ is in cc bad
-    idle is none unmade j (deed.New a m) same does = unmade.1 a m does.1
-    idle is none unmade j (deed.Touch x) same does = none-some x (sym none ∙ subst (λ k. access core (at_place core list n) k ≡ Some x) same does)
-
     rests : ahead_of core (at_place core list n) i ≡ ahead.Task → access core (at_place core list n) i ≡ None → NoneMade (at_place core list n) (at_place core list (suc n)) → (more : List RunEvent) × Recorded (suc n) more
     rests is none unmade = (
       events,
       (
-        listed_rest place_of (EventAt core list) Done n events h.0 (λ w. idle is none unmade w.0 w.1 (one_actor core list n w.0 i w.2 e) w.3),
+        listed_rest place_of (EventAt core list) Done n events h.0 (λ w. nothing_done core list n i is none unmade w.1 (subst (λ k. Does core list n k w.1) (one_actor core list n w.0 i w.2 e) w.3)),
         skip_touch core list n (touches_in events) h.1 (unaccessed core list n i e none),
       ),
     )
@@ -139,7 +99,7 @@ module _ (core : CoreData) (list : List ℕ) where
     by_task is (inr one) None a = quiet (deed.New one.address one.entity) (is, one.made) refl a
 
     free : (k : Ahead) → (IsTask k → ⊥) → ahead_of core (at_place core list n) i ≡ k → access core (at_place core list n) i ≡ None
-    free k apart is = untaken k apart core (at_place core list n) i is (access core (at_place core list n) i) refl
+    free k apart is = none_of core (at_place core list n) i k is apart (access core (at_place core list n) i) refl
 
     by_ahead : (k : Ahead) → ahead_of core (at_place core list n) i ≡ k → Boxes (at_place core list n) (at_place core list (suc n)) i k
         → Effects core (at_place core list n) (at_place core list (suc n)) i k → (more : List RunEvent) × Recorded (suc n) more
@@ -190,7 +150,7 @@ module _ (core : CoreData) (list : List ℕ) where
   by_end name formed safe (long n h) = (Err (refused 12 (too_long_line name n)), too_long n h)
   by_end name formed safe (many n h) = (Err (refused 8 (many_actors_line name n)), too_many n h)
 
-pub events_answers : SourcesAreFormed → ValidIsSafe → (source schedule : Named) → ReadOn source_limit source → IsSome source.told → ReadOn schedule_limit schedule → IsSome schedule.told → Answers (IsEvents source schedule)
+pub events_answers : CoresAreFormed → ValidIsSafe → (source schedule : Named) → ReadOn source_limit source → IsSome source.told → ReadOn schedule_limit schedule → IsSome schedule.told → Answers (IsEvents source schedule)
 events_answers law safe source schedule on told also too =
     scheduled_answers law (λ name core list. EndsWith (EventsTelling name core list)) source schedule on told also too
     (λ r a h q turns g.

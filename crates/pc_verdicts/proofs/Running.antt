@@ -15,7 +15,7 @@ use Rattle.pc_run.specs.Spreading.{spread}
 use Rattle.pc_sched.specs.Limits.{schedule_limit}
 use Rattle.pc_types.specs.Laws.{AcceptedNeverLacks}
 use Rattle.pc_refusals.specs.Accepting.{AcceptedStage}
-use Rattle.pc_refusals.specs.Lines.{usage_line}
+use Rattle.pc_refusal_lines.specs.Lines.{usage_line}
 use Rattle.pc_refusals.specs.Named.{Named, Reading, text_as}
 use Rattle.pc_refusals.specs.Source.{source_limit}
 use Rattle.pc_refusals.specs.Verdict.{done, headed, refused}
@@ -26,7 +26,8 @@ use Rattle.pc_top.specs.Commands.Play.{IsPlay, Played}
 use Rattle.pc_top.specs.Commands.Run.{IsRun, Ran}
 use Rattle.pc_top.specs.Commands.Schedule.{IsChosenLine, IsSchedule, Scheduled}
 use Rattle.pc_top.specs.Shapes.{OfAccepted}
-use Rattle.pc_verdicts.proofs.Forming.{SourcesAreFormed, accepted_lacks_nothing}
+use Rattle.pc_top.specs.CoresFormed.{CoresAreFormed}
+use Rattle.pc_top.proofs.Deriving.{accepted_lacks_nothing}
 use Rattle.pc_verdicts.proofs.Numbers.{number_answers, seed_read, size_read, Read}
 use Rattle.pc_verdicts.proofs.Runs.{Small, line_is_there, ran_answers, small_steps}
 use Rattle.pc_verdicts.proofs.Shapes.{accepted_answers, scheduled_answers}
@@ -51,7 +52,7 @@ chosen_line seed core =
 
 -- ---- the commands
 
-module _ (law : SourcesAreFormed) (never : AcceptedNeverLacks) where
+module _ (law : CoresAreFormed) (never : AcceptedNeverLacks) where
   lacks_nothing : {name : Text} {r : Reading} {a : Accepted} → AcceptedStage name r (Ok a) → NeverLacks a.source.core
   lacks_nothing h = accepted_lacks_nothing law never h
 

@@ -1,5 +1,5 @@
--- A run of a program that lacks nothing ends, and the lists and lines of seeds exist.
-use Rattle.std.proofs.Common.{◌≡◌, ◌⊎◌, ◌<◌, ◌≤◌, ◌+◌, ◌^◌, ℕ, zero, suc, List, [], ◌∷◌, ◌++◌, length, replicate, Option, Some, None, inl, inr, refl, sym, ap, ◌∙◌, subst, arith}
+-- A run of a program that lacks nothing has a verdict, and a list of steps has a line.
+use Rattle.std.proofs.Common.{◌≡◌, ◌<◌, ◌≤◌, ◌^◌, ℕ, zero, suc, List, [], ◌∷◌, ◌++◌, length, replicate, inl, inr, refl, sym, ap, ◌∙◌, arith}
 use Rattle.std.specs.List.{AllByRecursion}
 use Rattle.std.proofs.lemmas.Bool.{cases_eq}
 use Rattle.pc_core.specs.CoreData.{CoreData}
@@ -10,49 +10,14 @@ use Rattle.pc_sched.specs.Limits.{turn_limit}
 use Rattle.pc_sched.specs.declared.turns.Turn.{Turn}
 use Rattle.pc_sched_lines.specs.Lines.{IsLine, line_of}
 use Rattle.pc_sched_lines.specs.Rows.{HasOtherActor, RowsOf}
-use Rattle.pc_semantics.specs.Configurations.{Configuration, start}
-use Rattle.pc_semantics.specs.Runs.{followed, outcomes, outcomes_from, run_from}
-use Rattle.pc_semantics.specs.Safety.{LacksNothing}
-use Rattle.pc_semantics.specs.Step.{step}
-use Rattle.pc_semantics.specs.Text.{end_of, ended_at, run_text, steps_of}
-use Rattle.pc_semantics.specs.declared.outcome.Outcome.{Outcome}
-use Rattle.pc_semantics.specs.declared.outcome.Outcome.TheVariants.{Lacks, Moved, Skipped, TooLong}
-use Rattle.pc_refusals.specs.Lines.{too_long_line}
-use Rattle.pc_refusals.specs.Verdict.{done, stopped}
+use Rattle.pc_sched_lines.proofs.Spelling.{is_line}
+use Rattle.pc_semantics.specs.Text.{steps_of}
 use Rattle.pc_top.specs.Commands.Run.{Ran}
-use Rattle.pc_top.specs.Commands.Run.Ran.{cut, whole}
-use Rattle.pc_verdicts.proofs.Spelling.{is_line}
+use Rattle.pc_top.proofs.RunEnds.{has_verdict}
 use Rattle.pc_verdicts.proofs.Stages.{Answers}
 
--- ---- how a run ends
-
--- No step ended it, or one that was too long.
-abbrev pub RunEnds : Option (ℕ × Outcome) → Type 0
-RunEnds o = (o ≡ None) ⊎ ((n : ℕ) × (o ≡ Some (n, TooLong)))
-
-abbrev NeverFrom : CoreData → Configuration → Type 0
-NeverFrom core c = (list : List ℕ) → LacksNothing core (run_from core c list)
-
-module _ (core : CoreData) (i : ℕ) (is : List ℕ) (n : ℕ) (c : Configuration) (never : NeverFrom core c)
-    (on : (m : ℕ) (d : Configuration) → NeverFrom core d → RunEnds (ended_at m (outcomes_from core d is))) where
-  step_ends : (r : Outcome × Configuration) → step core c i ≡ r → RunEnds (ended_at n (r.0 ∷ followed (λ next. outcomes_from core next is) [] c r))
-  step_ends (Moved, d) e = on (n + 1) d (λ list. subst (λ (r : Outcome × Configuration). LacksNothing core (followed (λ next. run_from core next list) c c r)) e (never (i ∷ list)))
-  step_ends (Skipped, d) e = on (n + 1) c never
-  step_ends (Lacks l, d) e = absurd (never [] i l (ap (λ (r : Outcome × Configuration). r.0) e))
-  step_ends (TooLong, d) e = inr (n, refl)
-
-run_ends : (core : CoreData) (list : List ℕ) (n : ℕ) (c : Configuration) → NeverFrom core c → RunEnds (ended_at n (outcomes_from core c list))
-run_ends core [] n c never = inl refl
-run_ends core (i ∷ is) n c never = step_ends core i is n c never (λ m d h. run_ends core is m d h) (step core c i) refl
-
-pub ends_so : (core : CoreData) (list : List ℕ) → NeverLacks core → RunEnds (end_of (outcomes core list))
-ends_so core list never = run_ends core list 1 (start core) never
-
 pub ran_answers : (name : Text) (core : CoreData) (list : List ℕ) → NeverLacks core → Answers (Ran name core list)
-ran_answers name core list never = elim (ends_so core list never) [
-  | inl none ↦ (done (run_text core list), whole none)
-  | inr end ↦ (stopped 12 (run_text core list) (too_long_line name end.0), cut end.0 end.1)
-]
+ran_answers name core list never = let v = has_verdict name core list never in (v.0, v.1)
 
 -- ---- a list as a line
 

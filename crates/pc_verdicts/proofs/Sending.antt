@@ -40,9 +40,10 @@ use Rattle.pc_refusals.specs.Named.{Named}
 use Rattle.pc_refusals.specs.Source.{source_limit}
 use Rattle.pc_refusals.specs.Verdict.{done}
 use Rattle.pc_top.specs.Commands.Sends.{IsSends, Sent, table_text}
+use Rattle.pc_top.specs.CoresFormed.{CoresAreFormed}
+use Rattle.pc_top.proofs.Deriving.{accepted_source, source_formed}
 use Rattle.pc_verdicts.proofs.Chains.{Led, led_more, led_told, more, one}
 use Rattle.pc_verdicts.proofs.Deciding.{at_told, both_told, either_told, false_told, filtered, is_told, least_told, less_told, not_told, some_told, true_told, turned}
-use Rattle.pc_verdicts.proofs.Forming.{SourcesAreFormed, accepted_source, source_formed}
 use Rattle.pc_verdicts.proofs.Same.{Told}
 use Rattle.pc_verdicts.proofs.Shapes.{accepted_answers}
 use Rattle.pc_verdicts.proofs.Stages.{Answers, ReadOn}
@@ -231,7 +232,7 @@ module _ (core : CoreData) (formed : Formed core) (ents : List (Option ℕ)) whe
         },
       )
 
-pub sends_answers : SourcesAreFormed → (source : Named) → ReadOn source_limit source → IsSome source.told → Answers (IsSends source)
+pub sends_answers : CoresAreFormed → (source : Named) → ReadOn source_limit source → IsSome source.told → Answers (IsSends source)
 sends_answers law source on told =
     accepted_answers law Sent source on told
     (λ r a h.

@@ -4,6 +4,7 @@ use Rattle.std.specs.Prelude.{IsSome, Result, codes}
 use Rattle.pc_ann.specs.declared.annotation.Ann.{Ann}
 use Rattle.pc_deriv.proofs.Whole.{read_whole}
 use Rattle.pc_deriv.specs.Laws.{IsRead, as_read}
+use Rattle.pc_deriv.specs.Limits.{derivation_limit}
 use Rattle.pc_deriv.specs.Lines.{ended_so, fed, nothing_taken}
 use Rattle.pc_deriv.specs.declared.line.Line.{Line}
 use Rattle.pc_deriv.specs.declared.line.LineFault.{LineFault}
@@ -16,10 +17,10 @@ use Rattle.pc_sched.specs.declared.fault.SchedFault.{SchedFault}
 use Rattle.pc_sched.specs.declared.fault.SchedFault.TheVariants.{BadWord, Memory, TooMany}
 use Rattle.pc_sched.specs.declared.turns.Turn.{Turn}
 use Rattle.pc_refusals.specs.Accepting.{AcceptedStage, Typing}
-use Rattle.pc_refusals.specs.Derivation.{DerivationStage, Deriving, Judging, derivation_limit, text_line, text_status}
+use Rattle.pc_refusals.specs.Derivation.{DerivationStage, Deriving, Judging, text_line, text_status}
 use Rattle.pc_refusals.specs.Derivation.Deriving.{garbled, reads}
 use Rattle.pc_refusals.specs.Named.{Named, Reading}
-use Rattle.pc_refusals.specs.Refusal.{offset_line}
+use Rattle.pc_refusal_lines.specs.Refusal.{offset_line}
 use Rattle.pc_refusals.specs.Schedule.{ScheduleStage, Scheduling}
 use Rattle.pc_refusals.specs.Schedule.Scheduling.{bad_word, scheduled, too_many}
 use Rattle.pc_refusals.specs.Source.{Length, SourceStage, source_limit}
@@ -27,8 +28,9 @@ use Rattle.pc_refusals.specs.Verdict.{EndsAs, Verdict, refused}
 use Rattle.pc_refusals.specs.declared.source.Source.{Source}
 use Rattle.pc_refusals.specs.declared.typing.Accepted.{Accepted}
 use Rattle.pc_top.specs.Shapes.{LastOfTurns, OfAccepted, OfDerivation, OfJudged, OfScheduled, OfTurns}
+use Rattle.pc_top.specs.CoresFormed.{CoresAreFormed}
+use Rattle.pc_top.proofs.Deriving.{source_formed}
 use Rattle.pc_verdicts.proofs.Elaborated.{source_ends}
-use Rattle.pc_verdicts.proofs.Forming.{SourcesAreFormed, source_formed}
 use Rattle.pc_verdicts.proofs.Judged.{judging_ends}
 use Rattle.pc_verdicts.proofs.Stages.{Answers, HasEnd, ReadOn, after_ends, ends_answer, file_answers, read_file}
 use Rattle.pc_verdicts.proofs.Typed.{checked, typing_ends}
@@ -60,7 +62,7 @@ derivation_ends name r h = after_ends (Length derivation_limit name r) (Deriving
 
 -- ---- the shapes
 
-module _ (law : SourcesAreFormed) where
+module _ (law : CoresAreFormed) where
   accepted_ends : (name : Text) (r : Reading) → HasEnd (Length source_limit name r) → HasEnd (AcceptedStage name r)
   accepted_ends name r h = after_ends (SourceStage name r) (Typing name) (source_ends name r h) (λ s is. typing_ends name s (checked s.core (source_formed law is).0))
 

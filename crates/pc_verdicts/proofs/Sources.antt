@@ -11,14 +11,9 @@ use Rattle.pc_places.specs.Text.{places_text}
 use Rattle.pc_print.specs.Printing.{printed}
 use Rattle.pc_token.specs.declared.kinds.Token.{Token}
 use Rattle.pc_tree.specs.Tree as t
-use Rattle.pc_refusals.specs.After.After.{goes}
-use Rattle.pc_refusals.specs.Named.{Named, Reading, whole}
+use Rattle.pc_refusals.specs.Named.{Named, Reading}
 use Rattle.pc_refusals.specs.Source.{Elaborating, FileStage, SourceStage, source_limit}
 use Rattle.pc_refusals.specs.Source.Elaborating.{elaborated, misnamed, misused}
-use Rattle.pc_refusals.specs.Source.Length.{fits}
-use Rattle.pc_refusals.specs.Source.Lexing.{lexed}
-use Rattle.pc_refusals.specs.Source.Parsing.{parsed}
-use Rattle.pc_refusals.specs.Source.TextStage.{has_core}
 use Rattle.pc_refusals.specs.Verdict.{Verdict, done}
 use Rattle.pc_refusals.specs.declared.source.Source.{Source}
 use Rattle.pc_top.specs.Commands.Explain.{CoreText, Explained, ExplainedStage, Explaining, IsExplain, fault_end}
@@ -28,8 +23,9 @@ use Rattle.pc_top.specs.Commands.Explain.Explaining.{has_core as core_explained,
 use Rattle.pc_top.specs.Commands.Judge.{accepted_text}
 use Rattle.pc_top.specs.Commands.Places.{IsPlaces, Placed}
 use Rattle.pc_top.specs.Commands.Show.{IsShow, Shown}
+use Rattle.pc_top.specs.CoresFormed.{CoresAreFormed}
+use Rattle.pc_top.proofs.Deriving.{file_says, source_says}
 use Rattle.pc_verdicts.proofs.Elaborated.{elaborating_ends, file_ends, source_ends}
-use Rattle.pc_verdicts.proofs.Forming.{SourcesAreFormed, file_says, source_formed}
 use Rattle.pc_verdicts.proofs.Stages.{Answers, HasEnd, ReadOn, file_answers, read_file}
 use Rattle.pc_verdicts.proofs.Typed.{Checked, checked, fails, is_valid, left, stopped}
 
@@ -42,14 +38,11 @@ show_answers source on told =
 
 -- ---- `places`
 
-source_tokens : {name : Text} {r : Reading} {s : Source} → SourceStage name r (Ok s) → (tokens : List Token) × TokenList s.bytes tokens
-source_tokens (goes (fits l) (has_core (goes (lexed {ts = tokens} h) k))) = (tokens, h)
-
 placed : {name : Text} {r : Reading} (s : Source) → SourceStage name r (Ok s) → Answers (Placed s)
 placed s h =
-    let tokens = source_tokens h in
-    let text = places_text s.bytes tokens.0 s.core in
-    (done text, (text, (tokens.0, tokens.1, refl), refl))
+    let core = (source_says h).1 in
+    let text = places_text s.bytes core.tokens s.core in
+    (done text, (text, (core.tokens, core.lexed, refl), refl))
 
 pub places_answers : (source : Named) → ReadOn source_limit source → IsSome source.told → Answers (IsPlaces source)
 places_answers source on told =
@@ -58,7 +51,7 @@ places_answers source on told =
 
 -- ---- `explain`
 
-module _ (law : SourcesAreFormed) where
+module _ (law : CoresAreFormed) where
   core_told : (name bytes : Text) (tokens : List Token) (core : CoreData) → Checked core → (text : Text) × CoreText name bytes tokens core text
   core_told name bytes tokens core (is_valid ann v small fit) = (accepted_text, accepted (ann, v))
   core_told name bytes tokens core (fails f e) = (_, explained (declared f e))
@@ -67,10 +60,11 @@ module _ (law : SourcesAreFormed) where
 
   tree_told : (name bytes : Text) (tokens : List Token) (file : t.File) (end : Result CoreData Verdict) → length bytes ≤ source_limit → TokenList bytes tokens → IsFileAnswer tokens (spelled file)
       → Elaborating name bytes file end → HasEnd (Explaining name bytes file)
-  tree_told name bytes tokens file _ short l p (elaborated {core = core} stands) =
-      let is : SourceStage name (whole bytes) (Ok (record { bytes = bytes; core = core })) = goes (fits short) (has_core (goes (lexed l) (goes (parsed p) (elaborated stands)))) in
-      let text = core_told name bytes tokens core (checked core (source_formed law is).0) in
-      (Ok text.0, core_explained l (made_cores_stand file core stands) text.1)
+  tree_told name bytes tokens file _ short l p (elaborated {core = core} made) =
+      let stands = made_cores_stand file core made in
+      let formed = (law bytes core (record { short = short; tokens = tokens; file = file; lexed = l; parsed = p; stands = stands })).0 in
+      let text = core_told name bytes tokens core (checked core formed) in
+      (Ok text.0, core_explained l stands text.1)
   tree_told name bytes tokens file _ short l p (misnamed f o h) = (fault_end name bytes file f, has_fault f o (inl h))
   tree_told name bytes tokens file _ short l p (misused f o h) = (fault_end name bytes file f, has_fault f o (inr h))
 

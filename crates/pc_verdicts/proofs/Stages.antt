@@ -1,5 +1,5 @@
 -- Stages that have an end, one after another.
-use Rattle.std.proofs.Common.{◌<◌, ◌≤◌, ℕ, length, Option, Some, None, Ok, Err, inl, inr, refl}
+use Rattle.std.proofs.Common.{◌<◌, ℕ, length, Option, Some, None, Ok, Err, inl, inr, refl}
 use Rattle.std.specs.Prelude.{IfSome, IsSome, Result}
 use Rattle.std.proofs.lemmas.Bool.{cases_lt, false≢true}
 use Rattle.pc_lists.specs.Texts.{Text}
@@ -7,7 +7,7 @@ use Rattle.pc_refusals.specs.After.{After}
 use Rattle.pc_refusals.specs.After.After.{stops, goes}
 use Rattle.pc_refusals.specs.FromFile.{FromFile}
 use Rattle.pc_refusals.specs.FromFile.FromFile.{refuses, goes_on}
-use Rattle.pc_refusals.specs.Lines.{longer_line}
+use Rattle.pc_refusal_lines.specs.Lines.{longer_line}
 use Rattle.pc_refusals.specs.Named.{Named, Reading, IsReading, IsReadingOf, longer, whole}
 use Rattle.pc_refusals.specs.Source.{Length}
 use Rattle.pc_refusals.specs.Source.Length.{fits, is_longer}
@@ -60,7 +60,3 @@ pub file_answers : {T : Type 0} → (file : Named) (limit : ℕ) (Stages : Readi
     → HasEnd (Stages r) → ((x : T) → Stages r (Ok x) → Answers (Last x)) → Answers (FromFile file limit Stages Last)
 file_answers file limit Stages Last r g (Ok x, h) last = let l = last x h in (l.0, goes_on r x g h l.1)
 file_answers file limit Stages Last r g (Err v, h) last = (v, refuses r g h)
-
--- the length of what was read
-pub length_says : {limit : ℕ} {name : Text} {r : Reading} {bytes : Text} → Length limit name r (Ok bytes) → length bytes ≤ limit
-length_says (fits l) = l

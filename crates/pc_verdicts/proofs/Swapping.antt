@@ -1,9 +1,8 @@
 -- `swap` has a verdict.
-use Rattle.std.proofs.Common.{◌≡◌, ◌≢◌, ◌<◌, ◌≤◌, ◌+◌, ◌-◌, ℕ, Bool, true, false, List, [], ◌∷◌, ◌++◌, length, take, drop, get_or, map, None, Ok, Err, inl, inr, refl, sym, ap, ◌∙◌, subst, arith, length-append}
+use Rattle.std.proofs.Common.{◌≡◌, ◌≢◌, ◌≤◌, ◌+◌, ◌-◌, ℕ, Bool, true, false, List, [], ◌∷◌, ◌++◌, length, map, None, Ok, Err, inl, inr, refl, sym, ap, subst, arith}
 use Rattle.std.specs.Prelude.{IsSome}
 use Rattle.std.specs.List.{AllByRecursion}
 use Rattle.std.proofs.lemmas.Bool.{cases_eq, cases_lt}
-use Rattle.std.proofs.lemmas.List.{drop_more, length-take-le, take-append-drop}
 use Rattle.pc_core.specs.CoreData.{CoreData}
 use Rattle.pc_lists.specs.Texts.{Text}
 use Rattle.pc_regions.specs.Laws.{ValidIsSafe}
@@ -18,12 +17,13 @@ use Rattle.pc_semantics.specs.Runs.{after, outcomes}
 use Rattle.pc_semantics.specs.Safety.{Safe}
 use Rattle.pc_semantics.specs.Text.{end_of}
 use Rattle.pc_swap.proofs.Orders.{steps_swap, whole_lists_swap}
+use Rattle.pc_swap.proofs.Telling.{are_apart, both_make, first_stays, second_stays, to_one}
 use Rattle.pc_swap.specs.Apart.{Apart}
 use Rattle.pc_swap.specs.Kept.{IsKept, is_moving, one_receiver, two_spawns}
 use Rattle.pc_swap.specs.declared.kept.Kept.{Kept}
 use Rattle.pc_swap.specs.declared.kept.Kept.TheVariants as kept
 use Rattle.pc_types.specs.Laws.{AcceptedNeverLacks}
-use Rattle.pc_refusals.specs.Lines.{no_place_line, too_long_line, usage_line}
+use Rattle.pc_refusal_lines.specs.Lines.{no_place_line, too_long_line, usage_line}
 use Rattle.pc_refusals.specs.Named.{Named}
 use Rattle.pc_refusals.specs.Source.{source_limit}
 use Rattle.pc_refusals.specs.Verdict.{EndsWith, refused}
@@ -32,12 +32,14 @@ use Rattle.pc_top.specs.Commands.Swap.{IsPlace, IsSwap, IsSwapAt, Neighbours, St
 use Rattle.pc_top.specs.Commands.Swap.IsSwap.{no_number, placed}
 use Rattle.pc_top.specs.Commands.Swap.SwapText.{exchanged, stay}
 use Rattle.pc_top.specs.Commands.Swap.Swapping.{no_place, tells, too_long}
-use Rattle.pc_verdicts.proofs.Forming.{SourcesAreFormed, accepted_core_safe, accepted_lacks_nothing}
+use Rattle.pc_top.specs.CoresFormed.{CoresAreFormed}
+use Rattle.pc_top.proofs.Deriving.{accepted_core_safe, accepted_lacks_nothing}
+use Rattle.pc_top.proofs.Neighbouring.{length_exchanged, turns_at}
+use Rattle.pc_top.proofs.RunEnds.{run_ends}
 use Rattle.pc_verdicts.proofs.Numbers.{Read, place_read}
-use Rattle.pc_verdicts.proofs.Runs.{Small, ends_so, line_is_there, small_append, small_steps}
+use Rattle.pc_verdicts.proofs.Runs.{Small, line_is_there, small_append, small_steps}
 use Rattle.pc_verdicts.proofs.Shapes.{scheduled_answers}
 use Rattle.pc_verdicts.proofs.Stages.{Answers, HasEnd, ReadOn, ends_answer}
-use Rattle.pc_verdicts.proofs.Telling.{are_apart, both_make, first_stays, second_stays, to_one}
 
 -- ---- the actors of a schedule have small numbers
 
@@ -104,31 +106,11 @@ module _ (core : CoreData) (safe : Safe core) (t : Neighbours) (go : end_of (out
         (two_spawns (ahead_of core (after core t.front) t.i) (ahead_of core (after core t.front) t.j)) refl refl refl refl
   ]
 
--- ---- the turns at a place
-
-turns_at : (list : List ℕ) (place : ℕ) → 1 ≤ place → place < length list → (t : Neighbours) × StandAt list place t
-turns_at list place some within =
-    let k = place - 1 in
-    let next : place ≡ k + 1 = omega (arith, some) in
-    let t : Neighbours = record { front = take k list; i = get_or list k 0; j = get_or list (k + 1) 0; rest = drop (k + 1 + 1) list } in
-    let first = drop_more list k 0 (omega (arith, within, some)) in
-    let second = drop_more list (k + 1) 0 (omega (arith, within, some)) in
-    let count : length (take k list) ≡ k = length-take-le k list (omega (arith, within, some)) in
-    (t, (sym (take-append-drop k list) ∙ ap (λ l. take k list ++ l) (first ∙ ap (λ l. get_or list k 0 ∷ l) second), next ∙ ap (λ n. n + 1) (sym count)))
-
--- The list with both exchanged is as long.
-length_exchanged : (list : List ℕ) (place : ℕ) (t : Neighbours) → StandAt list place t → length (t.front ++ t.j ∷ t.i ∷ t.rest) ≡ length list
-length_exchanged list place t at =
-    let all = ap (λ (l : List ℕ). length l) at.0 in
-    let both = length-append t.front (t.i ∷ t.j ∷ t.rest) in
-    let other = length-append t.front (t.j ∷ t.i ∷ t.rest) in
-    omega (arith, all, both, other)
-
 -- ---- the stage
 
 module _ (name : Text) (core : CoreData) (safe : Safe core) (never : NeverLacks core) (list : List ℕ) (small : AllByRecursion Small list) (few : length list ≤ turn_limit) (place : ℕ) where
   at_turns : (t : Neighbours) → StandAt list place t → HasEnd (Swapping name core list place)
-  at_turns t at = elim (ends_so core t.front never) [
+  at_turns t at = elim (run_ends core t.front never) [
     | inl go ↦ let longer = length_exchanged list place t at in
         let text = text_told core safe t go (small_exchanged t.front t.i t.j t.rest (subst (λ (l : List ℕ). AllByRecursion Small l) at.0 small)) (omega (arith, longer, few)) in
         (Ok text.0, tells t text.0 at text.1)
@@ -141,7 +123,7 @@ module _ (name : Text) (core : CoreData) (safe : Safe core) (never : NeverLacks 
     | inr past ↦ (Err (refused 15 (no_place_line name place)), no_place past)
   ]
 
-module _ (law : SourcesAreFormed) (never : AcceptedNeverLacks) (safe : ValidIsSafe) where
+module _ (law : CoresAreFormed) (never : AcceptedNeverLacks) (safe : ValidIsSafe) where
   swap_at : (source schedule : Named) (place : ℕ) → 1 ≤ place → ReadOn source_limit source → IsSome source.told → ReadOn schedule_limit schedule → IsSome schedule.told → Answers (IsSwapAt source schedule place)
   swap_at source schedule place first on told also too =
       scheduled_answers law (λ name core list. EndsWith (Swapping name core list place)) source schedule on told also too

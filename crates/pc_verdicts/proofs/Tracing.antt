@@ -31,14 +31,15 @@ use Rattle.pc_trace.proofs.Ends.{at_end, ended, outcome_at, ran_on, stops}
 use Rattle.pc_trace.proofs.Rests.{few_actors_at_start}
 use Rattle.pc_trace.specs.Traces.{AllTouches, RanOn, TooLongAt, TooManyAt, TouchAt, actor_limit}
 use Rattle.pc_trace.specs.declared.touch.Touch.{Touch}
-use Rattle.pc_refusals.specs.Lines.{many_actors_line, too_long_line}
+use Rattle.pc_refusal_lines.specs.Lines.{many_actors_line, too_long_line}
 use Rattle.pc_refusals.specs.Named.{Named}
 use Rattle.pc_refusals.specs.Source.{source_limit}
 use Rattle.pc_refusals.specs.Verdict.{EndsWith, refused}
 use Rattle.pc_top.specs.Commands.Trace.{IsTrace, Tracing, trace_text}
 use Rattle.pc_top.specs.Commands.Trace.Tracing.{tells, too_long, too_many}
+use Rattle.pc_top.specs.CoresFormed.{CoresAreFormed}
+use Rattle.pc_top.proofs.Deriving.{accepted_core_safe}
 use Rattle.pc_verdicts.proofs.Clocks.{clocks_are_there, event_at, event_below}
-use Rattle.pc_verdicts.proofs.Forming.{SourcesAreFormed, accepted_core_safe}
 use Rattle.pc_verdicts.proofs.Placing.{Listed, listed_more, listed_none, listed_rest}
 use Rattle.pc_verdicts.proofs.Shapes.{scheduled_answers}
 use Rattle.pc_verdicts.proofs.Stages.{Answers, HasEnd, ReadOn, ends_answer}
@@ -193,7 +194,7 @@ module _ (core : CoreData) (list : List ℕ) where
   tracing_ends : (name : Text) → Safe core → HasEnd (Tracing name core list)
   tracing_ends name safe = by_end name safe (run_end safe)
 
-pub trace_answers : SourcesAreFormed → ValidIsSafe → (source schedule : Named) → ReadOn source_limit source → IsSome source.told → ReadOn schedule_limit schedule → IsSome schedule.told → Answers (IsTrace source schedule)
+pub trace_answers : CoresAreFormed → ValidIsSafe → (source schedule : Named) → ReadOn source_limit source → IsSome source.told → ReadOn schedule_limit schedule → IsSome schedule.told → Answers (IsTrace source schedule)
 trace_answers law safe source schedule on told also too =
     scheduled_answers law (λ name core list. EndsWith (Tracing name core list)) source schedule on told also too
     (λ r a h q turns g. ends_answer (λ text. text) (Tracing schedule.name a.source.core (spread turns)) (tracing_ends a.source.core (spread turns) schedule.name (accepted_core_safe law safe h)))

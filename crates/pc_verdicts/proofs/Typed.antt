@@ -20,6 +20,7 @@ use Rattle.pc_core.specs.declared.nodes.Node.{Node}
 use Rattle.pc_core.specs.declared.nodes.NodeKind.{NodeKind}
 use Rattle.pc_core.specs.declared.nodes.NodeKind.TheVariants as node
 use Rattle.pc_core.specs.declared.nodes.Slot.{Slot}
+use Rattle.pc_deriv.proofs.Reached.{all_app}
 use Rattle.pc_deriv.specs.Text.{NoteFits}
 use Rattle.pc_lists.proofs.Gets.{get_below, get_map, get_within}
 use Rattle.pc_lists.specs.Texts.{Text}
@@ -39,10 +40,10 @@ use Rattle.pc_sub.specs.declared.faults.DeclFault.{DeclFault}
 use Rattle.pc_refusals.specs.Accepting.{Typing}
 use Rattle.pc_refusals.specs.Accepting.Typing.{declared, no_rule, typed, unset}
 use Rattle.pc_refusals.specs.CoreFaults.{decl_offset, decl_text}
-use Rattle.pc_refusals.specs.Refusal.{offset_line}
+use Rattle.pc_refusal_lines.specs.Refusal.{offset_line}
 use Rattle.pc_refusals.specs.Verdict.{refused}
 use Rattle.pc_refusals.specs.declared.source.Source.{Source}
-use Rattle.pc_verdicts.proofs.Fitting.{BothFit, NotesFit, SlotsAreSmall, first_slots, inferred_slots, noted_fits, notes_push, reaches_fit}
+use Rattle.pc_verdicts.proofs.Fitting.{BothFit, NotesFit, SlotsAreSmall, first_slots, inferred_slots, noted_fits, reaches_fit}
 use Rattle.pc_verdicts.proofs.Stages.{HasEnd}
 
 -- What the checker finds.
@@ -128,7 +129,7 @@ module _ (core : CoreData) (formed : Formed core) where
         (on : (c : Ann) → Walked core c (n + 1) → SlotsAreSmall c.slots → NotesFit c.notes → Checked core) where
       by_fields : (t : Note) → IsSaid core b x t → StartsFrom core b n (before t) → NoteFits t → (c : Bool) → leaves_unset core x t ≡ c → Checked core
       by_fields t meets r own true e = left (noted b t) x.method (leaves core b n x t formed ok g h.0 meets r e)
-      by_fields t meets r own false e = on (noted b t) (walked_noted core b n x t formed g h.0 meets r e) small (notes_push b.notes t fit own)
+      by_fields t meets r own false e = on (noted b t) (walked_noted core b n x t formed g h.0 meets r e) small (all_app NoteFits b.notes t fit own)
 
       by_note : (o : Option Note) → first_note core b x m (rules_for x.kind) ≡ o → Checked core
       by_note None e = stopped b n m (stops core a b n x m formed ok w g is h e)

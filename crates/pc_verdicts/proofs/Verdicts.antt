@@ -1,22 +1,23 @@
 -- Each command has a verdict.
 use Rattle.std.proofs.Common.{Option, Some, None, refl, arith}
 use Rattle.pc_args.specs.Asked.{Asked, check, events, explain, judge, make, outcomes, places, play, run, schedule_of, sends, show, swap, trace, upgrade, command_of}
+use Rattle.pc_deriv.specs.Limits.{derivation_limit}
 use Rattle.pc_deriv.specs.Text.{deriv_text}
 use Rattle.pc_deriv.specs.declared.version.Version.TheVariants as version
 use Rattle.pc_lists.specs.Texts.{Text}
 use Rattle.pc_regions.specs.Laws.{ValidIsSafe}
 use Rattle.pc_sched.specs.Limits.{schedule_limit}
 use Rattle.pc_types.specs.Laws.{AcceptedNeverLacks}
-use Rattle.pc_refusals.specs.Derivation.{derivation_limit, in_parts}
-use Rattle.pc_refusals.specs.Lines.{usage_line}
+use Rattle.pc_refusals.specs.Derivation.{in_parts}
+use Rattle.pc_refusal_lines.specs.Lines.{usage_line}
 use Rattle.pc_refusals.specs.Named.{Named, named}
 use Rattle.pc_refusals.specs.Source.{source_limit}
 use Rattle.pc_refusals.specs.Verdict.{refused}
 use Rattle.pc_top.specs.Commands.{IsVerdictOf}
 use Rattle.pc_top.specs.Commands.Judge.{accepted_text}
 use Rattle.pc_top.specs.One.{TellsOf}
+use Rattle.pc_top.specs.CoresFormed.{CoresAreFormed}
 use Rattle.pc_verdicts.proofs.Derived.{check_answers}
-use Rattle.pc_verdicts.proofs.Forming.{SourcesAreFormed}
 use Rattle.pc_verdicts.proofs.Recounting.{events_answers}
 use Rattle.pc_verdicts.proofs.Running.{make_answers, play_answers, run_answers, schedule_answers}
 use Rattle.pc_verdicts.proofs.Sending.{sends_answers}
@@ -28,7 +29,7 @@ use Rattle.pc_verdicts.proofs.Tabled.{outcomes_answers}
 use Rattle.pc_verdicts.proofs.Tracing.{trace_answers}
 use Rattle.pc_verdicts.specs.There.{ThereIsAVerdict, read_through}
 
-module _ (law : SourcesAreFormed) (never : AcceptedNeverLacks) (safe : ValidIsSafe) (told : Text → Option Text) where
+module _ (law : CoresAreFormed) (never : AcceptedNeverLacks) (safe : ValidIsSafe) (told : Text → Option Text) where
   abbrev file : Text → Named
   file name = named (read_through told) name
 
@@ -63,5 +64,5 @@ module _ (law : SourcesAreFormed) (never : AcceptedNeverLacks) (safe : ValidIsSa
   answered (Some (play source seed)) h = play_answers law never (file source) seed (source_on source) h.0
   answered (Some (outcomes source count)) h = outcomes_answers law (file source) count (source_on source) h.0
 
-pub verdict_there : SourcesAreFormed → AcceptedNeverLacks → ValidIsSafe → ThereIsAVerdict
+pub verdict_there : CoresAreFormed → AcceptedNeverLacks → ValidIsSafe → ThereIsAVerdict
 verdict_there law never safe told words h = answered law never safe told (command_of words) h

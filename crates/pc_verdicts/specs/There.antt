@@ -1,8 +1,8 @@
 -- There is a verdict on the words, whatever bytes their files have.
 use Rattle.std.specs.Prelude.{◌+◌, List, Option}
 use Rattle.pc_args.specs.Asked.{command_of}
+use Rattle.pc_deriv.specs.Limits.{derivation_limit}
 use Rattle.pc_lists.specs.Texts.{Text}
-use Rattle.pc_refusals.specs.Derivation.{derivation_limit}
 use Rattle.pc_refusals.specs.Named.{Files, files_change}
 use Rattle.pc_refusals.specs.Verdict.{Verdict}
 use Rattle.pc_top.specs.Asked.{IsVerdict}

@@ -2,10 +2,8 @@
 ghost use Rattle.pc_verdicts.specs.Free.{ElevenIsFree};
 ghost use Rattle.pc_verdicts.specs.There.{ThereIsAVerdict};
 
-use pc_elab::cores_are_formed;
 use pc_regions::valid_is_safe;
-use pc_text_order::tokens_are_in_order;
-use pc_top::verdict_is_one;
+use pc_top::{cores_of_sources_are_formed, verdict_is_one};
 use pc_types::accepted_never_lacks;
 
 /// There is a verdict on any words, whatever bytes their files have: tokens or a fault, a tree or a fault, a core or a
@@ -13,8 +11,7 @@ use pc_types::accepted_never_lacks;
 pub fn there_is_a_verdict()
     ensures { ThereIsAVerdict }
 {
-    tokens_are_in_order();
-    cores_are_formed();
+    cores_of_sources_are_formed();
     accepted_never_lacks();
     valid_is_safe();
 }
