@@ -21,7 +21,7 @@ use Rattle.pc_refusals.specs.After.After.{goes, stops}
 use Rattle.pc_refusals.specs.CoreFaults.{decl_offset, decl_text, entity_start, method_start, own_param_start, param_start}
 use Rattle.pc_refusals.specs.LexFaults.{fault_line}
 use Rattle.pc_refusals.specs.NameFaults.{many_text, name_line}
-use Rattle.pc_refusals.specs.Refusal.{offset_line}
+use Rattle.pc_refusal_lines.specs.Refusal.{offset_line}
 use Rattle.pc_refusals.specs.Source.{TreeStage, CoreStage, source_limit}
 use Rattle.pc_refusals.specs.Source.Elaborating.{elaborated, misnamed, misused}
 use Rattle.pc_refusals.specs.Source.Length.{fits}

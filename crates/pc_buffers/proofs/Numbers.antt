@@ -7,7 +7,7 @@ use Rattle.pc_deriv.proofs.NameReading.{after_sound, after_own}
 use Rattle.pc_lists.specs.Options.{◌>>=◌}
 use Rattle.pc_lists.specs.Texts.{Text}
 use Rattle.pc_lists.proofs.Options.{none_some, bind_some, bind_is}
-use Rattle.pc_refusals.specs.Place.{line_behind, column_behind}
+use Rattle.pc_refusal_lines.specs.Place.{line_behind, column_behind}
 use Rattle.pc_buffers.specs.Finding.{Finds, FindsIn}
 use Rattle.pc_buffers.specs.Fronts.{after_word, after_numbers}
 use Rattle.pc_buffers.specs.Places.{BeginsWith, place_front}

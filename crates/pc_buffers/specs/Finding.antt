@@ -1,7 +1,7 @@
 -- Where in a text a line points. Only the contracts of the parts of `find_place` use it.
 use Rattle.std.specs.Prelude.{ℕ, ◌≡◌, ◌≤◌, true, length, take, is_some, Option, Some, None}
 use Rattle.pc_lists.specs.Texts.{Text}
-use Rattle.pc_refusals.specs.Place.{line_behind, column_behind}
+use Rattle.pc_refusal_lines.specs.Place.{line_behind, column_behind}
 use Rattle.pc_buffers.specs.Ends.{Ending}
 use Rattle.pc_buffers.specs.Fronts.{after_numbers}
 use Rattle.pc_buffers.specs.Places.{PointsNowhere, PointsTo}

@@ -1,7 +1,7 @@
 -- Where a line points.
 use Rattle.std.specs.Prelude.{ℕ, ◌≡◌, ◌≤◌, ◌++◌, length, take, codes, decimal}
 use Rattle.pc_lists.specs.Texts.{Text}
-use Rattle.pc_refusals.specs.Place.{line_behind, column_behind}
+use Rattle.pc_refusal_lines.specs.Place.{line_behind, column_behind}
 use Rattle.pc_buffers.specs.Ends.{Ending}
 use Rattle.pc_buffers.specs.declared.place.Place.{Place}
 

@@ -9,6 +9,8 @@
 //! The piece is a word of a schedule, or the span at which a source is refused, which `refused_span` returns. A source
 //! has at most one such span (`spans_are_one`), and the line by which it is refused names its first byte
 //! (`lines_name_spans`).
+//!
+//! How the code is to be read is in `CONTRIBUTING.md` (How to read the code).
 #![tactic(auto)]
 
 mod answer;

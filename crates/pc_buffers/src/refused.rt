@@ -13,7 +13,7 @@ ghost use Rattle.pc_buffers.specs.Refused.{AreRefusedAt, IsCoreRefusedAt, IsFile
 ghost use Rattle.pc_buffers.specs.Spans.{IsLexSpan, IsNameSpan, IsTokenSpan, token_span};
 
 use crate::core_spans::core_span;
-use pc_caps::Span;
+use pc_caps::{List, Span};
 use pc_check::check;
 use pc_core::Core;
 use pc_elab::elaborate;
@@ -109,26 +109,32 @@ fn refused_core(alloc: Global, core: &Core) -> Result<Option<Span>, AllocError>
     }
 }
 
-// Where a file is refused.
-fn refused_file(alloc: Global, file: &File) -> Result<Option<Span>, AllocError>
-    requires { IsSpelledFile (file_view file.now) }
-    ensures { IfOk result (IsFileRefusedAt (file_view file.now)) }
+// Where a file is refused. It is let go before its core is checked.
+fn refused_file(alloc: Global, file: File) -> Result<Option<Span>, AllocError>
+    requires { IsSpelledFile (file_view file) }
+    ensures { IfOk result (IsFileRefusedAt (file_view file)) }
 {
-    match core_of(alloc, file) {
-        Ok(core) => refused_core(alloc, &core),
+    match core_of(alloc, &file) {
+        Ok(core) => {
+            drop(file);
+            refused_core(alloc, &core)
+        }
         Err(fault) => name_span(fault),
     }
 }
 
-// Where tokens in the order of a text are refused.
-fn refused_tokens(alloc: Global, tokens: &[Token]) -> Result<Option<Span>, AllocError>
-    requires ends { EndsWithEnd tokens.now }
-    requires ascend { Ascends (starts tokens.now) }
-    ensures { IfOk result (AreRefusedAt tokens.now) }
+// Where tokens in the order of a text are refused. They are let go before a core is made of their tree.
+fn refused_tokens(alloc: Global, tokens: List<Token>) -> Result<Option<Span>, AllocError>
+    requires ends { EndsWithEnd tokens }
+    requires ascend { Ascends (starts tokens) }
+    ensures { IfOk result (AreRefusedAt tokens) }
 {
-    match file(alloc, tokens) {
-        Ok(tree) => refused_file(alloc, &tree),
-        Err(fault) => fault_span(tokens, fault),
+    match file(alloc, tokens.as_slice()) {
+        Ok(tree) => {
+            drop(tokens);
+            refused_file(alloc, tree)
+        }
+        Err(fault) => fault_span(tokens.as_slice(), fault),
     }
 }
 
@@ -139,7 +145,7 @@ fn refused_text(alloc: Global, text: &[u8]) -> Result<Option<Span>, AllocError>
 {
     tokens_are_in_order();
     match lex(alloc, text) {
-        Ok(tokens) => refused_tokens(alloc, tokens.as_slice()),
+        Ok(tokens) => refused_tokens(alloc, tokens),
         Err(fault) => lex_span(text, fault),
     }
 }

@@ -2,6 +2,8 @@
 //!
 //! A slice crosses as a pointer and a length, and `Global` takes up no bytes, so C passes nothing for it. `lib/rcap.h`
 //! has the declarations, and what a caller must ensure.
+//!
+//! How the code is to be read is in `CONTRIBUTING.md` (How to read the code).
 #![tactic(auto)]
 
 ghost use Rattle.std.specs.Prelude.{◌≡◌, ◌≢◌, ◌↔◌};

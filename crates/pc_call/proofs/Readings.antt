@@ -2,9 +2,10 @@
 use Rattle.std.proofs.Common.{ℕ, Some, refl, arith}
 use Rattle.std.specs.Prelude.{◌<◌, Result, length, codes}
 use Rattle.pc_ann.specs.declared.annotation.Ann.{Ann}
+use Rattle.pc_deriv.specs.Limits.{derivation_limit}
 use Rattle.pc_lists.specs.Texts.{Text}
 use Rattle.pc_refusals.specs.Accepting.{AcceptedStage}
-use Rattle.pc_refusals.specs.Derivation.{DerivationStage, derivation_limit, in_parts}
+use Rattle.pc_refusals.specs.Derivation.{DerivationStage, in_parts}
 use Rattle.pc_refusals.specs.FromFile.{FromFile, goes_on, refuses}
 use Rattle.pc_refusals.specs.Named.{IsReadingOf, Named, Reading, longer, text_as, whole}
 use Rattle.pc_refusals.specs.Schedule.{ScheduleStage}
