@@ -7,8 +7,8 @@ use pc_core::Core;
 use pc_io::MemSink;
 use pc_play::play;
 use pc_run::{Report, RunFault};
-use pc_test_inputs::core_of;
 use pc_test_inputs::programs::{DOUBLES, HELLO};
+use pc_test_inputs::{Wrong, compared, core_of};
 use pc_types::accepted_never_lacks;
 use std::alloc::Global;
 
@@ -27,48 +27,61 @@ pub(crate) fn is_accepted(alloc: Global, core: &Core) -> bool
     }
 }
 
-// Plays an accepted program. If it is not accepted, the answer is that memory ran out.
+/// How a play ends: the steps that moved and those that were skipped, or why it was cut off.
+type PlayEnd = Result<(u64, u64), RunFault>;
+
+fn played_of(answer: Result<Report, RunFault>) -> PlayEnd {
+    let report = answer?;
+    Ok((report.moved, report.skipped))
+}
+
+// Plays an accepted program.
 fn play_program(
     alloc: Global,
     program: &[u8],
     seed: u64,
     out: &mut MemSink,
-) -> Result<Report, RunFault> {
-    match core_of(alloc, program) {
-        Some(core) => {
-            if is_accepted(alloc, &core) {
-                play(alloc, &core, seed, out)
-            } else {
-                Err(RunFault::Memory)
-            }
-        }
-        None => Err(RunFault::Memory),
+) -> Result<PlayEnd, Wrong> {
+    let core = core_of(alloc, program)?;
+    if is_accepted(alloc, &core) {
+        Ok(played_of(play(alloc, &core, seed, out)))
+    } else {
+        Err(Wrong::NotAccepted)
     }
 }
 
-// Whether the play of a seed writes this, with as many steps, or stops at a step that is too long.
-fn writes(alloc: Global, program: &[u8], seed: u64, steps: Result<u64, u32>, text: &[u8]) -> bool {
-    let Ok(mut sink) = MemSink::new(alloc, &[]) else {
-        return false;
-    };
-    let right = match (play_program(alloc, program, seed, &mut sink), steps) {
-        (Ok(report), Ok(moved)) => report.moved == moved && report.skipped == 0,
-        (Err(RunFault::TooLong(step)), Err(own)) => step == own,
-        (Ok(_), Err(_)) | (Err(_), Ok(_)) | (Err(_), Err(_)) => false,
-    };
-    right && sink.bytes() == text
+// How the play of a seed to a sink ends, if this is what is written.
+fn play_to(
+    alloc: Global,
+    program: &[u8],
+    seed: u64,
+    text: &[u8],
+    sink: &mut MemSink,
+) -> Result<PlayEnd, Wrong> {
+    let played = play_program(alloc, program, seed, sink)?;
+    compared(sink.bytes(), text)?;
+    Ok(played)
+}
+
+// The same to a sink of its own.
+fn played(alloc: Global, program: &[u8], seed: u64, text: &[u8]) -> Result<PlayEnd, Wrong> {
+    match MemSink::new(alloc, &[]) {
+        Ok(mut sink) => play_to(alloc, program, seed, text, &mut sink),
+        Err(_) => Err(Wrong::OutOfMemory),
+    }
 }
 
 #[test]
 fn a_play_writes_its_texts_and_then_its_numbers(rt: HostRuntime) {
     let text = b"hi\nsteps 11 skipped 0 actors 2 objects 3 waiting 0\n";
-    assert!(rt; writes(rt.alloc(), HELLO, 0, Ok(11), text));
-    assert!(rt; writes(rt.alloc(), HELLO, 1, Ok(11), text));
+    assert_eq!(rt; played(rt.alloc(), HELLO, 0, text), Ok(Ok((11, 0))));
+    assert_eq!(rt; played(rt.alloc(), HELLO, 1, text), Ok(Ok((11, 0))));
 }
 
 // By round robin, Main takes 64 steps, of which the 9th sends, and then the stream takes its one. The first join is
 // Main's 24th step, a round of its loop takes 12 steps, and the 12th join, its 156th step, is too long.
 #[test]
 fn a_play_ends_at_a_text_that_is_too_long(rt: HostRuntime) {
-    assert!(rt; writes(rt.alloc(), DOUBLES, 0, Err(157), b"go\n"));
+    let cut = Err(RunFault::TooLong(157));
+    assert_eq!(rt; played(rt.alloc(), DOUBLES, 0, b"go\n"), Ok(cut));
 }

@@ -186,24 +186,36 @@ fn stands(
 
 #[test]
 fn a_constructor_with_sugar(rt: HostRuntime) {
-    assert!(rt; stands(rt.alloc(), &FIRST, FIRST_TEXT, &FIRST_ROWS) == Ok((Some(16), 17)));
+    assert_eq!(rt;
+        stands(rt.alloc(), &FIRST, FIRST_TEXT, &FIRST_ROWS),
+        Ok((Some(16), 17))
+    );
 }
 
 #[test]
 fn a_choice_without_an_else(rt: HostRuntime) {
-    assert!(rt; stands(rt.alloc(), &SECOND, SECOND_TEXT, &SECOND_ROWS) == Ok((Some(21), 22)));
+    assert_eq!(rt;
+        stands(rt.alloc(), &SECOND, SECOND_TEXT, &SECOND_ROWS),
+        Ok((Some(21), 22))
+    );
 }
 
 #[test]
 fn a_recover_and_a_group(rt: HostRuntime) {
-    assert!(rt; stands(rt.alloc(), &THIRD, THIRD_TEXT, &THIRD_ROWS) == Ok((Some(19), 20)));
+    assert_eq!(rt;
+        stands(rt.alloc(), &THIRD, THIRD_TEXT, &THIRD_ROWS),
+        Ok((Some(19), 20))
+    );
 }
 
 // A text that spells nothing leaves a method without a body, and one that spells a number gives it one.
 #[test]
 fn no_body(rt: HostRuntime) {
-    assert!(rt; stands(rt.alloc(), &THIRD, b"", &[]) == Ok((None, 0)));
-    assert!(rt; stands(rt.alloc(), &THIRD, b"7", &NUMBER_ROWS) == Ok((Some(2), 3)));
+    assert_eq!(rt; stands(rt.alloc(), &THIRD, b"", &[]), Ok((None, 0)));
+    assert_eq!(rt;
+        stands(rt.alloc(), &THIRD, b"7", &NUMBER_ROWS),
+        Ok((Some(2), 3))
+    );
 }
 
 // The nodes of the added `create` after those that are there already, and the number of its body.
@@ -231,7 +243,7 @@ fn added_stands(alloc: Global) -> Result<(u32, usize), EmitStop> {
 
 #[test]
 fn an_added_constructor(rt: HostRuntime) {
-    assert!(rt; added_stands(rt.alloc()) == Ok((5, 6)));
+    assert_eq!(rt; added_stands(rt.alloc()), Ok((5, 6)));
 }
 
 // A text: its beginning, its middle, how many times the middle is repeated, and its end.
@@ -254,33 +266,28 @@ fn long_text(alloc: Global, row: Long) -> Result<Vec<u8>, AllocError> {
 // A place, and the node there.
 type Spot = (u32, Row);
 
-// Whether these nodes are at their places.
-fn stand_at(nodes: &[Node], spots: &[Spot]) -> bool {
+// The first of these places that has another node.
+fn place_of_another(nodes: &[Node], spots: &[Spot]) -> Option<u32> {
     for (place, row) in spots {
         if !is_node_at(nodes, *place, THIRD.number, row) {
-            return false;
+            return Some(*place);
         }
     }
-    true
+    None
 }
 
-// The body of a text, how many nodes there are, and whether these are among them.
-fn body_of(
-    alloc: Global,
-    text: &[u8],
-    spots: &[Spot],
-) -> Result<(Option<u32>, usize, bool), EmitStop> {
+/// A body, how many nodes there are, and the first place that has another one than it should.
+type LongBody = (Option<u32>, usize, Option<u32>);
+
+// The body of a text, in which these nodes should be.
+fn body_of(alloc: Global, text: &[u8], spots: &[Spot]) -> Result<LongBody, EmitStop> {
     let mut nodes: List<Node> = List::new(alloc);
     let body = nodes_of(alloc, &THIRD, text, &mut nodes)?;
-    Ok((body, nodes.len(), stand_at(nodes.as_slice(), spots)))
+    Ok((body, nodes.len(), place_of_another(nodes.as_slice(), spots)))
 }
 
 // The same of a long text.
-fn long_body(
-    alloc: Global,
-    row: Long,
-    spots: &[Spot],
-) -> Result<(Option<u32>, usize, bool), EmitStop> {
+fn long_body(alloc: Global, row: Long, spots: &[Spot]) -> Result<LongBody, EmitStop> {
     let text = long_text(alloc, row)?;
     body_of(alloc, &text, spots)
 }
@@ -300,12 +307,15 @@ const OPERATORS: [Spot; 8] = [
 #[test]
 fn a_long_chain_of_operators(rt: HostRuntime) {
     let body = long_body(rt.alloc(), (b"1", b"+1", 99_998, b""), &OPERATORS);
-    assert!(rt; body == Ok((Some(199_998), 199_999, true)));
+    assert_eq!(rt; body, Ok((Some(199_998), 199_999, None)));
 }
 
 #[test]
 fn a_chain_of_operators_that_is_too_long(rt: HostRuntime) {
-    assert!(rt; long_body(rt.alloc(), (b"1", b"+1", 99_999, b""), &[]) == Err(EmitStop::Full));
+    assert_eq!(rt;
+        long_body(rt.alloc(), (b"1", b"+1", 99_999, b""), &[]),
+        Err(EmitStop::Full)
+    );
 }
 
 const CALLS: [Spot; 6] = [
@@ -320,7 +330,7 @@ const CALLS: [Spot; 6] = [
 #[test]
 fn a_long_chain_of_calls(rt: HostRuntime) {
     let body = long_body(rt.alloc(), (b"1", b".m()", 49_998, b""), &CALLS);
-    assert!(rt; body == Ok((Some(50_000), 50_001, true)));
+    assert_eq!(rt; body, Ok((Some(50_000), 50_001, None)));
 }
 
 // Each arm has six nodes, except that the first has five, and the missing `else` has two.
@@ -348,7 +358,7 @@ const ARM_NODES: [Spot; 11] = [
 #[test]
 fn a_long_chain_of_arms(rt: HostRuntime) {
     let body = long_body(rt.alloc(), ARMS, &ARM_NODES);
-    assert!(rt; body == Ok((Some(180_008), 180_009, true)));
+    assert_eq!(rt; body, Ok((Some(180_008), 180_009, None)));
 }
 
 const ITEMS: [Spot; 4] = [
@@ -380,10 +390,13 @@ const SEQUENCE: Long = (b"1", b";1", 99_998, b"");
 #[test]
 fn a_long_sequence(rt: HostRuntime) {
     let body = long_body(rt.alloc(), SEQUENCE, &ITEMS);
-    assert!(rt; body == Ok((Some(100_000), 100_001, true)));
+    assert_eq!(rt; body, Ok((Some(100_000), 100_001, None)));
 }
 
 #[test]
 fn a_long_sequence_has_all_its_items(rt: HostRuntime) {
-    assert!(rt; items_of(rt.alloc(), SEQUENCE, 99_999) == Ok(Some((99_999, Some(99_998)))));
+    assert_eq!(rt;
+        items_of(rt.alloc(), SEQUENCE, 99_999),
+        Ok(Some((99_999, Some(99_998))))
+    );
 }

@@ -1,5 +1,6 @@
 //! The table of what conforms to what, which a core has once it is elaborated.
-use pc_test_inputs::core_of;
+use pc_core::Core;
+use pc_test_inputs::{Wrong, core_of};
 use std::alloc::Global;
 
 /// An interface, a class that has what it declares, one that lacks it, and `Main`: the entities 6 to 9.
@@ -14,26 +15,39 @@ const POINT: u32 = 8;
 
 const MAIN: u32 = 9;
 
-// Whether the table of the core has these answers for the entities, each asked about the interface.
-fn is_known(alloc: Global, rows: &[(u32, Option<bool>)]) -> bool {
-    let Some(core) = core_of(alloc, SHAPES) else {
-        return false;
-    };
+/// An entity, and what the table says of it and the interface.
+type Row = (u32, Option<bool>);
+
+// The first of these entities of which the table of a core says something else, and what it says.
+fn other_row(core: &Core, rows: &[Row]) -> Option<Row> {
     for (entity, known) in rows {
-        if core.known_to_conform(*entity, SHAPE) != *known {
-            return false;
+        let told = core.known_to_conform(*entity, SHAPE);
+        if told != *known {
+            return Some((*entity, told));
         }
     }
-    true
+    None
 }
+
+// The same of the core of the text.
+fn wrong_row(alloc: Global, rows: &[Row]) -> Result<Option<Row>, Wrong> {
+    let core = core_of(alloc, SHAPES)?;
+    Ok(other_row(&core, rows))
+}
+
+const ROWS: [Row; 4] = [
+    (SHAPE, Some(true)),
+    (SQUARE, Some(true)),
+    (POINT, Some(false)),
+    (MAIN, Some(false)),
+];
 
 #[test]
 fn table_says_which_entities_conform(rt: HostRuntime) {
-    assert!(rt; is_known(rt.alloc(), &[(SHAPE, Some(true)), (SQUARE, Some(true))]));
-    assert!(rt; is_known(rt.alloc(), &[(POINT, Some(false)), (MAIN, Some(false))]));
+    assert_eq!(rt; wrong_row(rt.alloc(), &ROWS), Ok(None));
 }
 
 #[test]
 fn table_says_nothing_of_an_entity_that_is_not_there(rt: HostRuntime) {
-    assert!(rt; is_known(rt.alloc(), &[(MAIN + 1, None)]));
+    assert_eq!(rt; wrong_row(rt.alloc(), &[(MAIN + 1, None)]), Ok(None));
 }

@@ -57,22 +57,43 @@ fn fault_of(answer: Answer) -> Option<BodyFault> {
     }
 }
 
-fn is_answer(alloc: Global, program: &Program, answer: Answer) -> bool {
+/// Why nothing is reported of a text.
+#[derive(Clone, Copy, Debug, PartialEq, Eq)]
+enum Untold {
+    /// It is no body.
+    NoBody,
+    /// Memory ran out.
+    OutOfMemory,
+}
+
+impl From<AllocError> for Untold {
+    fn from(_: AllocError) -> Untold {
+        Untold::OutOfMemory
+    }
+}
+
+/// The fault of a body, if it has one.
+type Told = Result<Option<BodyFault>, Untold>;
+
+fn fault_in(alloc: Global, program: &Program) -> Told {
+    if program.method.body.is_none() {
+        return Err(Untold::NoBody);
+    }
     let told = check(
         alloc,
         &program.context,
         program.fields.as_slice(),
         &program.method,
     );
-    told.err() == fault_of(answer)
+    Ok(told.err())
 }
 
-// Whether a text is a body of which this is reported.
-fn is_told(alloc: Global, of: &Written, text: &[u8], answer: Answer) -> Result<bool, AllocError> {
+// What is reported of a body.
+fn told_of(alloc: Global, of: &Written, text: &[u8]) -> Told {
     let program = program_of(alloc, &ENTITIES, of, text)?;
-    let told = program.method.body.is_some() && is_answer(alloc, &program, answer);
+    let told = fault_in(alloc, &program);
     drop(program);
-    Ok(told)
+    told
 }
 
 // A text after this many blanks.
@@ -88,19 +109,21 @@ fn placed(alloc: Global, place: u32, text: &[u8]) -> Result<Vec<u8>, AllocError>
 /// A body, and what is reported of it.
 type Row = (&'static [u8], Answer);
 
-fn row_is_told(alloc: Global, place: u32, row: &Row) -> Result<bool, AllocError> {
-    let text = placed(alloc, place, row.0)?;
-    is_told(alloc, &CREATE, &text, row.1)
+// What is reported of a body at a place.
+fn told_at(alloc: Global, place: u32, body: &[u8]) -> Told {
+    let text = placed(alloc, place, body)?;
+    told_of(alloc, &CREATE, &text)
 }
 
-// Whether the answer for each of these bodies is reported, if it is at this place.
-fn all_are_told(alloc: Global, place: u32, rows: &[Row]) -> Result<bool, AllocError> {
-    for row in rows {
-        if !row_is_told(alloc, place, row)? {
-            return Ok(false);
+// The first row with another answer if its body is at a place, and what is reported of it.
+fn wrong_row(alloc: Global, place: u32, rows: &[Row]) -> Option<(usize, Told)> {
+    for at in 0..rows.len() {
+        let told = told_at(alloc, place, rows[at].0);
+        if told != Ok(fault_of(rows[at].1)) {
+            return Some((at, told));
         }
     }
-    Ok(true)
+    None
 }
 
 // Each is at byte 20.
@@ -135,18 +158,19 @@ fn put_literal(text: &mut Vec<u8>, count: u32) -> Result<(), AllocError> {
     text.extend_from_slice(b"\"")
 }
 
-// Whether this is reported of a literal with this many bytes at byte 20.
-fn literal_is_told(alloc: Global, count: u32, answer: Answer) -> Result<bool, AllocError> {
+// What is reported of a literal with this many bytes at byte 20.
+fn told_of_literal(alloc: Global, count: u32) -> Told {
     let mut text = placed(alloc, 20, b"")?;
     put_literal(&mut text, count)?;
-    is_told(alloc, &CREATE, &text, answer)
+    told_of(alloc, &CREATE, &text)
 }
 
 #[test]
 fn expressions_have_these_faults(rt: HostRuntime) {
-    assert!(rt; all_are_told(rt.alloc(), 20, &EXPRESSIONS) == Ok(true));
-    assert!(rt; literal_is_told(rt.alloc(), 4_096, Answer::Fine) == Ok(true));
-    assert!(rt; literal_is_told(rt.alloc(), 4_097, Answer::LongText(20, 4_119)) == Ok(true));
+    assert_eq!(rt; wrong_row(rt.alloc(), 20, &EXPRESSIONS), None);
+    assert_eq!(rt; told_of_literal(rt.alloc(), 4_096), Ok(None));
+    let fault = fault_of(Answer::LongText(20, 4_119));
+    assert_eq!(rt; told_of_literal(rt.alloc(), 4_097), Ok(fault));
 }
 
 // Each is at byte 16, and so the name of the local is at byte 20.
@@ -162,7 +186,7 @@ const LOCALS: [Row; 7] = [
 
 #[test]
 fn locals_have_these_faults(rt: HostRuntime) {
-    assert!(rt; all_are_told(rt.alloc(), 16, &LOCALS) == Ok(true));
+    assert_eq!(rt; wrong_row(rt.alloc(), 16, &LOCALS), None);
 }
 
 // Each is at byte 15, and so its last part is at byte 40.
@@ -173,7 +197,7 @@ const GROUPS: [Row; 2] = [
 
 #[test]
 fn a_local_is_visible_to_the_end_of_its_sequence(rt: HostRuntime) {
-    assert!(rt; all_are_told(rt.alloc(), 15, &GROUPS) == Ok(true));
+    assert_eq!(rt; wrong_row(rt.alloc(), 15, &GROUPS), None);
 }
 
 // `y = z`, which evaluates `z` first.
@@ -181,13 +205,13 @@ const ASSIGNMENT: [Row; 1] = [(b"y = z", Answer::Unknown(20, 21))];
 
 #[test]
 fn the_left_side_comes_first(rt: HostRuntime) {
-    assert!(rt; all_are_told(rt.alloc(), 20, &ASSIGNMENT) == Ok(true));
+    assert_eq!(rt; wrong_row(rt.alloc(), 20, &ASSIGNMENT), None);
 }
 
 #[test]
 fn no_parameter_is_visible_in_an_initial_value(rt: HostRuntime) {
-    let answer = Answer::Unknown(10, 11);
-    assert!(rt; is_told(rt.alloc(), &WITH_INITIAL, b"p", answer) == Ok(true));
+    let fault = fault_of(Answer::Unknown(10, 11));
+    assert_eq!(rt; told_of(rt.alloc(), &WITH_INITIAL, b"p"), Ok(fault));
 }
 
 // What is reported of an added `create`.
@@ -201,5 +225,5 @@ fn told_of_added(alloc: Global, of: &Written) -> Result<Option<BodyFault>, Alloc
 #[test]
 fn an_added_constructor_has_the_initial_values(rt: HostRuntime) {
     let fault = fault_of(Answer::Unknown(10, 11));
-    assert!(rt; told_of_added(rt.alloc(), &WITH_INITIAL) == Ok(fault));
+    assert_eq!(rt; told_of_added(rt.alloc(), &WITH_INITIAL), Ok(fault));
 }

@@ -1,7 +1,7 @@
 //! Chains of traits, and the methods of their cores.
 use crate::parts::digit;
 use pc_core::{Core, MethodKind};
-use pc_test_inputs::core_of;
+use pc_test_inputs::{Wrong, core_of};
 use std::alloc::{AllocError, Global};
 
 /// A `Main` whose `create` is named at byte 17, in 42 bytes.
@@ -38,8 +38,8 @@ fn chain(alloc: Global, count: u32) -> Result<Vec<u8>, AllocError> {
     Ok(text)
 }
 
-fn core_of_chain(alloc: Global, count: u32) -> Option<Core> {
-    let text = chain(alloc, count).ok()?;
+fn core_of_chain(alloc: Global, count: u32) -> Result<Core, Wrong> {
+    let text = chain(alloc, count)?;
     core_of(alloc, &text)
 }
 
@@ -52,28 +52,30 @@ fn method_at(core: &Core, place: usize) -> Option<Row> {
     Some((found.entity, found.span.start, found.kind, found.slots))
 }
 
-// Whether a core has this many methods, and these at these places.
-fn has_methods(core: &Core, count: usize, rows: &[(usize, Row)]) -> bool {
+// The first of these places at which a core has another method.
+fn place_of_another(core: &Core, rows: &[(usize, Row)]) -> Option<usize> {
     for (place, row) in rows {
         if method_at(core, *place) != Some(*row) {
-            return false;
+            return Some(*place);
         }
     }
-    core.methods().len() == count
+    None
 }
 
-// Whether the core of a chain has this many methods, and these at these places.
-fn chain_has(alloc: Global, chain: u32, count: usize, rows: &[(usize, Row)]) -> bool {
-    match core_of_chain(alloc, chain) {
-        Some(core) => has_methods(&core, count, rows),
-        None => false,
-    }
+// How many methods the core of a chain has, and the first of these places at which it has another one.
+fn methods_of(
+    alloc: Global,
+    chain: u32,
+    rows: &[(usize, Row)],
+) -> Result<(usize, Option<usize>), Wrong> {
+    let core = core_of_chain(alloc, chain)?;
+    Ok((core.methods().len(), place_of_another(&core, rows)))
 }
 
 // How many entities, names and nodes the core of a chain has.
-fn sizes(alloc: Global, chain: u32) -> Option<(usize, usize, usize)> {
+fn sizes(alloc: Global, chain: u32) -> Result<(usize, usize, usize), Wrong> {
     let core = core_of_chain(alloc, chain)?;
-    Some((
+    Ok((
         core.entities().len(),
         core.names().len(),
         core.nodes().len(),
@@ -89,13 +91,13 @@ const SHORT: [(usize, Row); 4] = [
 
 #[test]
 fn methods_along_a_chain(rt: HostRuntime) {
-    assert!(rt; chain_has(rt.alloc(), 3, 5, &SHORT));
-    assert!(rt; sizes(rt.alloc(), 3) == Some((10, 5, 3)));
+    assert_eq!(rt; methods_of(rt.alloc(), 3, &SHORT), Ok((5, None)));
+    assert_eq!(rt; sizes(rt.alloc(), 3), Ok((10, 5, 3)));
 }
 
 const LAST: [(usize, Row); 1] = [(1_000, (1_005, 19_021, MethodKind::Fun, 1))];
 
 #[test]
 fn a_chain_of_all_traits(rt: HostRuntime) {
-    assert!(rt; chain_has(rt.alloc(), 999, 1_001, &LAST));
+    assert_eq!(rt; methods_of(rt.alloc(), 999, &LAST), Ok((1_001, None)));
 }

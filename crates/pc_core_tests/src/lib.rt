@@ -4,6 +4,8 @@
 #[cfg(test)]
 mod bodies;
 #[cfg(test)]
+mod children;
+#[cfg(test)]
 mod conforming;
 #[cfg(test)]
 mod faults;

@@ -80,16 +80,18 @@ fn add_bodies(alloc: Global, methods: &mut List<MethodDef>, count: u32) -> Resul
     Ok(())
 }
 
-/// A name with this many bytes.
-fn long_name(alloc: Global, length: u32) -> Result<Name, AllocError> {
+fn long_text(alloc: Global, length: u32) -> Result<List<u8>, AllocError> {
     let mut text = List::new(alloc);
     for _ in 0..length {
         text.push(b'L')?;
     }
-    Ok(Name {
-        text,
-        span: span(0, length),
-    })
+    Ok(text)
+}
+
+/// A name with this many bytes.
+fn long_name(alloc: Global, length: u32) -> Result<Name, AllocError> {
+    let text = long_text(alloc, length)?;
+    name_at(alloc, text.as_slice(), span(0, length))
 }
 
 /// What an entity has besides what its row lists.
@@ -161,8 +163,8 @@ fn with_fields(count: u32) -> [Row; 2] {
 #[test]
 fn fields_at_their_limit(rt: HostRuntime) {
     let fault = NameFault::TooMany(Which::Fields, numbered_span(64));
-    assert!(rt; told(rt.alloc(), &with_fields(64)) == Ok(None));
-    assert!(rt; told(rt.alloc(), &with_fields(65)) == Ok(Some(fault)));
+    assert_eq!(rt; told(rt.alloc(), &with_fields(64)), Ok(None));
+    assert_eq!(rt; told(rt.alloc(), &with_fields(65)), Ok(Some(fault)));
 }
 
 /// `Main` with one method; a trait with a thousand; one that takes them over; a class with an added constructor; and a
@@ -192,8 +194,8 @@ fn with_methods(count: u32) -> [Row; 5] {
 #[test]
 fn methods_at_their_limit(rt: HostRuntime) {
     let fault = NameFault::TooMany(Which::Methods, span(66, 67));
-    assert!(rt; told(rt.alloc(), &with_methods(7_998)) == Ok(None));
-    assert!(rt; told(rt.alloc(), &with_methods(7_999)) == Ok(Some(fault)));
+    assert_eq!(rt; told(rt.alloc(), &with_methods(7_998)), Ok(None));
+    assert_eq!(rt; told(rt.alloc(), &with_methods(7_999)), Ok(Some(fault)));
 }
 
 /// `Main` with one method, a primitive with this many, a trait with a thousand bodies, and a class that takes them
@@ -219,8 +221,8 @@ fn with_bodies(count: u32) -> [Row; 4] {
 #[test]
 fn methods_taken_over_at_their_limit(rt: HostRuntime) {
     let fault = NameFault::TooMany(Which::Methods, span(46, 47));
-    assert!(rt; told(rt.alloc(), &with_bodies(7_998)) == Ok(None));
-    assert!(rt; told(rt.alloc(), &with_bodies(7_999)) == Ok(Some(fault)));
+    assert_eq!(rt; told(rt.alloc(), &with_bodies(7_998)), Ok(None));
+    assert_eq!(rt; told(rt.alloc(), &with_bodies(7_999)), Ok(Some(fault)));
 }
 
 /// Two classes with names of these lengths in bytes, and `Main`.
@@ -241,8 +243,14 @@ fn with_long_names(one: u32, other: u32) -> [Row; 3] {
 #[test]
 fn long_names(rt: HostRuntime) {
     let fault = NameFault::Double(span(0, 200_000));
-    assert!(rt; told(rt.alloc(), &with_long_names(200_000, 199_999)) == Ok(None));
-    assert!(rt; told(rt.alloc(), &with_long_names(200_000, 200_000)) == Ok(Some(fault)));
+    assert_eq!(rt;
+        told(rt.alloc(), &with_long_names(200_000, 199_999)),
+        Ok(None)
+    );
+    assert_eq!(rt;
+        told(rt.alloc(), &with_long_names(200_000, 200_000)),
+        Ok(Some(fault))
+    );
 }
 
 /// A chain of traits: how many there are, whether the last names the first, and how many methods each has.
@@ -296,43 +304,75 @@ fn above_count(names: &Names, entity: u32) -> Option<usize> {
     Some(names.above(entity)?.len())
 }
 
-/// What a chain of 999 traits has to satisfy, of which `Main` comes first.
-fn is_whole_chain(names: &Names) -> bool {
-    names.entity_count() == 1_006
-        && names.entity(b"None") == Some(0)
-        && names.entity(b"Main") == Some(6)
-        && names.entity(b"T0000") == Some(7)
-        && names.entity(b"T0998") == Some(1_005)
-        && names.entity(b"T0999").is_none()
-        && above_count(names, 7) == Some(998)
-        && above_count(names, 1_005) == Some(0)
-        && above_count(names, 1_006).is_none()
-        && names.text_count() == 3
-        && names.text(b"create") == Some(2)
+/// What is seen of the names of a chain.
+#[derive(Clone, Copy, Debug, PartialEq)]
+struct Seen {
+    /// How many entities there are.
+    entities: u32,
+    /// The numbers of `None`, `Main` and the first trait.
+    first: (Option<u32>, Option<u32>, Option<u32>),
+    /// Those of the traits 998 and 999.
+    last: (Option<u32>, Option<u32>),
+    /// How many entities are above the entities 7, 1,005 and 1,006.
+    above: (Option<usize>, Option<usize>, Option<usize>),
+    /// How many texts there are.
+    texts: u32,
+    /// The number of the text `create`.
+    create: Option<u32>,
 }
 
-fn has_whole_chain(alloc: Global, file: &File) -> bool {
-    match collect(alloc, file) {
-        Ok(names) => is_whole_chain(&names),
-        Err(_) => false,
+fn seen_of(names: &Names) -> Seen {
+    Seen {
+        entities: names.entity_count(),
+        first: (
+            names.entity(b"None"),
+            names.entity(b"Main"),
+            names.entity(b"T0000"),
+        ),
+        last: (names.entity(b"T0998"), names.entity(b"T0999")),
+        above: (
+            above_count(names, 7),
+            above_count(names, 1_005),
+            above_count(names, 1_006),
+        ),
+        texts: names.text_count(),
+        create: names.text(b"create"),
     }
 }
 
-fn is_whole(alloc: Global, chain: Chain) -> Result<bool, AllocError> {
+/// What should be seen of a chain of 999 traits, before which comes `Main`.
+const WHOLE_CHAIN: Seen = Seen {
+    entities: 1_006,
+    first: (Some(0), Some(6), Some(7)),
+    last: (Some(1_005), None),
+    above: (Some(998), Some(0), None),
+    texts: 3,
+    create: Some(2),
+};
+
+fn seen_in(alloc: Global, file: &File) -> Result<Seen, NameFault> {
+    let names = collect(alloc, file)?;
+    Ok(seen_of(&names))
+}
+
+fn seen_in_chain(alloc: Global, chain: Chain) -> Result<Seen, NameFault> {
     let file = chain_file(alloc, chain)?;
-    Ok(has_whole_chain(alloc, &file))
+    seen_in(alloc, &file)
 }
 
 #[test]
 fn entities_at_their_limit(rt: HostRuntime) {
     let fault = NameFault::TooMany(Which::Entities, numbered_span(999));
     let cycle = NameFault::Cycle(numbered_span(0));
-    assert!(rt; is_whole(rt.alloc(), (999, false, 0)) == Ok(true));
-    assert!(rt; told_of_chain(rt.alloc(), (1_000, false, 0)) == Ok(Some(fault)));
-    assert!(rt; told_of_chain(rt.alloc(), (999, true, 0)) == Ok(Some(cycle)));
+    assert_eq!(rt; seen_in_chain(rt.alloc(), (999, false, 0)), Ok(WHOLE_CHAIN));
+    assert_eq!(rt;
+        told_of_chain(rt.alloc(), (1_000, false, 0)),
+        Ok(Some(fault))
+    );
+    assert_eq!(rt; told_of_chain(rt.alloc(), (999, true, 0)), Ok(Some(cycle)));
 }
 
 #[test]
 fn methods_along_a_chain(rt: HostRuntime) {
-    assert!(rt; told_of_chain(rt.alloc(), (200, false, 10)) == Ok(None));
+    assert_eq!(rt; told_of_chain(rt.alloc(), (200, false, 10)), Ok(None));
 }

@@ -420,31 +420,36 @@ const MAINS: [Row; 9] = [
     ),
 ];
 
-fn has_answer(alloc: Global, row: &Row) -> Result<bool, AllocError> {
-    let file = file_of(alloc, row.0)?;
-    Ok(fault_in(alloc, &file) == fault_of(row.1))
+fn fault_of_file(alloc: Global, rows: &[EntityRow]) -> Result<Option<NameFault>, AllocError> {
+    let file = file_of(alloc, rows)?;
+    Ok(fault_in(alloc, &file))
 }
 
-fn have_answers(alloc: Global, rows: &[Row]) -> Result<bool, AllocError> {
-    for row in rows {
-        if !has_answer(alloc, row)? {
-            return Ok(false);
+/// The place of a row, and the fault that its file has, if any.
+type Found = (usize, Option<NameFault>);
+
+// The first of these rows whose file has another fault.
+fn wrong_row(alloc: Global, rows: &[Row]) -> Result<Option<Found>, AllocError> {
+    for at in 0..rows.len() {
+        let fault = fault_of_file(alloc, rows[at].0)?;
+        if fault != fault_of(rows[at].1) {
+            return Ok(Some((at, fault)));
         }
     }
-    Ok(true)
+    Ok(None)
 }
 
 #[test]
 fn entities_and_chains(rt: HostRuntime) {
-    assert!(rt; have_answers(rt.alloc(), &ENTITIES) == Ok(true));
+    assert_eq!(rt; wrong_row(rt.alloc(), &ENTITIES), Ok(None));
 }
 
 #[test]
 fn declarations(rt: HostRuntime) {
-    assert!(rt; have_answers(rt.alloc(), &DECLARATIONS) == Ok(true));
+    assert_eq!(rt; wrong_row(rt.alloc(), &DECLARATIONS), Ok(None));
 }
 
 #[test]
 fn mains(rt: HostRuntime) {
-    assert!(rt; have_answers(rt.alloc(), &MAINS) == Ok(true));
+    assert_eq!(rt; wrong_row(rt.alloc(), &MAINS), Ok(None));
 }

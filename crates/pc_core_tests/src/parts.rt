@@ -1,5 +1,5 @@
 //! Names and types that are built by hand.
-use pc_caps::{Cap, List, Span};
+use pc_caps::{Cap, ShortBytes, Span};
 use pc_tree::{Name, TypeRef};
 use std::alloc::{AllocError, Global};
 
@@ -11,7 +11,7 @@ pub fn span(start: u32, end: u32) -> Span {
 /// A name at this place.
 pub fn name_at(alloc: Global, text: &[u8], span: Span) -> Result<Name, AllocError> {
     Ok(Name {
-        text: List::from_slice(alloc, text)?,
+        text: ShortBytes::from_slice(alloc, text)?,
         span,
     })
 }

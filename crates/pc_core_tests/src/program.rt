@@ -3,7 +3,7 @@ ghost use Rattle.std.specs.Prelude.{◌<◌, ◌^◌, length, IfOk};
 
 use crate::parts::{name_at, type_at};
 use crate::reading::{read_expr, read_seq};
-use pc_caps::{Cap, List, Span};
+use pc_caps::{Cap, List, ShortBytes, Span};
 use pc_keyed::KeyedBy;
 use pc_members::NameTable;
 use pc_resolve::{Constructor, Constructors, Context, Known, LocalSlots, Placed};
@@ -29,7 +29,7 @@ pub type ConstructorRow = (&'static [u8], u32);
 pub type KnownRow = (&'static [u8], EntityKind, &'static [ConstructorRow]);
 
 fn constructor(alloc: Global, row: &ConstructorRow) -> Result<Constructor, AllocError> {
-    Ok(Constructor::new(List::from_slice(alloc, row.0)?, row.1))
+    Ok(Constructor::new(ShortBytes::from_slice(alloc, row.0)?, row.1))
 }
 
 fn add_constructors(
@@ -50,7 +50,7 @@ fn constructors(alloc: Global, rows: &[ConstructorRow]) -> Result<Constructors, 
 }
 
 fn known(alloc: Global, row: &KnownRow) -> Result<Known, AllocError> {
-    let name = List::from_slice(alloc, row.0)?;
+    let name = ShortBytes::from_slice(alloc, row.0)?;
     let constructors = constructors(alloc, row.2)?;
     Ok(Known::new(name, row.1, Cap::Ref, constructors))
 }
@@ -78,10 +78,10 @@ fn entities(alloc: Global, rows: &[KnownRow]) -> Result<List<Known>, AllocError>
     Ok(list)
 }
 
-fn names(alloc: Global, texts: &[&'static [u8]]) -> Result<List<List<u8>>, AllocError> {
+fn names(alloc: Global, texts: &[&'static [u8]]) -> Result<List<ShortBytes>, AllocError> {
     let mut list = List::new(alloc);
     for text in texts {
-        list.push(List::from_slice(alloc, text)?)?;
+        list.push(ShortBytes::from_slice(alloc, text)?)?;
     }
     Ok(list)
 }

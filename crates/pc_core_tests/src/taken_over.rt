@@ -4,7 +4,7 @@ use crate::rows::shown;
 use pc_caps::Span;
 use pc_core::Core;
 use pc_names::NameFault;
-use pc_test_inputs::{core_of, core_or_fault};
+use pc_test_inputs::{Wrong, core_of};
 use std::alloc::Global;
 
 /// A method of a file: its entity, where its name starts, and whether it has a body.
@@ -15,42 +15,50 @@ fn method_at(core: &Core, place: usize) -> Option<Row> {
     Some((method.entity, method.span.start, method.body.is_some()))
 }
 
-/// Whether these are the methods of a core, after those of the language.
-fn has_methods(core: &Core, rows: &[Row]) -> bool {
+/// The first place at which the methods of a core, after those of the language, are not these.
+fn place_of_another(core: &Core, rows: &[Row]) -> Option<usize> {
     for place in 0..rows.len() {
         if method_at(core, place.saturating_add(1)) != Some(rows[place]) {
-            return false;
+            return Some(place);
         }
     }
-    core.methods().len() == rows.len().saturating_add(1)
+    if core.methods().len() == rows.len().saturating_add(1) {
+        None
+    } else {
+        Some(rows.len())
+    }
 }
 
 /// A file, and the methods of its core.
 type FileRow = (&'static [u8], &'static [Row]);
 
-fn is_file(alloc: Global, row: &FileRow) -> bool {
-    match core_of(alloc, row.0) {
-        Some(core) => has_methods(&core, row.1),
-        None => false,
-    }
+// The first method of a file that is another one, if there is one.
+fn other_method(alloc: Global, row: &FileRow) -> Result<Option<usize>, Wrong> {
+    let core = core_of(alloc, row.0)?;
+    Ok(place_of_another(&core, row.1))
 }
 
-fn are_files(alloc: Global, rows: &[FileRow]) -> bool {
-    for row in rows {
-        if !is_file(alloc, row) {
-            return false;
+/// The place of a row, and the first method of its file that is another one.
+type WrongFile = (usize, Result<Option<usize>, Wrong>);
+
+fn wrong_file(alloc: Global, rows: &[FileRow]) -> Option<WrongFile> {
+    for at in 0..rows.len() {
+        let other = other_method(alloc, &rows[at]);
+        if other != Ok(None) {
+            return Some((at, other));
         }
     }
-    true
+    None
 }
 
-fn node_count(alloc: Global, text: &[u8]) -> Option<usize> {
+fn node_count(alloc: Global, text: &[u8]) -> Result<usize, Wrong> {
     let core = core_of(alloc, text)?;
-    Some(core.nodes().len())
+    Ok(core.nodes().len())
 }
 
-fn fault_in(alloc: Global, text: &[u8]) -> Option<NameFault> {
-    core_or_fault(alloc, text).err()
+// What is wrong with a text, if it has no core.
+fn wrong_with(alloc: Global, text: &[u8]) -> Option<Wrong> {
+    core_of(alloc, text).err()
 }
 
 const CHAIN: FileRow = (
@@ -68,8 +76,8 @@ const CHAIN: FileRow = (
 
 #[test]
 fn bodies_are_taken_over_along_a_chain(rt: HostRuntime) {
-    assert!(rt; is_file(rt.alloc(), &CHAIN));
-    assert!(rt; node_count(rt.alloc(), CHAIN.0) == Some(13));
+    assert_eq!(rt; other_method(rt.alloc(), &CHAIN), Ok(None));
+    assert_eq!(rt; node_count(rt.alloc(), CHAIN.0), Ok(13));
 }
 
 const FIRST: FileRow = (
@@ -87,7 +95,7 @@ const FIRST: FileRow = (
 
 #[test]
 fn the_first_body_of_a_name_is_taken_over(rt: HostRuntime) {
-    assert!(rt; is_file(rt.alloc(), &FIRST));
+    assert_eq!(rt; other_method(rt.alloc(), &FIRST), Ok(None));
 }
 
 const BEHAVIOUR: FileRow = (
@@ -107,7 +115,7 @@ const BEHAVIOUR: FileRow = (
 
 #[test]
 fn a_behaviour_is_taken_over_by_an_actor_alone(rt: HostRuntime) {
-    assert!(rt; is_file(rt.alloc(), &BEHAVIOUR));
+    assert_eq!(rt; other_method(rt.alloc(), &BEHAVIOUR), Ok(None));
 }
 
 const PASSED_OVER: [FileRow; 3] = [
@@ -136,7 +144,7 @@ const PASSED_OVER: [FileRow; 3] = [
 
 #[test]
 fn names_that_an_entity_has_are_passed_over(rt: HostRuntime) {
-    assert!(rt; are_files(rt.alloc(), &PASSED_OVER));
+    assert_eq!(rt; wrong_file(rt.alloc(), &PASSED_OVER), None);
 }
 
 /// A node of a core: its kind with the number in it, its method and its first byte.
@@ -147,11 +155,10 @@ fn node_at(core: &Core, place: usize) -> Option<Found> {
     Some((shown(&node.kind), node.method, node.span.start))
 }
 
-fn is_node(alloc: Global, text: &[u8], place: usize, found: Found) -> bool {
-    match core_of(alloc, text) {
-        Some(core) => node_at(&core, place) == Some(found),
-        None => false,
-    }
+// The node of a text at a place.
+fn node_in(alloc: Global, text: &[u8], place: usize) -> Result<Option<Found>, Wrong> {
+    let core = core_of(alloc, text)?;
+    Ok(node_at(&core, place))
 }
 
 const PARAMETER: &[u8] =
@@ -163,23 +170,30 @@ const OWN_PARAMETER: &[u8] =
 
 #[test]
 fn a_parameter_comes_before_a_field_of_its_name(rt: HostRuntime) {
-    assert!(rt; is_node(rt.alloc(), PARAMETER, 6, (("local", 1), 3, 34)));
-    assert!(rt; fault_in(rt.alloc(), OWN_PARAMETER) == Some(NameFault::Double(span(35, 36))));
+    let node = (("local", 1), 3, 34);
+    assert_eq!(rt; node_in(rt.alloc(), PARAMETER, 6), Ok(Some(node)));
+    let fault = NameFault::Double(span(35, 36));
+    assert_eq!(rt;
+        wrong_with(rt.alloc(), OWN_PARAMETER),
+        Some(Wrong::NoCore(fault))
+    );
 }
 
-/// A file, and the fault of its names.
-type FaultRow = (&'static [u8], Option<NameFault>);
+/// A file, and why it has no core, if it has none.
+type FaultRow = (&'static [u8], Option<Wrong>);
 
-fn have_faults(alloc: Global, rows: &[FaultRow]) -> bool {
-    for (text, fault) in rows {
-        if fault_in(alloc, text) != *fault {
-            return false;
+// The place of the first of these files with which something else is wrong, and what it is.
+fn wrong_fault(alloc: Global, rows: &[FaultRow]) -> Option<(usize, Option<Wrong>)> {
+    for at in 0..rows.len() {
+        let found = wrong_with(alloc, rows[at].0);
+        if found != rows[at].1 {
+            return Some((at, found));
         }
     }
-    true
+    None
 }
 
-const UNKNOWN: Option<NameFault> = Some(NameFault::Unknown(Span { start: 26, end: 28 }));
+const UNKNOWN: Option<Wrong> = Some(Wrong::NoCore(NameFault::Unknown(Span { start: 26, end: 28 })));
 
 const LOOKED_AT: [FaultRow; 4] = [
     (
@@ -203,5 +217,5 @@ const LOOKED_AT: [FaultRow; 4] = [
 
 #[test]
 fn a_body_is_looked_at_where_it_is_taken_over(rt: HostRuntime) {
-    assert!(rt; have_faults(rt.alloc(), &LOOKED_AT));
+    assert_eq!(rt; wrong_fault(rt.alloc(), &LOOKED_AT), None);
 }

@@ -5,7 +5,7 @@ use pc_feed::{Stream, StreamFault};
 use pc_judge::JudgeFault;
 use pc_referee::{ListReferee, Rules};
 use pc_test_inputs::programs::ONE_OBJECT;
-use pc_test_inputs::{LINES, LINES2, NODES, core_of, note, variant_of};
+use pc_test_inputs::{LINES, LINES2, NODES, Wrong, core_of, note, variant_of};
 use std::alloc::{AllocError, Global};
 use std::test::Fail;
 
@@ -20,7 +20,7 @@ pub(crate) fn variant2(alloc: Global, number: usize, line: &[u8]) -> Result<Vec<
 }
 
 /// The core of the program.
-pub(crate) fn program(alloc: Global) -> Option<Core> {
+pub(crate) fn program(alloc: Global) -> Result<Core, Wrong> {
     core_of(alloc, ONE_OBJECT)
 }
 
@@ -55,57 +55,53 @@ fn is_node(asked: Option<&(u32, Note)>, at: usize) -> bool {
     }
 }
 
-/// Whether the referee was asked about these first nodes and no others.
-pub(crate) fn was_asked(referee: &ListReferee, count: usize) -> bool {
+/// How many nodes a referee was asked about if they are the first ones, in order, or the first question that was about
+/// another node.
+pub(crate) type Asked = Result<usize, usize>;
+
+pub(crate) fn asked_of(referee: &ListReferee) -> Asked {
     let asked = referee.asked();
-    for at in 0..count {
+    for at in 0..asked.len() {
         if !is_node(asked.get(at), at) {
-            return false;
+            return Err(at);
         }
     }
-    asked.len() == count
+    Ok(asked.len())
 }
 
-// What a judge reports of a text that it was fed without a fault, if this many first nodes are asked about.
-fn judge_asking(
-    alloc: Global,
-    core: &Core,
-    text: &[u8],
-    count: usize,
-) -> Option<Result<(), StreamFault>> {
+/// What a judge reports of a text when it is fed with it and at the end, and what it asks.
+type Judgement = (Result<(), StreamFault>, Result<(), StreamFault>, Asked);
+
+fn judge_asking(alloc: Global, core: &Core, text: &[u8]) -> Judgement {
     let mut referee = ListReferee::new(alloc);
     let mut stream = Stream::start(alloc, core);
     let fed = stream.feed(text, &mut referee);
     let end = stream.end();
-    if fed.is_ok() && was_asked(&referee, count) {
-        Some(end)
-    } else {
-        None
-    }
+    (fed, end, asked_of(&referee))
 }
 
 // The same of the program.
-fn asked(alloc: Global, text: &[u8], count: usize) -> Option<Result<(), StreamFault>> {
+fn judged(alloc: Global, text: &[u8]) -> Result<Judgement, Wrong> {
     let core = program(alloc)?;
-    judge_asking(alloc, &core, text, count)
+    Ok(judge_asking(alloc, &core, text))
 }
 
 #[test]
 fn each_node_is_asked_up_to_the_first_fault(rt: HostRuntime) -> Result<(), Fail> {
     let text = variant(rt.alloc(), 0, b"")?;
-    assert!(rt; asked(rt.alloc(), &text, 7) == Some(Ok(())));
+    assert_eq!(rt; judged(rt.alloc(), &text), Ok((Ok(()), Ok(()), Ok(7))));
     let text = variant(rt.alloc(), 9, b"n new 6 ref 3 0 3 0\n")?;
     let fault = StreamFault::Invalid(JudgeFault::Node(3));
-    assert!(rt; asked(rt.alloc(), &text, 3) == Some(Err(fault)));
+    assert_eq!(rt; judged(rt.alloc(), &text), Ok((Ok(()), Err(fault), Ok(3))));
     Ok(())
 }
 
 #[test]
 fn the_same_is_asked_in_version_2(rt: HostRuntime) -> Result<(), Fail> {
     let text = variant2(rt.alloc(), 0, b"")?;
-    assert!(rt; asked(rt.alloc(), &text, 7) == Some(Ok(())));
+    assert_eq!(rt; judged(rt.alloc(), &text), Ok((Ok(()), Ok(()), Ok(7))));
     let text = variant2(rt.alloc(), 9, b"n new 6 ref 3 0 0 0\n")?;
     let fault = StreamFault::Invalid(JudgeFault::Node(3));
-    assert!(rt; asked(rt.alloc(), &text, 3) == Some(Err(fault)));
+    assert_eq!(rt; judged(rt.alloc(), &text), Ok((Ok(()), Err(fault), Ok(3))));
     Ok(())
 }

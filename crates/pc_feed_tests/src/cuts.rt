@@ -5,7 +5,7 @@ use pc_deriv::LineFault;
 use pc_feed::{Stream, StreamFault};
 use pc_judge::JudgeFault;
 use pc_referee::Rules;
-use pc_test_inputs::{LINES, LINES2, variant_of};
+use pc_test_inputs::{LINES, LINES2, Wrong, variant_of};
 use std::alloc::{AllocError, Global};
 use std::test::Fail;
 
@@ -19,38 +19,40 @@ fn refused_cut(alloc: Global, core: &Core, bytes: &[u8]) -> Option<usize> {
     None
 }
 
-// Whether a text is accepted if its bytes come one by one.
-fn is_accepted_by_bytes(alloc: Global, core: &Core, bytes: &[u8]) -> bool {
+// The place at which a text is refused if its bytes come one by one, if it is.
+fn refused_byte(alloc: Global, core: &Core, bytes: &[u8]) -> Option<usize> {
     let mut stream = Stream::start(alloc, core);
     for at in 0..bytes.len() {
         if stream.feed(&bytes[at..at + 1], &mut Rules).is_err() {
-            return false;
+            return Some(at);
         }
     }
-    stream.end().is_ok()
+    match stream.end() {
+        Ok(()) => None,
+        Err(_) => Some(bytes.len()),
+    }
 }
 
-// Whether a text is accepted as the program's derivation wherever it is cut, and byte by byte.
-fn is_accepted(alloc: Global, text: &[u8]) -> bool {
-    match program(alloc) {
-        Some(core) => {
-            refused_cut(alloc, &core, text).is_none() && is_accepted_by_bytes(alloc, &core, text)
-        }
-        None => false,
-    }
+// Where a text can be cut so that it is not accepted as the program's derivation, and where it is refused byte by byte.
+fn refusals(alloc: Global, text: &[u8]) -> Result<(Option<usize>, Option<usize>), Wrong> {
+    let core = program(alloc)?;
+    Ok((
+        refused_cut(alloc, &core, text),
+        refused_byte(alloc, &core, text),
+    ))
 }
 
 #[test]
 fn wherever_the_derivation_is_cut_it_is_accepted(rt: HostRuntime) -> Result<(), Fail> {
     let text = variant(rt.alloc(), 0, b"")?;
-    assert!(rt; is_accepted(rt.alloc(), &text));
+    assert_eq!(rt; refusals(rt.alloc(), &text), Ok((None, None)));
     Ok(())
 }
 
 #[test]
 fn wherever_the_derivation_in_version_2_is_cut_it_is_accepted(rt: HostRuntime) -> Result<(), Fail> {
     let text = variant2(rt.alloc(), 0, b"")?;
-    assert!(rt; is_accepted(rt.alloc(), &text));
+    assert_eq!(rt; refusals(rt.alloc(), &text), Ok((None, None)));
     Ok(())
 }
 
@@ -118,55 +120,72 @@ const VARIANTS2: [Variant; 8] = [
     ),
 ];
 
-// Whether a text has this fault wherever it is cut, at every eleventh byte.
-fn has_fault(alloc: Global, core: &Core, bytes: &[u8], fault: StreamFault) -> bool {
+// A place where a text can be cut so that it does not have this fault, among every eleventh byte, if there is one.
+fn other_cut(alloc: Global, core: &Core, bytes: &[u8], fault: StreamFault) -> Option<usize> {
     for nth in 0..bytes.len() / 11 {
         let cut = 11 * nth;
         if judge_pieces(alloc, core, &bytes[..cut], &bytes[cut..]) != Some(Err(fault)) {
-            return false;
+            return Some(cut);
         }
     }
-    true
+    None
 }
 
-// Whether these texts have their faults as derivations of a program, wherever they are cut.
-fn all_have_faults(
+// The same of a variant.
+fn other_cut_of(
+    alloc: Global,
+    core: &Core,
+    lines: &[&[u8]],
+    variant: Variant,
+) -> Result<Option<usize>, AllocError> {
+    let (number, line, fault) = variant;
+    let text = variant_of(alloc, lines, number, line)?;
+    Ok(other_cut(alloc, core, &text, fault))
+}
+
+/// The place of a variant, and where it can be cut so that it does not have its fault.
+type WrongCut = (usize, Option<usize>);
+
+// The first variant that does not have its fault as a derivation of a program, wherever it is cut.
+fn wrong_of(
     alloc: Global,
     core: &Core,
     lines: &[&[u8]],
     variants: &[Variant],
-) -> Result<bool, AllocError> {
-    for (number, line, fault) in variants {
-        let text = variant_of(alloc, lines, *number, line)?;
-        if !has_fault(alloc, core, &text, *fault) {
-            return Ok(false);
+) -> Result<Option<WrongCut>, AllocError> {
+    for at in 0..variants.len() {
+        let cut = other_cut_of(alloc, core, lines, variants[at])?;
+        if cut.is_some() {
+            return Ok(Some((at, cut)));
         }
     }
-    Ok(true)
+    Ok(None)
 }
 
 // The same of the program.
-fn are_refused(alloc: Global, lines: &[&[u8]], variants: &[Variant]) -> bool {
-    match program(alloc) {
-        Some(core) => all_have_faults(alloc, &core, lines, variants) == Ok(true),
-        None => false,
-    }
+fn wrong_variant(
+    alloc: Global,
+    lines: &[&[u8]],
+    variants: &[Variant],
+) -> Result<Option<WrongCut>, Wrong> {
+    let core = program(alloc)?;
+    Ok(wrong_of(alloc, &core, lines, variants)?)
 }
 
 #[test]
 fn a_variant_cut_at_each_11th_byte_has_its_fault(rt: HostRuntime) {
-    assert!(rt; are_refused(rt.alloc(), &LINES, &VARIANTS));
+    assert_eq!(rt; wrong_variant(rt.alloc(), &LINES, &VARIANTS), Ok(None));
 }
 
 #[test]
 fn a_variant_of_version_2_cut_at_each_11th_byte_has_its_fault(rt: HostRuntime) {
-    assert!(rt; are_refused(rt.alloc(), &LINES2, &VARIANTS2));
+    assert_eq!(rt; wrong_variant(rt.alloc(), &LINES2, &VARIANTS2), Ok(None));
 }
 
-// What a judge reports of the program's derivation in one piece.
-fn judged(alloc: Global, text: &[u8]) -> Option<Result<(), StreamFault>> {
+// What a judge reports of the program's derivation in one piece, if it keeps to it.
+fn judged(alloc: Global, text: &[u8]) -> Result<Option<Result<(), StreamFault>>, Wrong> {
     let core = program(alloc)?;
-    judge_pieces(alloc, &core, text, b"")
+    Ok(judge_pieces(alloc, &core, text, b""))
 }
 
 #[test]
@@ -174,6 +193,6 @@ fn a_text_that_breaks_off_comes_before_a_node_that_is_wrong(rt: HostRuntime) -> 
     let text = variant(rt.alloc(), 9, b"n new 6 ref 3 0 3 0\n")?;
     let front = &text[..text.len().saturating_sub(1)];
     let fault = StreamFault::Text(LineFault::BadLine(12));
-    assert!(rt; judged(rt.alloc(), front) == Some(Err(fault)));
+    assert_eq!(rt; judged(rt.alloc(), front), Ok(Some(Err(fault))));
     Ok(())
 }

@@ -1,10 +1,11 @@
 //! A derivation in a file that is read in parts.
-use crate::cases::{program, variant, variant2, was_asked};
+use crate::cases::{Asked, asked_of, program, variant, variant2};
 use pc_core::Core;
 use pc_deriv::LineFault;
 use pc_feed::{DerivationFault, judge_file};
 use pc_io::MemFiles;
 use pc_referee::{ListReferee, Rules};
+use pc_test_inputs::Wrong;
 use std::alloc::{AllocError, Global};
 use std::test::Fail;
 
@@ -15,46 +16,53 @@ fn files_with(alloc: Global, fail: &[u32], text: &[u8]) -> Result<MemFiles, Allo
     Ok(files)
 }
 
+/// What is reported of a derivation in a file.
+type Told = Result<(), DerivationFault>;
+
 // What is reported of the program's derivation in a file.
-fn judged(alloc: Global, files: &mut MemFiles, name: &str) -> Option<Result<(), DerivationFault>> {
+fn judged(alloc: Global, files: &mut MemFiles, name: &str) -> Result<Told, Wrong> {
     let core = program(alloc)?;
-    Some(judge_file(alloc, files, name, &core, &mut Rules))
+    Ok(judge_file(alloc, files, name, &core, &mut Rules))
 }
 
-fn is_asked_whole_of(alloc: Global, files: &mut MemFiles, core: &Core) -> bool {
+fn judge_asking(alloc: Global, files: &mut MemFiles, core: &Core) -> (Told, Asked) {
     let mut referee = ListReferee::new(alloc);
-    judge_file(alloc, files, "a.der", core, &mut referee).is_ok() && was_asked(&referee, 7)
+    let told = judge_file(alloc, files, "a.der", core, &mut referee);
+    (told, asked_of(&referee))
 }
 
-// Whether the program's derivation in `a.der` is accepted, and all its nodes are asked about.
-fn is_asked_whole(alloc: Global, files: &mut MemFiles) -> bool {
-    match program(alloc) {
-        Some(core) => is_asked_whole_of(alloc, files, &core),
-        None => false,
+// What is reported of the program's derivation in `a.der`, and what is asked about it.
+fn judged_asking(alloc: Global, files: &mut MemFiles) -> Result<(Told, Asked), Wrong> {
+    let core = program(alloc)?;
+    Ok(judge_asking(alloc, files, &core))
+}
+
+const FAILED: Told = Err(DerivationFault::Failed);
+
+// The second reading of all is of no file, the third fails, and the fourth does not.
+const READINGS: [(&str, Told); 3] = [("gone.der", FAILED), ("a.der", FAILED), ("a.der", Ok(()))];
+
+// The first of these readings with another result, and that result.
+fn wrong_reading(
+    alloc: Global,
+    files: &mut MemFiles,
+    readings: &[(&str, Told)],
+) -> Option<(usize, Result<Told, Wrong>)> {
+    for at in 0..readings.len() {
+        let told = judged(alloc, files, readings[at].0);
+        if told != Ok(readings[at].1) {
+            return Some((at, told));
+        }
     }
-}
-
-// Whether a file is refused with this fault.
-fn is_refused(alloc: Global, files: &mut MemFiles, name: &str, fault: DerivationFault) -> bool {
-    judged(alloc, files, name) == Some(Err(fault))
-}
-
-const FAILED: DerivationFault = DerivationFault::Failed;
-
-// Whether the files give these results: the second reading of all is of no file, the third fails, and the fourth does
-// not.
-fn fails_twice(alloc: Global, files: &mut MemFiles) -> bool {
-    is_asked_whole(alloc, files)
-        && is_refused(alloc, files, "gone.der", FAILED)
-        && is_refused(alloc, files, "a.der", FAILED)
-        && judged(alloc, files, "a.der") == Some(Ok(()))
+    None
 }
 
 #[test]
 fn a_file_is_judged_as_its_bytes_are(rt: HostRuntime) -> Result<(), Fail> {
     let text = variant(rt.alloc(), 0, b"")?;
     let mut files = files_with(rt.alloc(), &[3], &text)?;
-    assert!(rt; fails_twice(rt.alloc(), &mut files));
+    assert_eq!(rt; judged_asking(rt.alloc(), &mut files), Ok((Ok(()), Ok(7))));
+    assert_eq!(rt; wrong_reading(rt.alloc(), &mut files, &READINGS), None);
     Ok(())
 }
 
@@ -62,7 +70,7 @@ fn a_file_is_judged_as_its_bytes_are(rt: HostRuntime) -> Result<(), Fail> {
 fn a_file_in_version_2_is_judged_as_its_bytes_are(rt: HostRuntime) -> Result<(), Fail> {
     let text = variant2(rt.alloc(), 0, b"")?;
     let mut files = files_with(rt.alloc(), &[], &text)?;
-    assert!(rt; is_asked_whole(rt.alloc(), &mut files));
+    assert_eq!(rt; judged_asking(rt.alloc(), &mut files), Ok((Ok(()), Ok(7))));
     Ok(())
 }
 
@@ -71,7 +79,7 @@ fn a_file_in_no_version_is_refused(rt: HostRuntime) -> Result<(), Fail> {
     let text = variant2(rt.alloc(), 1, b"rcap-derivation 3 4 7\n")?;
     let mut files = files_with(rt.alloc(), &[], &text)?;
     let fault = DerivationFault::Text(LineFault::BadLine(1));
-    assert!(rt; is_refused(rt.alloc(), &mut files, "a.der", fault));
+    assert_eq!(rt; judged(rt.alloc(), &mut files, "a.der"), Ok(Err(fault)));
     Ok(())
 }
 
@@ -84,20 +92,16 @@ fn long_text(alloc: Global) -> Result<Vec<u8>, AllocError> {
     Ok(text)
 }
 
-// Whether the long text is refused with this fault if these calls fail.
-fn long_is_refused(
-    alloc: Global,
-    fail: &[u32],
-    fault: DerivationFault,
-) -> Result<bool, AllocError> {
+// What is reported of the long text if these calls fail.
+fn judged_long(alloc: Global, fail: &[u32]) -> Result<Told, Wrong> {
     let text = long_text(alloc)?;
     let mut files = files_with(alloc, fail, &text)?;
-    Ok(is_refused(alloc, &mut files, "a.der", fault))
+    judged(alloc, &mut files, "a.der")
 }
 
 #[test]
 fn a_file_of_more_than_one_part_is_read_to_its_end(rt: HostRuntime) {
     let fault = DerivationFault::Text(LineFault::BadLine(13));
-    assert!(rt; long_is_refused(rt.alloc(), &[], fault) == Ok(true));
-    assert!(rt; long_is_refused(rt.alloc(), &[2], FAILED) == Ok(true));
+    assert_eq!(rt; judged_long(rt.alloc(), &[]), Ok(Err(fault)));
+    assert_eq!(rt; judged_long(rt.alloc(), &[2]), Ok(FAILED));
 }

@@ -17,33 +17,41 @@ fn fill(arena: &mut Arena<u32>, count: u32) -> Option<u32>
     last
 }
 
-// Pushes 300 values and exchanges two of them, and reports whether the places on both sides of a chunk's edge hold what
-// they should.
-fn is_filled(arena: &mut Arena<u32>) -> bool
+/// The place of the last value that was pushed, and how many there are. What the place 0 held before it was exchanged, what
+/// it holds then, and what the places 1, 255 and 256 hold. What the place 256 held before it was exchanged, and what the
+/// last place holds then.
+type FilledArena = ((Option<u32>, u32), (u32, u32, u32, u32, u32), (u32, u32));
+
+// Pushes 300 values, and exchanges two of them, on both sides of a chunk's edge.
+fn filled(arena: &mut Arena<u32>) -> FilledArena
     requires { 300 ≤ arena.old.spare }
 {
-    fill(arena, 300) == Some(299)
-        && arena.len() == 300
-        && arena.exchange(0, 9) == 0
-        && *arena.get(0) == 9
-        && *arena.get(1) == 1
-        && *arena.get(255) == 255
-        && *arena.get(256) == 256
-        && arena.exchange(256, 7) == 256
-        && *arena.get(299) == 299
+    let last = fill(arena, 300);
+    let count = arena.len();
+    let first = arena.exchange(0, 9);
+    let held = (
+        first,
+        *arena.get(0),
+        *arena.get(1),
+        *arena.get(255),
+        *arena.get(256),
+    );
+    let other = arena.exchange(256, 7);
+    ((last, count), held, (other, *arena.get(299)))
 }
 
-fn is_filled_with_300(alloc: Global) -> bool {
+fn filled_with_300(alloc: Global) -> Result<FilledArena, AllocError> {
     let mut arena = Arena::new(alloc);
     match arena.reserve(300) {
-        Ok(()) => is_filled(&mut arena),
-        Err(_) => false,
+        Ok(()) => Ok(filled(&mut arena)),
+        Err(AllocError) => Err(AllocError),
     }
 }
 
 #[test]
 fn pushed_values_stay_at_their_places(rt: HostRuntime) {
-    assert!(rt; is_filled_with_300(rt.alloc()));
+    let wanted = ((Some(299), 300), (0, 9, 1, 255, 256), (256, 299));
+    assert_eq!(rt; filled_with_300(rt.alloc()), Ok(wanted));
 }
 
 /// Pushes a value, which counts its owners, this many times.
@@ -57,45 +65,49 @@ fn fill_with(arena: &mut Arena<Rc<u32>>, value: &Rc<u32>, count: u32) -> Result<
     Ok(())
 }
 
-// Puts a value into an arena 600 times, exchanges the last of them, and reports whether it has that many owners.
-fn is_counted(arena: &mut Arena<Rc<u32>>, value: &Rc<u32>) -> Result<bool, AllocError>
+/// How many values an arena has, and how many owners a value then has, before and after one of them is exchanged.
+type CountedOwners = (u32, usize, usize);
+
+// Puts a value into an arena 600 times, and exchanges the last of them.
+fn counted(arena: &mut Arena<Rc<u32>>, value: &Rc<u32>) -> Result<CountedOwners, AllocError>
     requires { 600 ≤ arena.old.spare }
 {
     fill_with(arena, value, 600)?;
-    let all = arena.len() == 600 && Rc::strong_count(value) == 601;
+    let count = arena.len();
+    let owners = Rc::strong_count(value);
     if arena.len() > 599 {
         drop(arena.exchange(599, value.clone()?));
     }
-    Ok(all && Rc::strong_count(value) == 601)
+    Ok((count, owners, Rc::strong_count(value)))
 }
 
 // The same in an arena that is then dropped.
-fn is_counted_in_arena(alloc: Global, value: &Rc<u32>) -> Result<bool, AllocError> {
+fn counted_in_arena(alloc: Global, value: &Rc<u32>) -> Result<CountedOwners, AllocError> {
     let mut arena = Arena::new(alloc);
     arena.reserve(600)?;
-    is_counted(&mut arena, value)
+    counted(&mut arena, value)
 }
 
-// Whether a value has one owner again after the arena that held it 600 times.
-fn is_dropped_600_times(alloc: Global) -> Result<bool, AllocError> {
+// The same, and how many owners a value has after the arena that held it 600 times.
+fn dropped_600_times(alloc: Global) -> Result<(CountedOwners, usize), AllocError> {
     let value = Rc::new(alloc, 7)?;
-    let is_right = is_counted_in_arena(alloc, &value)?;
-    Ok(is_right && Rc::strong_count(&value) == 1)
+    let counted = counted_in_arena(alloc, &value)?;
+    Ok((counted, Rc::strong_count(&value)))
 }
 
 #[test]
 fn each_value_is_dropped_once(rt: HostRuntime) {
-    assert!(rt; is_dropped_600_times(rt.alloc()) == Ok(true));
+    assert_eq!(rt; dropped_600_times(rt.alloc()), Ok(((600, 601, 601), 1)));
 }
 
-// Whether an arena that has room and no values is empty.
-fn is_empty(alloc: Global) -> Result<bool, AllocError> {
+// How many values an arena has that only has room.
+fn length_with_room(alloc: Global) -> Result<u32, AllocError> {
     let mut arena: Arena<Rc<u32>> = Arena::new(alloc);
     arena.reserve(1000)?;
-    Ok(arena.len() == 0)
+    Ok(arena.len())
 }
 
 #[test]
 fn room_is_no_value(rt: HostRuntime) {
-    assert!(rt; is_empty(rt.alloc()) == Ok(true));
+    assert_eq!(rt; length_with_room(rt.alloc()), Ok(0));
 }

@@ -91,19 +91,20 @@ fn goes(heap: &mut Heap, act: Act) -> bool {
     }
 }
 
-fn all_go(heap: &mut Heap, acts: &[Act]) -> bool {
-    for act in acts {
-        if !goes(heap, *act) {
-            return false;
+// The place of the first of these acts that does not have the result that it states.
+fn wrong_act(heap: &mut Heap, acts: &[Act]) -> Option<usize> {
+    for at in 0..acts.len() {
+        if !goes(heap, acts[at]) {
+            return Some(at);
         }
     }
-    true
+    None
 }
 
-// Whether these acts have the results that they state, one after another, in a new heap.
-fn go(alloc: Global, acts: &[Act]) -> bool {
+// The same, one after another, in a new heap.
+fn wrong_in_heap(alloc: Global, acts: &[Act]) -> Option<usize> {
     let mut heap = Heap::new(alloc);
-    all_go(&mut heap, acts)
+    wrong_act(&mut heap, acts)
 }
 
 const ONE_OBJECT: [Act; 12] = [
@@ -123,7 +124,7 @@ const ONE_OBJECT: [Act; 12] = [
 
 #[test]
 fn an_object_has_its_entity_and_its_fields(rt: HostRuntime) {
-    assert!(rt; go(rt.alloc(), &ONE_OBJECT));
+    assert_eq!(rt; wrong_in_heap(rt.alloc(), &ONE_OBJECT), None);
 }
 
 const SERIALS: [Act; 9] = [
@@ -140,7 +141,7 @@ const SERIALS: [Act; 9] = [
 
 #[test]
 fn each_maker_counts_its_own_objects(rt: HostRuntime) {
-    assert!(rt; go(rt.alloc(), &SERIALS));
+    assert_eq!(rt; wrong_in_heap(rt.alloc(), &SERIALS), None);
 }
 
 const ROOM: [Act; 8] = [
@@ -156,7 +157,7 @@ const ROOM: [Act; 8] = [
 
 #[test]
 fn room_that_is_not_used_is_no_object(rt: HostRuntime) {
-    assert!(rt; go(rt.alloc(), &ROOM));
+    assert_eq!(rt; wrong_in_heap(rt.alloc(), &ROOM), None);
 }
 
 const MANY_FIELDS: [Act; 5] = [
@@ -169,7 +170,7 @@ const MANY_FIELDS: [Act; 5] = [
 
 #[test]
 fn behind_the_last_of_many_fields_there_is_none(rt: HostRuntime) {
-    assert!(rt; go(rt.alloc(), &MANY_FIELDS));
+    assert_eq!(rt; wrong_in_heap(rt.alloc(), &MANY_FIELDS), None);
 }
 
 const FIELDS_APART: [Act; 7] = [
@@ -184,5 +185,5 @@ const FIELDS_APART: [Act; 7] = [
 
 #[test]
 fn the_fields_of_one_object_are_no_fields_of_another(rt: HostRuntime) {
-    assert!(rt; go(rt.alloc(), &FIELDS_APART));
+    assert_eq!(rt; wrong_in_heap(rt.alloc(), &FIELDS_APART), None);
 }

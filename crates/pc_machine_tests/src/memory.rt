@@ -4,6 +4,7 @@ use crate::running::core_again;
 use crate::turns::{Counts, counts, has_printed, step};
 use pc_core::Core;
 use pc_machine::{Machine, Outcome, start};
+use pc_test_inputs::Wrong;
 use pc_test_inputs::programs::CHAIN;
 use std::alloc::Global;
 
@@ -34,58 +35,102 @@ fn started(alloc: Global, core: &Core) -> Option<Machine<'_>> {
     start(alloc, core).ok()
 }
 
-/// Whether a step of an actor ends like this, tried once more if memory ran out, and nothing visible changes in
-/// between.
-fn ends(machine: &mut Machine<'_>, actor: u32, outcome: Outcome) -> bool {
+/// Why a step has no outcome.
+#[derive(Clone, Copy, Debug, PartialEq, Eq)]
+enum Undone {
+    /// Memory ran out, and something visible changed.
+    Changed,
+    /// Memory ran out twice.
+    OutOfMemory,
+}
+
+/// How a step of an actor ends, tried once more if memory ran out, if nothing visible changes in between.
+fn end_of(machine: &mut Machine<'_>, actor: u32) -> Result<Outcome, Undone> {
     let before = counts(machine);
     let access = machine.access(actor);
     if let Ok(first) = step(machine, actor) {
-        return first == outcome;
+        return Ok(first);
     }
     if counts(machine) != before || machine.access(actor) != access {
-        return false;
+        return Err(Undone::Changed);
     }
-    match step(machine, actor) {
-        Ok(second) => second == outcome,
-        Err(_) => false,
-    }
+    step(machine, actor).or(Err(Undone::OutOfMemory))
 }
 
-/// Whether this many steps of an actor move, and then one is skipped.
-fn run(machine: &mut Machine<'_>, actor: u32, times: u32) -> bool {
-    for _ in 0..times {
-        if !ends(machine, actor, Outcome::Moved) {
-            return false;
+/// How many steps of an actor move, of at most this many, and how the next one ends.
+type Ran = Result<(u32, Outcome), Undone>;
+
+fn run(machine: &mut Machine<'_>, actor: u32, times: u32) -> Ran {
+    for moved in 0..times {
+        let outcome = end_of(machine, actor)?;
+        if outcome != Outcome::Moved {
+            return Ok((moved, outcome));
         }
     }
-    ends(machine, actor, Outcome::Skipped)
+    Ok((times, end_of(machine, actor)?))
 }
 
 // An actor, how many steps it takes, and how many of each thing there are after them.
 type Turn = (u32, u32, Counts);
 
-/// Whether these turns go like this, one after another.
-fn all_run(machine: &mut Machine<'_>, turns: &[Turn]) -> bool {
-    for (actor, steps, wanted) in turns {
-        if !run(machine, *actor, *steps) || counts(machine) != *wanted {
-            return false;
+/// Why a program does not run like this.
+#[derive(Clone, Copy, Debug, PartialEq)]
+enum Other {
+    /// It has no machine.
+    NoMachine(Wrong),
+    /// The turn at this place goes like this, and then there are these numbers.
+    Turn(usize, Ran, Counts),
+    /// It prints other texts.
+    Prints,
+}
+
+impl From<Wrong> for Other {
+    fn from(wrong: Wrong) -> Other {
+        Other::NoMachine(wrong)
+    }
+}
+
+/// Checks that these turns go like this, one after another: all steps move, and the next one is skipped.
+fn all_run(machine: &mut Machine<'_>, turns: &[Turn]) -> Result<(), Other> {
+    for at in 0..turns.len() {
+        let (actor, steps, wanted) = turns[at];
+        let ran = run(machine, actor, steps);
+        if ran != Ok((steps, Outcome::Skipped)) || counts(machine) != wanted {
+            return Err(Other::Turn(at, ran, counts(machine)));
         }
     }
-    true
+    Ok(())
 }
 
-fn runs_the_same(alloc: Global, core: &Core, turns: &[Turn], printed: &[&[u8]]) -> bool {
+fn all_print(machine: &mut Machine<'_>, turns: &[Turn], printed: &[&[u8]]) -> Result<(), Other> {
+    all_run(machine, turns)?;
+    if has_printed(machine, printed) {
+        Ok(())
+    } else {
+        Err(Other::Prints)
+    }
+}
+
+fn runs_the_same(
+    alloc: Global,
+    core: &Core,
+    turns: &[Turn],
+    printed: &[&[u8]],
+) -> Result<(), Other> {
     match started(alloc, core) {
-        Some(mut machine) => all_run(&mut machine, turns) && has_printed(&machine, printed),
-        None => false,
+        Some(mut machine) => all_print(&mut machine, turns, printed),
+        None => Err(Other::NoMachine(Wrong::OutOfMemory)),
     }
 }
 
-fn ends_the_same(alloc: Global, program: &[u8], turns: &[Turn], printed: &[&[u8]]) -> bool {
-    match core_again(alloc, program) {
-        Some(core) => runs_the_same(alloc, &core, turns, printed),
-        None => false,
-    }
+fn ends_the_same(
+    alloc: Global,
+    program: &[u8],
+    turns: &[Turn],
+    printed: &[&[u8]],
+) -> Result<(), Other> {
+    let core = core_again(alloc, program)?;
+    runs_the_same(alloc, &core, turns, printed)
 }
 
 const ARGUMENTS_TURNS: [Turn; 3] = [
@@ -96,7 +141,8 @@ const ARGUMENTS_TURNS: [Turn; 3] = [
 
 #[test]
 fn many_arguments(rt: HostRuntime) {
-    assert!(rt; ends_the_same(rt.alloc(), ARGUMENTS, &ARGUMENTS_TURNS, &[b"x!4", b"y!5"]));
+    let ended = ends_the_same(rt.alloc(), ARGUMENTS, &ARGUMENTS_TURNS, &[b"x!4", b"y!5"]);
+    assert_eq!(rt; ended, Ok(()));
 }
 
 const CHAIN_TURNS: [Turn; 3] = [
@@ -107,5 +153,6 @@ const CHAIN_TURNS: [Turn; 3] = [
 
 #[test]
 fn chain(rt: HostRuntime) {
-    assert!(rt; ends_the_same(rt.alloc(), CHAIN, &CHAIN_TURNS, &[b"3"]));
+    let ended = ends_the_same(rt.alloc(), CHAIN, &CHAIN_TURNS, &[b"3"]);
+    assert_eq!(rt; ended, Ok(()));
 }

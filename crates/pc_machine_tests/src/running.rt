@@ -5,7 +5,7 @@ use pc_core::{Core, Method};
 use pc_heap::{Address, Heap, Value};
 use pc_semantics::{Frame, Outcome, Slots, Stack, Task, Tasks};
 use pc_tasks::{is_inside, run_inside};
-use pc_test_inputs::core_of;
+use pc_test_inputs::{Wrong, core_of};
 use std::alloc::{AllocError, Global};
 
 /// How a constructor ended.
@@ -15,9 +15,29 @@ pub struct Ended {
     pub steps: u32,
     /// How the last step ended.
     pub last: Outcome,
-    /// Whether it is at its Return, with one value on the stack, and the slots after its parameter hold what they
-    /// should.
-    pub is_done: bool,
+    /// Whether it is at its Return, with one value on the stack.
+    pub is_at_return: bool,
+    /// The place of the first slot after its parameter that does not hold what it should.
+    pub wrong_slot: Option<usize>,
+}
+
+/// Why a constructor did not come to its end.
+#[derive(Clone, Copy, Debug, PartialEq, Eq)]
+pub enum Unended {
+    /// There is no constructor, for this reason.
+    NoMain(Wrong),
+    /// Memory ran out twice.
+    OutOfMemory,
+    /// Memory ran out once, and something that is observed changed.
+    Changed,
+    /// It took 20,000 steps.
+    Endless,
+}
+
+impl From<Wrong> for Unended {
+    fn from(wrong: Wrong) -> Unended {
+        Unended::NoMain(wrong)
+    }
 }
 
 // What is observed of a frame: how many values it has, its first task, and how many of its slots, of which there are at
@@ -31,19 +51,24 @@ fn told_of(frame: &Frame) -> Told {
     (frame.stack.len(), frame.tasks.top(), held)
 }
 
-// How a step ends, tried once more if memory ran out. There is no answer if the failure changed what is observed.
-fn step(alloc: Global, core: &Core, heap: &mut Heap, frame: &mut Frame) -> Option<Outcome> {
+// How a step ends, tried once more if memory ran out.
+fn step(
+    alloc: Global,
+    core: &Core,
+    heap: &mut Heap,
+    frame: &mut Frame,
+) -> Result<Outcome, Unended> {
     if !is_inside(frame) {
-        return None;
+        return Err(Unended::NoMain(Wrong::NotThere));
     }
     let before = told_of(frame);
     if let Ok(outcome) = run_inside(alloc, core, heap, frame) {
-        return Some(outcome);
+        return Ok(outcome);
     }
     if told_of(frame) == before {
-        run_inside(alloc, core, heap, frame).ok()
+        run_inside(alloc, core, heap, frame).or(Err(Unended::OutOfMemory))
     } else {
-        None
+        Err(Unended::Changed)
     }
 }
 
@@ -53,32 +78,32 @@ fn last_outcome(
     core: &Core,
     heap: &mut Heap,
     frame: &mut Frame,
-) -> Option<(u32, Outcome)> {
+) -> Result<(u32, Outcome), Unended> {
     let mut last = Outcome::Skipped;
     for before in 0..20_000 {
         if !is_inside(frame) {
-            return Some((before, last));
+            return Ok((before, last));
         }
         last = step(alloc, core, heap, frame)?;
         if last != Outcome::Moved {
-            return Some((before + 1, last));
+            return Ok((before + 1, last));
         }
     }
-    None
+    Err(Unended::Endless)
 }
 
 fn slot_holds(frame: &Frame, slot: usize, wanted: Held<'_>) -> bool {
     holds(frame.slots.get(slot), Some(wanted))
 }
 
-// Whether the slots after the parameter of a constructor hold these values.
-fn slots_hold(frame: &Frame, wanted: &[Held<'_>]) -> bool {
+// The place of the first slot after the parameter of a constructor that does not hold the value that it should.
+fn wrong_slot(frame: &Frame, wanted: &[Held<'_>]) -> Option<usize> {
     for place in 0..wanted.len() {
         if !slot_holds(frame, place + 2, wanted[place]) {
-            return false;
+            return Some(place);
         }
     }
-    true
+    None
 }
 
 // Whether a frame is at its Return, with one value on the stack.
@@ -92,13 +117,13 @@ fn run(
     heap: &mut Heap,
     frame: &mut Frame,
     wanted: &[Held<'_>],
-) -> Option<Ended> {
+) -> Result<Ended, Unended> {
     let (steps, last) = last_outcome(alloc, core, heap, frame)?;
-    let is_done = is_at_return(frame) && slots_hold(frame, wanted);
-    Some(Ended {
+    Ok(Ended {
         steps,
         last,
-        is_done,
+        is_at_return: is_at_return(frame),
+        wrong_slot: wrong_slot(frame, wanted),
     })
 }
 
@@ -121,12 +146,12 @@ fn frame_of(alloc: Global, this: Address, slots: u32, body: u32) -> Result<Frame
     })
 }
 
-fn begun(alloc: Global, this: Address, method: &Method) -> Option<Frame> {
-    let body = method.body?;
+fn begun(alloc: Global, this: Address, method: &Method) -> Result<Frame, Unended> {
+    let body = method.body.ok_or(Unended::NoMain(Wrong::NotThere))?;
     if let Ok(frame) = frame_of(alloc, this, method.slots, body) {
-        return Some(frame);
+        return Ok(frame);
     }
-    frame_of(alloc, this, method.slots, body).ok()
+    frame_of(alloc, this, method.slots, body).or(Err(Unended::OutOfMemory))
 }
 
 // The object of Main, with this many fields.
@@ -144,32 +169,41 @@ fn run_main(
     heap: &mut Heap,
     fields: u32,
     wanted: &[Held<'_>],
-) -> Option<Ended> {
-    let this = main_object(heap, fields)?;
-    match begun(alloc, this, core.method_at(1)?) {
-        Some(mut frame) => run(alloc, core, heap, &mut frame, wanted),
-        None => None,
+) -> Result<Ended, Unended> {
+    let this = main_object(heap, fields).ok_or(Unended::OutOfMemory)?;
+    let method = core.method_at(1).ok_or(Unended::NoMain(Wrong::NotThere))?;
+    match begun(alloc, this, method) {
+        Ok(mut frame) => run(alloc, core, heap, &mut frame, wanted),
+        Err(unended) => Err(unended),
     }
 }
 
-fn run_core(alloc: Global, core: &Core, fields: u32, wanted: &[Held<'_>]) -> Option<Ended> {
+fn run_core(
+    alloc: Global,
+    core: &Core,
+    fields: u32,
+    wanted: &[Held<'_>],
+) -> Result<Ended, Unended> {
     let mut heap = Heap::new(alloc);
     run_main(alloc, core, &mut heap, fields, wanted)
 }
 
-/// The core of a program.
-pub fn core_again(alloc: Global, program: &[u8]) -> Option<Core> {
-    if let Some(core) = core_of(alloc, program) {
-        return Some(core);
+/// The core of a program, tried once more if there is none.
+pub fn core_again(alloc: Global, program: &[u8]) -> Result<Core, Wrong> {
+    if let Ok(core) = core_of(alloc, program) {
+        return Ok(core);
     }
     core_of(alloc, program)
 }
 
 /// How the constructor of Main ends, if Main has this many fields and is the only entity of this text. The slots after
 /// its parameter should then hold these values.
-pub fn end_of(alloc: Global, text: &[u8], fields: u32, wanted: &[Held<'_>]) -> Option<Ended> {
-    match core_again(alloc, text) {
-        Some(core) => run_core(alloc, &core, fields, wanted),
-        None => None,
-    }
+pub fn end_of(
+    alloc: Global,
+    text: &[u8],
+    fields: u32,
+    wanted: &[Held<'_>],
+) -> Result<Ended, Unended> {
+    let core = core_again(alloc, text)?;
+    run_core(alloc, &core, fields, wanted)
 }

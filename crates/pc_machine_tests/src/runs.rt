@@ -1,24 +1,29 @@
 //! Programs run step by step. The numbers of steps are counted by hand, from the tasks of each node.
-use crate::turns::{Turn, seen_behind};
+use crate::turns::{Turn, Unlike, seen_behind};
 use pc_heap::Address;
 use pc_machine::{Access, Lack, Outcome};
 use pc_test_inputs::programs::HELLO;
 use std::alloc::Global;
 
-// Whether a program takes these turns and prints these texts.
-fn runs(alloc: Global, text: &[u8], turns: &[Turn], printed: &[&[u8]]) -> bool {
-    match seen_behind(alloc, text, turns, printed, 0) {
-        Some(seen) => seen.is_printed,
-        None => false,
+// Checks that a program takes these turns and prints these texts.
+fn runs(alloc: Global, text: &[u8], turns: &[Turn], printed: &[&[u8]]) -> Result<(), Unlike> {
+    let seen = seen_behind(alloc, text, turns, printed, 0)?;
+    if seen.is_printed {
+        Ok(())
+    } else {
+        Err(Unlike::Prints)
     }
 }
 
-// Whether the step of an actor ends like this after these turns of a program.
-fn ends(alloc: Global, text: &[u8], turns: &[Turn], actor: u32, outcome: Outcome) -> bool {
-    match seen_behind(alloc, text, turns, &[], actor) {
-        Some(seen) => seen.outcome == Some(outcome),
-        None => false,
-    }
+// How the step of an actor ends after these turns of a program, unless memory runs out.
+fn end_of(
+    alloc: Global,
+    text: &[u8],
+    turns: &[Turn],
+    actor: u32,
+) -> Result<Option<Outcome>, Unlike> {
+    let seen = seen_behind(alloc, text, turns, &[], actor)?;
+    Ok(seen.outcome)
 }
 
 // The take, the body, the sequence, the call, the text, the field, the local, the read, the invocation and the return;
@@ -35,7 +40,7 @@ const HELLO_TURNS: [Turn; 7] = [
 
 #[test]
 fn a_text_is_printed(rt: HostRuntime) {
-    assert!(rt; runs(rt.alloc(), HELLO, &HELLO_TURNS, &[b"hi"]));
+    assert_eq!(rt; runs(rt.alloc(), HELLO, &HELLO_TURNS, &[b"hi"]), Ok(()));
 }
 
 const SPAWN: &[u8] = b"actor A
@@ -57,7 +62,7 @@ const SPAWN_TURNS: [Turn; 5] = [
 
 #[test]
 fn an_actor_is_made_and_takes_its_message(rt: HostRuntime) {
-    assert!(rt; runs(rt.alloc(), SPAWN, &SPAWN_TURNS, &[]));
+    assert_eq!(rt; runs(rt.alloc(), SPAWN, &SPAWN_TURNS, &[]), Ok(()));
 }
 
 const CALL: &[u8] = b"actor Main
@@ -72,7 +77,7 @@ const CALL_TURNS: [Turn; 2] = [(1, 99, 22, (2, 3, 1, 0)), (0, 9, 1, (2, 3, 0, 1)
 
 #[test]
 fn a_function_is_called(rt: HostRuntime) {
-    assert!(rt; runs(rt.alloc(), CALL, &CALL_TURNS, &[b"42"]));
+    assert_eq!(rt; runs(rt.alloc(), CALL, &CALL_TURNS, &[b"42"]), Ok(()));
 }
 
 const MAKE: &[u8] = b"class C
@@ -95,7 +100,7 @@ const MAKE_TURNS: [Turn; 4] = [
 
 #[test]
 fn an_object_is_made_and_its_field_is_read(rt: HostRuntime) {
-    assert!(rt; runs(rt.alloc(), MAKE, &MAKE_TURNS, &[b"7"]));
+    assert_eq!(rt; runs(rt.alloc(), MAKE, &MAKE_TURNS, &[b"7"]), Ok(()));
 }
 
 // The writing and the reading of the field of the object that Main makes.
@@ -124,25 +129,28 @@ const TOUCHED: [(&[Turn], Option<Access>); 3] = [
     (&[(1, 20, 20, (2, 4, 0, 0))], Some(READING)),
 ];
 
-fn touches(alloc: Global, turns: &[Turn], access: Option<Access>) -> bool {
-    match seen_behind(alloc, MAKE, turns, &[], 1) {
-        Some(seen) => seen.access == access,
-        None => false,
-    }
+/// What Main is about to touch after turns, if they have their results.
+type Touching = Result<Option<Access>, Unlike>;
+
+fn touched_behind(alloc: Global, turns: &[Turn]) -> Touching {
+    let seen = seen_behind(alloc, MAKE, turns, &[], 1)?;
+    Ok(seen.access)
 }
 
-fn touches_all(alloc: Global, rows: &[(&[Turn], Option<Access>)]) -> bool {
-    for (turns, access) in rows {
-        if !touches(alloc, turns, *access) {
-            return false;
+// The place of the first of these rows after which Main is about to touch something else, and what.
+fn wrong_touch(alloc: Global, rows: &[(&[Turn], Option<Access>)]) -> Option<(usize, Touching)> {
+    for at in 0..rows.len() {
+        let touched = touched_behind(alloc, rows[at].0);
+        if touched != Ok(rows[at].1) {
+            return Some((at, touched));
         }
     }
-    true
+    None
 }
 
 #[test]
 fn before_its_writing_and_its_reading_an_actor_is_about_to_touch_a_field(rt: HostRuntime) {
-    assert!(rt; touches_all(rt.alloc(), &TOUCHED));
+    assert_eq!(rt; wrong_touch(rt.alloc(), &TOUCHED), None);
 }
 
 const LACK: &[u8] = b"actor Main
@@ -155,15 +163,8 @@ const LACK_TURNS: [Turn; 2] = [(1, 99, 6, (2, 3, 0, 0)), (1, 99, 0, (2, 3, 0, 0)
 
 #[test]
 fn a_step_that_lacks_something_changes_nothing(rt: HostRuntime) {
-    assert!(rt;
-        ends(
-            rt.alloc(),
-            LACK,
-            &LACK_TURNS,
-            1,
-            Outcome::Lacks(Lack::Value)
-        )
-    );
+    let outcome = Outcome::Lacks(Lack::Value);
+    assert_eq!(rt; end_of(rt.alloc(), LACK, &LACK_TURNS, 1), Ok(Some(outcome)));
 }
 
 const NO_METHOD: &[u8] = b"actor Main
@@ -177,7 +178,10 @@ const NO_METHOD_TURNS: [Turn; 1] = [(1, 99, 5, (2, 3, 0, 0))];
 #[test]
 fn a_call_of_a_method_that_is_not_there_lacks_it(rt: HostRuntime) {
     let outcome = Outcome::Lacks(Lack::Method);
-    assert!(rt; ends(rt.alloc(), NO_METHOD, &NO_METHOD_TURNS, 1, outcome));
+    assert_eq!(rt;
+        end_of(rt.alloc(), NO_METHOD, &NO_METHOD_TURNS, 1),
+        Ok(Some(outcome))
+    );
 }
 
 const LONG: &[u8] = b"class C
@@ -203,5 +207,6 @@ const LONG_TURNS: [Turn; 2] = [
 
 #[test]
 fn a_million_steps_are_taken(rt: HostRuntime) {
-    assert!(rt; ends(rt.alloc(), LONG, &LONG_TURNS, 0, Outcome::Skipped));
+    let outcome = Outcome::Skipped;
+    assert_eq!(rt; end_of(rt.alloc(), LONG, &LONG_TURNS, 0), Ok(Some(outcome)));
 }

@@ -1,16 +1,19 @@
 //! The tasks that stay inside a frame: constructors of small texts, run to their ends.
 use crate::held::Held;
-use crate::running::end_of;
+use crate::running::{Unended, end_of};
 use pc_semantics::{Lack, Outcome};
 use std::alloc::Global;
 
-// Whether the constructor of a text, of a Main with this many fields, reaches its Return with these values in its
-// locals.
-fn leaves(alloc: Global, text: &[u8], fields: u32, locals: &[Held<'_>]) -> bool {
-    match end_of(alloc, text, fields, locals) {
-        Some(ended) => ended.last == Outcome::Moved && ended.is_done,
-        None => false,
-    }
+/// How a last step ends, whether it leads to the Return, and the first local that does not hold what it should.
+type Left = (Outcome, bool, Option<usize>);
+
+/// The Return is reached, with the right values in all locals.
+const DONE: Result<Left, Unended> = Ok((Outcome::Moved, true, None));
+
+// How the constructor of a text ends, of a Main with this many fields, whose locals should then hold these values.
+fn leaves(alloc: Global, text: &[u8], fields: u32, locals: &[Held<'_>]) -> Result<Left, Unended> {
+    let ended = end_of(alloc, text, fields, locals)?;
+    Ok((ended.last, ended.is_at_return, ended.wrong_slot))
 }
 
 // The value None.
@@ -34,7 +37,7 @@ const NUMBERS_LOCALS: [Held<'static>; 5] = [
 
 #[test]
 fn numbers_wrap_and_a_division_by_0_gives_0(rt: HostRuntime) {
-    assert!(rt; leaves(rt.alloc(), NUMBERS, 0, &NUMBERS_LOCALS));
+    assert_eq!(rt; leaves(rt.alloc(), NUMBERS, 0, &NUMBERS_LOCALS), DONE);
 }
 
 const TRUTHS: &[u8] = b"actor Main
@@ -59,7 +62,7 @@ const TRUTHS_LOCALS: [Held<'static>; 7] = [
 
 #[test]
 fn values_are_compared_by_what_they_are(rt: HostRuntime) {
-    assert!(rt; leaves(rt.alloc(), TRUTHS, 0, &TRUTHS_LOCALS));
+    assert_eq!(rt; leaves(rt.alloc(), TRUTHS, 0, &TRUTHS_LOCALS), DONE);
 }
 
 const SIDES: &[u8] = b"actor Main
@@ -80,7 +83,7 @@ const SIDES_LOCALS: [Held<'static>; 5] = [
 
 #[test]
 fn a_right_side_is_done_where_the_left_one_does_not_decide(rt: HostRuntime) {
-    assert!(rt; leaves(rt.alloc(), SIDES, 0, &SIDES_LOCALS));
+    assert_eq!(rt; leaves(rt.alloc(), SIDES, 0, &SIDES_LOCALS), DONE);
 }
 
 const TURNS: &[u8] = b"actor Main
@@ -106,7 +109,7 @@ const TURNS_LOCALS: [Held<'static>; 6] = [
 
 #[test]
 fn slots_are_written_round_a_loop_and_consumed(rt: HostRuntime) {
-    assert!(rt; leaves(rt.alloc(), TURNS, 0, &TURNS_LOCALS));
+    assert_eq!(rt; leaves(rt.alloc(), TURNS, 0, &TURNS_LOCALS), DONE);
 }
 
 const FIELDS: &[u8] = b"actor Main
@@ -128,7 +131,7 @@ const FIELDS_LOCALS: [Held<'static>; 4] = [
 
 #[test]
 fn fields_are_written_and_read(rt: HostRuntime) {
-    assert!(rt; leaves(rt.alloc(), FIELDS, 2, &FIELDS_LOCALS));
+    assert_eq!(rt; leaves(rt.alloc(), FIELDS, 2, &FIELDS_LOCALS), DONE);
 }
 
 // The text doubles until it has 4,096 bytes.
@@ -176,7 +179,7 @@ const SEAMS_LOCALS: [Held<'static>; 5] = [
 
 #[test]
 fn texts_are_equal_wherever_they_were_joined(rt: HostRuntime) {
-    assert!(rt; leaves(rt.alloc(), SEAMS, 0, &SEAMS_LOCALS));
+    assert_eq!(rt; leaves(rt.alloc(), SEAMS, 0, &SEAMS_LOCALS), DONE);
 }
 
 const UNSET: &[u8] = b"actor Main
@@ -212,23 +215,27 @@ const ENDINGS: [Ending; 5] = [
     (PLACE, 0, 10, Outcome::Lacks(Lack::Object)),
 ];
 
-fn ends(alloc: Global, text: &[u8], fields: u32, steps: u32, outcome: Outcome) -> bool {
-    match end_of(alloc, text, fields, &[]) {
-        Some(ended) => ended.steps == steps && ended.last == outcome,
-        None => false,
-    }
+/// How many steps there are, and how the last one ends.
+type Last = Result<(u32, Outcome), Unended>;
+
+fn last_of(alloc: Global, text: &[u8], fields: u32) -> Last {
+    let ended = end_of(alloc, text, fields, &[])?;
+    Ok((ended.steps, ended.last))
 }
 
-fn all_end(alloc: Global, endings: &[Ending]) -> bool {
-    for (text, fields, steps, outcome) in endings {
-        if !ends(alloc, text, *fields, *steps, *outcome) {
-            return false;
+// The place of the first of these texts whose constructor ends in another way, and how it ends.
+fn wrong_ending(alloc: Global, endings: &[Ending]) -> Option<(usize, Last)> {
+    for at in 0..endings.len() {
+        let (text, fields, steps, outcome) = endings[at];
+        let last = last_of(alloc, text, fields);
+        if last != Ok((steps, outcome)) {
+            return Some((at, last));
         }
     }
-    true
+    None
 }
 
 #[test]
 fn a_step_that_does_not_move_says_why(rt: HostRuntime) {
-    assert!(rt; all_end(rt.alloc(), &ENDINGS));
+    assert_eq!(rt; wrong_ending(rt.alloc(), &ENDINGS), None);
 }

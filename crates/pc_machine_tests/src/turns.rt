@@ -1,7 +1,7 @@
 //! Turns of a machine, and what is seen after them.
 use pc_core::Core;
 use pc_machine::{Access, Machine, Outcome, start};
-use pc_test_inputs::core_of;
+use pc_test_inputs::{Wrong, core_of};
 use std::alloc::{AllocError, Global};
 
 /// The numbers of actors, objects, waiting messages and printed texts.
@@ -20,6 +20,25 @@ pub struct Seen {
     pub access: Option<Access>,
     /// How its next step ends, unless memory runs out.
     pub outcome: Option<Outcome>,
+}
+
+/// Why turns of a program do not have the results that they state.
+#[derive(Clone, Copy, Debug, PartialEq)]
+pub enum Unlike {
+    /// The program has no machine.
+    NoMachine(Wrong),
+    /// The machine begins with these numbers.
+    Begins(Counts),
+    /// The turn at this place has this many steps that move, and then there are these numbers.
+    Turn(usize, u32, Counts),
+    /// Other texts are printed.
+    Prints,
+}
+
+impl From<Wrong> for Unlike {
+    fn from(wrong: Wrong) -> Unlike {
+        Unlike::NoMachine(wrong)
+    }
 }
 
 /// A step, if the machine is small enough for one.
@@ -59,14 +78,16 @@ fn moved(machine: &mut Machine<'_>, actor: u32, steps: u32) -> u32 {
     steps
 }
 
-// Whether these turns have the results that they state, one after another.
-fn all_go(machine: &mut Machine<'_>, turns: &[Turn]) -> bool {
-    for (actor, steps, wanted, behind) in turns {
-        if moved(machine, *actor, *steps) != *wanted || counts(machine) != *behind {
-            return false;
+// Checks that these turns have the results that they state, one after another.
+fn all_go(machine: &mut Machine<'_>, turns: &[Turn]) -> Result<(), Unlike> {
+    for at in 0..turns.len() {
+        let (actor, steps, wanted, behind) = turns[at];
+        let moves = moved(machine, actor, steps);
+        if moves != wanted || counts(machine) != behind {
+            return Err(Unlike::Turn(at, moves, counts(machine)));
         }
     }
-    true
+    Ok(())
 }
 
 /// Whether these texts were printed, in order.
@@ -85,11 +106,12 @@ fn seen_of(
     turns: &[Turn],
     printed: &[&[u8]],
     actor: u32,
-) -> Option<Seen> {
-    if counts(machine) != (2, 3, 1, 0) || !all_go(machine, turns) {
-        return None;
+) -> Result<Seen, Unlike> {
+    if counts(machine) != (2, 3, 1, 0) {
+        return Err(Unlike::Begins(counts(machine)));
     }
-    Some(Seen {
+    all_go(machine, turns)?;
+    Ok(Seen {
         is_printed: has_printed(machine, printed),
         access: machine.access(actor),
         outcome: step(machine, actor).ok(),
@@ -103,24 +125,22 @@ fn seen_in_core(
     turns: &[Turn],
     printed: &[&[u8]],
     actor: u32,
-) -> Option<Seen> {
+) -> Result<Seen, Unlike> {
     match start(alloc, core) {
         Ok(mut machine) => seen_of(&mut machine, turns, printed, actor),
-        Err(_) => None,
+        Err(_) => Err(Unlike::NoMachine(Wrong::OutOfMemory)),
     }
 }
 
-/// What is seen of the machine of a program and of an actor, after these turns. There is no answer if a turn does not
-/// have its result, or if the machine does not begin with two actors, three objects and a waiting message.
+/// What is seen of the machine of a program and of an actor, after these turns, if each of them has its result, and the
+/// machine begins with two actors, three objects and a waiting message.
 pub fn seen_behind(
     alloc: Global,
     text: &[u8],
     turns: &[Turn],
     printed: &[&[u8]],
     actor: u32,
-) -> Option<Seen> {
-    match core_of(alloc, text) {
-        Some(core) => seen_in_core(alloc, &core, turns, printed, actor),
-        None => None,
-    }
+) -> Result<Seen, Unlike> {
+    let core = core_of(alloc, text)?;
+    seen_in_core(alloc, &core, turns, printed, actor)
 }

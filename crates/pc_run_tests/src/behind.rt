@@ -9,11 +9,11 @@ use pc_core::Core;
 use pc_machine::Machine;
 use pc_safe::{accepted_is_safe, accepted_runs};
 use pc_semantics::Access;
-use pc_test_inputs::core_of;
+use pc_test_inputs::{Wrong, core_of};
 use std::alloc::{AllocError, Global};
 
 /// What is seen of a machine.
-#[derive(Clone, Copy, PartialEq)]
+#[derive(Clone, Copy, Debug, PartialEq)]
 pub struct Seen {
     /// How many actors there are.
     pub actors: u32,
@@ -69,33 +69,63 @@ fn seen_in_safe_run(
     }
 }
 
-// What is seen in both ways, if it is the same.
-fn seen_in_both(alloc: Global, core: &Core, actors: &[u32], two: (u32, u32)) -> Option<Seen>
+/// Why nothing is seen.
+#[derive(Clone, Copy, Debug, PartialEq, Eq)]
+pub enum NotSeen {
+    /// The program is not run.
+    NoRun(Wrong),
+    /// The list is not run to its end.
+    Cut,
+    /// `accepted_runs` and `accepted_is_safe` do not agree.
+    Unequal,
+}
+
+impl From<Wrong> for NotSeen {
+    fn from(wrong: Wrong) -> NotSeen {
+        NotSeen::NoRun(wrong)
+    }
+}
+
+// What is seen in both ways.
+fn seen_as_one(one: Option<Seen>, other: Option<Seen>) -> Result<Seen, NotSeen> {
+    if one == other {
+        one.ok_or(NotSeen::Cut)
+    } else {
+        Err(NotSeen::Unequal)
+    }
+}
+
+// What is seen of an accepted core.
+fn seen_in_both(
+    alloc: Global,
+    core: &Core,
+    actors: &[u32],
+    two: (u32, u32),
+) -> Result<Seen, NotSeen>
     requires { length actors.now ≤ list_limit }
 {
     match check(alloc, core) {
         Ok(ann) => {
             let _notes = &ann.notes;
             let run = seen_in_run(alloc, core, &ann, actors, two);
-            if seen_in_safe_run(alloc, core, &ann, actors, two) == run {
-                run
-            } else {
-                None
-            }
+            seen_as_one(run, seen_in_safe_run(alloc, core, &ann, actors, two))
         }
-        Err(_) => None,
+        Err(_) => Err(NotSeen::NoRun(Wrong::NotAccepted)),
     }
 }
 
 // The same of a program.
-fn seen_in_program(alloc: Global, program: &[u8], actors: &[u32], two: (u32, u32)) -> Option<Seen> {
+fn seen_in_program(
+    alloc: Global,
+    program: &[u8],
+    actors: &[u32],
+    two: (u32, u32),
+) -> Result<Seen, NotSeen> {
     if actors.len() > 4_000_000 {
-        return None;
+        return Err(NotSeen::NoRun(Wrong::PastLimit));
     }
-    match core_of(alloc, program) {
-        Some(core) => seen_in_both(alloc, &core, actors, two),
-        None => None,
-    }
+    let core = core_of(alloc, program)?;
+    seen_in_both(alloc, &core, actors, two)
 }
 
 fn push_turn(list: &mut Vec<u32>, actor: u32, times: u32) -> Result<(), AllocError> {
@@ -115,15 +145,14 @@ fn list_of(alloc: Global, turns: &[(u32, u32)]) -> Result<Vec<u32>, AllocError> 
 }
 
 /// What is seen of the machine and of two of its actors after turns, if `accepted_runs` and `accepted_is_safe` agree.
-/// There is no answer if the program is not accepted, if a text is too long, or if memory ran out.
 pub fn seen_behind(
     alloc: Global,
     program: &[u8],
     turns: &[(u32, u32)],
     two: (u32, u32),
-) -> Option<Seen> {
+) -> Result<Seen, NotSeen> {
     match list_of(alloc, turns) {
         Ok(actors) => seen_in_program(alloc, program, &actors, two),
-        Err(_) => None,
+        Err(_) => Err(NotSeen::NoRun(Wrong::OutOfMemory)),
     }
 }

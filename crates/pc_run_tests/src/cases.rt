@@ -1,8 +1,9 @@
 //! Runs of small programs: what they return and write. Each is tried once more if memory ran out.
-use crate::programs::run_program;
+use crate::programs::{NotRun, run_program};
 use pc_io::MemSink;
 use pc_run::{Report, RunFault};
 use pc_test_inputs::programs::{DOUBLES, HELLO};
+use pc_test_inputs::{Wrong, place_of_difference};
 use std::alloc::Global;
 
 /// What a run reports: steps that moved and were skipped, actors, objects, and messages that wait.
@@ -16,60 +17,81 @@ pub(crate) type Run = (
     &'static [u8],
 );
 
-fn has_numbers(report: Report, numbers: Numbers) -> bool {
-    report.moved == numbers.0
-        && report.skipped == numbers.1
-        && report.actors == numbers.2
-        && report.objects == numbers.3
-        && report.waiting == numbers.4
+fn numbers_of(answer: Result<Report, RunFault>) -> Result<Numbers, RunFault> {
+    let report = answer?;
+    Ok((
+        report.moved,
+        report.skipped,
+        report.actors,
+        report.objects,
+        report.waiting,
+    ))
 }
 
-fn is_answer(answer: Result<Report, RunFault>, wanted: Result<Numbers, RunFault>) -> bool {
-    match (answer, wanted) {
-        (Ok(report), Ok(numbers)) => has_numbers(report, numbers),
-        (Err(fault), Err(own)) => fault == own,
-        (Ok(_), Err(_)) | (Err(_), Ok(_)) => false,
+/// How a run is not the one that it should be.
+#[derive(Clone, Copy, Debug, PartialEq)]
+pub(crate) enum Other {
+    /// There is no run.
+    NoRun(NotRun),
+    /// It returns this.
+    Returns(Result<Numbers, RunFault>),
+    /// It writes something else from this place on.
+    Writes(usize),
+}
+
+impl From<NotRun> for Other {
+    fn from(fault: NotRun) -> Other {
+        Other::NoRun(fault)
     }
 }
 
-// Whether a run to a sink returns and writes what it should. There is no answer if memory ran out and a prefix was
-// written.
-fn is_right(alloc: Global, program: &[u8], run: &Run, sink: &mut MemSink) -> Option<bool> {
+// Checks that a run to a sink returns and writes what it should. If memory ran out, a prefix is written.
+fn run_once(alloc: Global, program: &[u8], run: &Run, sink: &mut MemSink) -> Result<(), Other> {
     let (schedule, _, wanted, text) = *run;
-    let answer = run_program(alloc, program, schedule, sink);
-    if !is_answer(answer, Err(RunFault::Memory)) {
-        Some(is_answer(answer, wanted) && sink.bytes() == text)
-    } else if text.starts_with(sink.bytes()) {
-        None
-    } else {
-        Some(false)
+    let answer = numbers_of(run_program(alloc, program, schedule, sink)?);
+    let is_prefix = text.starts_with(sink.bytes());
+    if answer != wanted && (is_prefix || answer != Err(RunFault::Memory)) {
+        return Err(Other::Returns(answer));
+    }
+    match place_of_difference(sink.bytes(), text) {
+        Some(place) => Err(Other::Writes(place)),
+        None => Ok(()),
     }
 }
 
 // The same to a sink of its own.
-fn is_right_once(alloc: Global, program: &[u8], run: &Run) -> Option<bool> {
+fn run_alone(alloc: Global, program: &[u8], run: &Run) -> Result<(), Other> {
     match MemSink::new(alloc, run.1) {
-        Ok(mut sink) => is_right(alloc, program, run, &mut sink),
-        Err(_) => None,
+        Ok(mut sink) => run_once(alloc, program, run, &mut sink),
+        Err(_) => Err(Other::Returns(Err(RunFault::Memory))),
     }
 }
 
-// Whether a program runs like this, on the second try if memory ran out on the first.
-fn runs(alloc: Global, program: &[u8], run: &Run) -> bool {
-    match is_right_once(alloc, program, run) {
-        Some(right) => right,
-        None => is_right_once(alloc, program, run) == Some(true),
+// Whether a run did not come to its end, maybe because memory ran out.
+fn is_cut(other: Other) -> bool {
+    match other {
+        Other::NoRun(_) => true,
+        Other::Returns(answer) => answer == Err(RunFault::Memory),
+        Other::Writes(_) => false,
     }
 }
 
-/// Whether a program has all these runs.
-pub(crate) fn all_run(alloc: Global, program: &[u8], all: &[Run]) -> bool {
-    for run in all {
-        if !runs(alloc, program, run) {
-            return false;
+// Checks that a program runs like this, on the second try if memory ran out on the first.
+fn runs(alloc: Global, program: &[u8], run: &Run) -> Result<(), Other> {
+    match run_alone(alloc, program, run) {
+        Err(other) if is_cut(other) => run_alone(alloc, program, run),
+        first => first,
+    }
+}
+
+/// The place of the first of these runs that a program does not have, and how its run differs.
+pub(crate) fn wrong_run(alloc: Global, program: &[u8], all: &[Run]) -> Option<(usize, Other)> {
+    for at in 0..all.len() {
+        if let Err(other) = runs(alloc, program, &all[at]) {
+            return Some((at, other));
         }
     }
-    true
+    None
 }
 
 const HELLO_RUNS: [Run; 3] = [
@@ -95,7 +117,7 @@ const HELLO_RUNS: [Run; 3] = [
 
 #[test]
 fn a_run_writes_its_texts_and_then_its_numbers(rt: HostRuntime) {
-    assert!(rt; all_run(rt.alloc(), HELLO, &HELLO_RUNS));
+    assert_eq!(rt; wrong_run(rt.alloc(), HELLO, &HELLO_RUNS), None);
 }
 
 // The first join is the constructor's 24th step, a round of the loop takes 12 steps, and the 12th join is too long.
@@ -112,7 +134,7 @@ const DOUBLES_RUNS: [Run; 3] = [
 
 #[test]
 fn a_text_that_is_too_long_ends_the_run_behind_what_was_printed(rt: HostRuntime) {
-    assert!(rt; all_run(rt.alloc(), DOUBLES, &DOUBLES_RUNS));
+    assert_eq!(rt; wrong_run(rt.alloc(), DOUBLES, &DOUBLES_RUNS), None);
 }
 
 // Each text is one call of `put`, and the numbers are one more.
@@ -124,7 +146,7 @@ const FAILING_RUNS: [Run; 3] = [
 
 #[test]
 fn behind_a_call_that_failed_nothing_is_written(rt: HostRuntime) {
-    assert!(rt; all_run(rt.alloc(), HELLO, &FAILING_RUNS));
+    assert_eq!(rt; wrong_run(rt.alloc(), HELLO, &FAILING_RUNS), None);
 }
 
 const COUNTS: &[u8] = b"actor Main
@@ -134,28 +156,34 @@ const COUNTS: &[u8] = b"actor Main
 
 const COUNTED: &[u8] = b"\nsteps 974999 skipped 25001 actors 2 objects 3 waiting 0\n";
 
-// Whether a million turns to a sink are taken. After four steps, each round of the loop takes 12, and the tenth of them
-// sends: in 900,000 turns that is 74,999 texts, each of which is a turn of the stream and a byte on the sink.
-fn takes_a_million_turns(alloc: Global, sink: &mut MemSink) -> bool {
-    match run_program(alloc, COUNTS, b"1*900000 0*100000", sink) {
-        Ok(report) => {
-            has_numbers(report, (974_999, 25_001, 2, 3, 0))
-                && sink.bytes().len() == 75_055
-                && sink.bytes().ends_with(COUNTED)
-        }
-        Err(_) => false,
-    }
+/// What a run returns, how many bytes it writes, and whether its numbers come last.
+type Whole = (Result<Numbers, RunFault>, usize, bool);
+
+// A million turns to a sink.
+fn take_a_million_turns(alloc: Global, sink: &mut MemSink) -> Result<Whole, NotRun> {
+    let answer = run_program(alloc, COUNTS, b"1*900000 0*100000", sink)?;
+    Ok((
+        numbers_of(answer),
+        sink.bytes().len(),
+        sink.bytes().ends_with(COUNTED),
+    ))
 }
 
 // The same to a sink of its own.
-fn are_a_million_turns_taken(alloc: Global) -> bool {
+fn a_million_turns(alloc: Global) -> Result<Whole, NotRun> {
     match MemSink::new(alloc, &[]) {
-        Ok(mut sink) => takes_a_million_turns(alloc, &mut sink),
-        Err(_) => false,
+        Ok(mut sink) => take_a_million_turns(alloc, &mut sink),
+        Err(_) => Err(NotRun::NoProgram(Wrong::OutOfMemory)),
     }
 }
 
+// After four steps, each round of the loop takes 12, and the tenth of them sends: in 900,000 turns that is 74,999 texts,
+// each of which is a turn of the stream and a byte on the sink.
 #[test]
 fn a_million_turns_are_taken(rt: HostRuntime) {
-    assert!(rt; are_a_million_turns_taken(rt.alloc()));
+    let numbers = (974_999, 25_001, 2, 3, 0);
+    assert_eq!(rt;
+        a_million_turns(rt.alloc()),
+        Ok((Ok(numbers), 75_055, true))
+    );
 }

@@ -4,39 +4,48 @@ use pc_caps::Cap;
 use pc_check::check;
 use pc_core::Core;
 use pc_test_inputs::programs::ONE_OBJECT;
-use pc_test_inputs::{NODES, NodeRow, SLOTS, core_of, note};
+use pc_test_inputs::{NODES, NodeRow, SLOTS, Wrong, core_of, note};
 use std::alloc::Global;
 
-fn are_notes(notes: &[Note], rows: &[NodeRow]) -> bool {
+// The first place at which these are not the notes.
+fn other_note(notes: &[Note], rows: &[NodeRow]) -> Option<usize> {
     for at in 0..rows.len() {
         if notes.get(at).copied() != Some(note(rows[at])) {
-            return false;
+            return Some(at);
         }
     }
-    notes.len() == rows.len()
+    if notes.len() == rows.len() {
+        None
+    } else {
+        Some(rows.len())
+    }
 }
 
-fn is_annotation(ann: &Ann, slots: &[(u32, Cap)], rows: &[NodeRow]) -> bool {
-    ann.slots.as_slice() == slots && are_notes(ann.notes.as_slice(), rows)
+/// Whether the slots are those of the program's derivation, and the first note that is not.
+type Compared = (bool, Option<usize>);
+
+fn compared_with(ann: &Ann, slots: &[(u32, Cap)], rows: &[NodeRow]) -> Compared {
+    (
+        ann.slots.as_slice() == slots,
+        other_note(ann.notes.as_slice(), rows),
+    )
 }
 
-// Whether a core is accepted with the program's derivation.
-fn is_derived(alloc: Global, core: &Core) -> bool {
+// The derivation that is found for a core.
+fn derived(alloc: Global, core: &Core) -> Result<Compared, Wrong> {
     match check(alloc, core) {
-        Ok(ann) => is_annotation(&ann, &SLOTS, &NODES),
-        Err(_) => false,
+        Ok(ann) => Ok(compared_with(&ann, &SLOTS, &NODES)),
+        Err(_) => Err(Wrong::NotAccepted),
     }
 }
 
-// The same of the program.
-fn is_found(alloc: Global) -> bool {
-    match core_of(alloc, ONE_OBJECT) {
-        Some(core) => is_derived(alloc, &core),
-        None => false,
-    }
+// The same for the program.
+fn found(alloc: Global) -> Result<Compared, Wrong> {
+    let core = core_of(alloc, ONE_OBJECT)?;
+    derived(alloc, &core)
 }
 
 #[test]
 fn the_derivation_is_found(rt: HostRuntime) {
-    assert!(rt; is_found(rt.alloc()));
+    assert_eq!(rt; found(rt.alloc()), Ok((true, None)));
 }

@@ -9,10 +9,28 @@ use pc_core::Core;
 use pc_io::MemSink;
 use pc_machine::start;
 use pc_run::{Report, RunFault, run};
-use pc_sched::{Turn, read};
-use pc_test_inputs::core_of;
+use pc_sched::{SchedFault, Turn, read};
+use pc_test_inputs::{Wrong, core_of};
 use pc_types::accepted_never_lacks;
 use std::alloc::Global;
+
+/// Why a program is not run.
+#[derive(Clone, Copy, Debug, PartialEq, Eq)]
+pub enum NotRun {
+    /// There is no accepted program.
+    NoProgram(Wrong),
+    /// There is no schedule.
+    NoSchedule(SchedFault),
+}
+
+impl From<Wrong> for NotRun {
+    fn from(wrong: Wrong) -> NotRun {
+        NotRun::NoProgram(wrong)
+    }
+}
+
+/// What a run of a program returns.
+pub type Answer = Result<Result<Report, RunFault>, NotRun>;
 
 // Whether a core has a valid annotation, so that no step lacks anything.
 fn is_accepted(alloc: Global, core: &Core) -> bool
@@ -46,38 +64,24 @@ fn run_core(
 }
 
 // The same of an accepted program.
-fn run_accepted(
-    alloc: Global,
-    program: &[u8],
-    turns: &[Turn],
-    out: &mut MemSink,
-) -> Result<Report, RunFault>
+fn run_accepted(alloc: Global, program: &[u8], turns: &[Turn], out: &mut MemSink) -> Answer
     requires few { total turns.now ≤ turn_limit }
 {
-    match core_of(alloc, program) {
-        Some(core) => {
-            if is_accepted(alloc, &core) {
-                run_core(alloc, &core, turns, out)
-            } else {
-                Err(RunFault::Memory)
-            }
-        }
-        None => Err(RunFault::Memory),
+    let core = core_of(alloc, program)?;
+    if is_accepted(alloc, &core) {
+        Ok(run_core(alloc, &core, turns, out))
+    } else {
+        Err(NotRun::NoProgram(Wrong::NotAccepted))
     }
 }
 
-/// Runs an accepted program under a schedule. If one of them is invalid, the answer is that memory ran out.
-pub fn run_program(
-    alloc: Global,
-    program: &[u8],
-    schedule: &[u8],
-    out: &mut MemSink,
-) -> Result<Report, RunFault> {
+/// Runs an accepted program under a schedule.
+pub fn run_program(alloc: Global, program: &[u8], schedule: &[u8], out: &mut MemSink) -> Answer {
     if schedule.len() > 1_048_576 {
-        return Err(RunFault::Memory);
+        return Err(NotRun::NoProgram(Wrong::PastLimit));
     }
     match read(alloc, schedule) {
         Ok(turns) => run_accepted(alloc, program, turns.as_slice(), out),
-        Err(_) => Err(RunFault::Memory),
+        Err(fault) => Err(NotRun::NoSchedule(fault)),
     }
 }

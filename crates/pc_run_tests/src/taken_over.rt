@@ -1,5 +1,5 @@
 //! Runs of programs with bodies in traits and interfaces: an entity that takes over a body runs it with its own names.
-use crate::cases::{Run, all_run};
+use crate::cases::{Run, wrong_run};
 
 // Main takes 75 steps: 3 before the items, 35 for each of the two calls, one between them, and the return. Of a call's 35 steps
 // 11 make the object and 17 are the body's.
@@ -26,7 +26,7 @@ const OWN_NAMES_RUN: Run = (
 
 #[test]
 fn names_are_those_of_the_class(rt: HostRuntime) {
-    assert!(rt; all_run(rt.alloc(), OWN_NAMES, &[OWN_NAMES_RUN]));
+    assert_eq!(rt; wrong_run(rt.alloc(), OWN_NAMES, &[OWN_NAMES_RUN]), None);
 }
 
 // Main takes 23 steps, and each of the others 8 for its constructor and 16 for the behaviour.
@@ -56,7 +56,7 @@ const TOLD_RUN: Run = (
 
 #[test]
 fn each_actor_has_the_behaviour(rt: HostRuntime) {
-    assert!(rt; all_run(rt.alloc(), TOLD, &[TOLD_RUN]));
+    assert_eq!(rt; wrong_run(rt.alloc(), TOLD, &[TOLD_RUN]), None);
 }
 
 // Main takes 60 steps: 8 for each of the two locals, 12 for each of the three calls, one between two items, 3 before them, and
@@ -85,5 +85,8 @@ const OF_AN_INTERFACE_RUN: Run = (
 
 #[test]
 fn an_own_method_comes_before_the_body_of_an_interface(rt: HostRuntime) {
-    assert!(rt; all_run(rt.alloc(), OF_AN_INTERFACE, &[OF_AN_INTERFACE_RUN]));
+    assert_eq!(rt;
+        wrong_run(rt.alloc(), OF_AN_INTERFACE, &[OF_AN_INTERFACE_RUN]),
+        None
+    );
 }

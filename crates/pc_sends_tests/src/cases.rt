@@ -1,16 +1,23 @@
 //! Who sends what in small programs. Each is tried once more if memory ran out.
 use crate::tables::lines_of;
 use pc_test_inputs::programs::BANK;
+use pc_test_inputs::{Wrong, compared};
 use std::alloc::Global;
 
-/// Whether the table of a program has these lines.
-fn tells(alloc: Global, program: &[u8], lines: &[u8]) -> bool {
-    for _ in 0..2 {
-        if let Some(text) = lines_of(alloc, program) {
-            return text.as_slice() == lines;
-        }
+/// Checks that the table of a program has these lines.
+fn tells_once(alloc: Global, program: &[u8], lines: &[u8]) -> Result<(), Wrong> {
+    let text = lines_of(alloc, program)?;
+    compared(text.as_slice(), lines)
+}
+
+/// The same, tried once more if memory ran out.
+fn tells(alloc: Global, program: &[u8], lines: &[u8]) -> Result<(), Wrong> {
+    let told = tells_once(alloc, program, lines);
+    if told == Err(Wrong::OutOfMemory) {
+        tells_once(alloc, program, lines)
+    } else {
+        told
     }
-    false
 }
 
 /// An actor that is sent `go`, and never `stop`.
@@ -26,7 +33,7 @@ actor Main
 Main sends A.create
 never A.stop
 ";
-    assert!(rt; tells(rt.alloc(), program, lines));
+    assert_eq!(rt; tells(rt.alloc(), program, lines), Ok(()));
 }
 
 /// A bank: each behaviour is sent, by its tellers and by Main.
@@ -39,7 +46,7 @@ Main sends Teller.deposit
 Main sends Teller.withdraw
 Main sends Teller.report
 ";
-    assert!(rt; tells(rt.alloc(), BANK, lines));
+    assert_eq!(rt; tells(rt.alloc(), BANK, lines), Ok(()));
 }
 
 /// A call on an interface may reach each actor that conforms to it, even one that is never made.
@@ -67,7 +74,7 @@ never Other.create
 never Apart.take
 never Apart.create
 ";
-    assert!(rt; tells(rt.alloc(), program, lines));
+    assert_eq!(rt; tells(rt.alloc(), program, lines), Ok(()));
 }
 
 /// So may a call on a trait: an actor conforms to it by its methods, even if it does not name it.
@@ -89,7 +96,7 @@ Main sends Counter.create
 Main sends Other.take
 never Other.create
 ";
-    assert!(rt; tells(rt.alloc(), program, lines));
+    assert_eq!(rt; tells(rt.alloc(), program, lines), Ok(()));
 }
 
 /// What a function sends that nobody calls is not sent; what a called function sends is sent by its entity.
@@ -112,5 +119,5 @@ actor Main
 Main sends A.create
 never A.stop
 ";
-    assert!(rt; tells(rt.alloc(), program, lines));
+    assert_eq!(rt; tells(rt.alloc(), program, lines), Ok(()));
 }

@@ -2,87 +2,101 @@
 ghost use Rattle.pc_valid.specs.Valid.{Valid};
 
 use pc_ann::Ann;
-use pc_check::check;
+use pc_check::{CheckFault, check};
 use pc_core::Core;
 use pc_noted_receivers::entities;
 use pc_sends::{Row, Table, sends};
-use pc_test_inputs::core_of;
-use std::alloc::Global;
+use pc_test_inputs::{Wrong, core_of};
+use std::alloc::{AllocError, Global};
 
 // The table of a core by its derivation.
-fn table_by(alloc: Global, core: &Core, ann: &Ann) -> Option<Table>
+fn table_by(alloc: Global, core: &Core, ann: &Ann) -> Result<Table, AllocError>
     requires { Valid core.now ann.now }
 {
-    let Ok(noted) = entities(alloc, core, ann) else {
-        return None;
-    };
-    sends(alloc, core, noted.as_slice()).ok()
+    let noted = entities(alloc, core, ann)?;
+    sends(alloc, core, noted.as_slice())
 }
 
-/// The table of a core, by the derivation that is found for it. There is none if there is no derivation, or if memory
-/// ran out.
-fn table_of(alloc: Global, core: &Core) -> Option<Table> {
-    match check(alloc, core) {
-        Ok(ann) => table_by(alloc, core, &ann),
-        Err(_) => None,
+fn table_in(table: Result<Table, AllocError>) -> Result<Table, Wrong> {
+    match table {
+        Ok(table) => Ok(table),
+        Err(AllocError) => Err(Wrong::OutOfMemory),
     }
 }
 
-fn push_entity(text: &mut Vec<u8>, core: &Core, number: u32) -> Option<()> {
-    let entity = core.entity_at(number)?;
-    text.extend_from_slice(entity.name.as_slice()).ok()
+// Why a core is not accepted.
+fn refused_for(fault: &CheckFault) -> Wrong {
+    match fault {
+        CheckFault::Memory => Wrong::OutOfMemory,
+        CheckFault::Decl(_) | CheckFault::NoRule { .. } | CheckFault::Unset { .. } => {
+            Wrong::NotAccepted
+        }
+    }
 }
 
-fn push_method(text: &mut Vec<u8>, core: &Core, number: u32) -> Option<()> {
-    let method = core.method_at(number)?;
-    let name = core.name_at(method.name)?;
+/// The table of a core, by the derivation that is found for it.
+fn table_of(alloc: Global, core: &Core) -> Result<Table, Wrong> {
+    match check(alloc, core) {
+        Ok(ann) => table_in(table_by(alloc, core, &ann)),
+        Err(fault) => Err(refused_for(&fault)),
+    }
+}
+
+fn push_entity(text: &mut Vec<u8>, core: &Core, number: u32) -> Result<(), Wrong> {
+    let entity = core.entity_at(number).ok_or(Wrong::NotThere)?;
+    Ok(text.extend_from_slice(entity.name.as_slice())?)
+}
+
+fn push_method(text: &mut Vec<u8>, core: &Core, number: u32) -> Result<(), Wrong> {
+    let method = core.method_at(number).ok_or(Wrong::NotThere)?;
+    let name = core.name_at(method.name).ok_or(Wrong::NotThere)?;
     push_entity(text, core, method.entity)?;
-    text.push(b'.').ok()?;
-    text.extend_from_slice(name.as_slice()).ok()?;
-    text.push(b'\n').ok()
+    text.extend_from_slice(b".")?;
+    text.extend_from_slice(name.as_slice())?;
+    Ok(text.extend_from_slice(b"\n")?)
 }
 
-fn push_row(text: &mut Vec<u8>, core: &Core, row: &Row) -> Option<()> {
+fn push_row(text: &mut Vec<u8>, core: &Core, row: &Row) -> Result<(), Wrong> {
     push_entity(text, core, row.from)?;
-    text.extend_from_slice(b" sends ").ok()?;
+    text.extend_from_slice(b" sends ")?;
     push_method(text, core, row.target)
 }
 
-fn push_never(text: &mut Vec<u8>, core: &Core, number: u32) -> Option<()> {
-    text.extend_from_slice(b"never ").ok()?;
+fn push_never(text: &mut Vec<u8>, core: &Core, number: u32) -> Result<(), Wrong> {
+    text.extend_from_slice(b"never ")?;
     push_method(text, core, number)
 }
 
-fn push_rows(text: &mut Vec<u8>, core: &Core, table: &Table) -> Option<()> {
+fn push_rows(text: &mut Vec<u8>, core: &Core, table: &Table) -> Result<(), Wrong> {
     for row in table.rows.as_slice() {
         push_row(text, core, row)?;
     }
-    Some(())
+    Ok(())
 }
 
-fn push_table(text: &mut Vec<u8>, core: &Core, table: &Table) -> Option<()> {
+fn push_table(text: &mut Vec<u8>, core: &Core, table: &Table) -> Result<(), Wrong> {
     push_rows(text, core, table)?;
     for number in table.never.as_slice() {
         push_never(text, core, *number)?;
     }
-    Some(())
+    Ok(())
 }
 
 // The lines of a table.
-fn lines_by(alloc: Global, core: &Core, table: &Table) -> Option<Vec<u8>> {
+fn lines_by(alloc: Global, core: &Core, table: &Table) -> Result<Vec<u8>, Wrong> {
     let mut text = Vec::new(alloc);
     push_table(&mut text, core, table)?;
-    Some(text)
+    Ok(text)
 }
 
 // The lines of a core's table.
-fn core_lines(alloc: Global, core: &Core) -> Option<Vec<u8>> {
+fn core_lines(alloc: Global, core: &Core) -> Result<Vec<u8>, Wrong> {
     let table = table_of(alloc, core)?;
     lines_by(alloc, core, &table)
 }
 
 /// A line for each row, and then one for each method that is never sent.
-pub fn lines_of(alloc: Global, program: &[u8]) -> Option<Vec<u8>> {
+pub fn lines_of(alloc: Global, program: &[u8]) -> Result<Vec<u8>, Wrong> {
     let core = core_of(alloc, program)?;
     core_lines(alloc, &core)
 }

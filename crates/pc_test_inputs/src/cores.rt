@@ -1,20 +1,14 @@
 //! The core of a text.
+use crate::reasons::Wrong;
 use crate::texts::tree_of;
 use pc_core::Core;
 use pc_elab::elaborate;
-use pc_names::{NameFault, collect};
+use pc_names::collect;
 use std::alloc::Global;
 
-/// The core of a text, or the first fault of its names. For a text that has no tree, the answer is that memory ran out.
-pub fn core_or_fault(alloc: Global, text: &[u8]) -> Result<Core, NameFault> {
-    let Ok(tree) = tree_of(alloc, text) else {
-        return Err(NameFault::Memory);
-    };
+/// The core of a text.
+pub fn core_of(alloc: Global, text: &[u8]) -> Result<Core, Wrong> {
+    let tree = tree_of(alloc, text)?;
     let names = collect(alloc, &tree)?;
-    elaborate(alloc, &tree, &names)
-}
-
-/// The core of a text, if it has one.
-pub fn core_of(alloc: Global, text: &[u8]) -> Option<Core> {
-    core_or_fault(alloc, text).ok()
+    Ok(elaborate(alloc, &tree, &names)?)
 }

@@ -3,7 +3,7 @@ use pc_ann::{Ann, Note, Rule};
 use pc_caps::{Form, List};
 use pc_deriv::{DerivFault, read, write, write2};
 use pc_masks::Mask;
-use pc_test_inputs::{LINES, LINES2, NODES, NodeRow, SLOTS, note, variant_of};
+use pc_test_inputs::{LINES, LINES2, NODES, NodeRow, SLOTS, Wrong, compared, note, variant_of};
 use std::alloc::{AllocError, Global};
 
 fn notes_of(alloc: Global, rows: &[NodeRow]) -> Result<List<Note>, AllocError> {
@@ -22,30 +22,31 @@ fn ann_of(alloc: Global, rows: &[NodeRow]) -> Result<Ann, AllocError> {
     })
 }
 
-fn is_read_as(alloc: Global, text: &[u8], wanted: &Ann) -> bool {
+/// Whether a text is read as it should be, or why it is not read.
+type ReadAs = Result<bool, DerivFault>;
+
+fn is_read_as(alloc: Global, text: &[u8], wanted: &Ann) -> ReadAs {
     match read(alloc, text) {
-        Ok(ann) => ann == *wanted,
-        Err(_) => false,
+        Ok(ann) => Ok(ann == *wanted),
+        Err(fault) => Err(fault),
     }
 }
 
 // The text of an annotation in version 2, or in version 1.
-fn text_of(alloc: Global, second: bool, ann: &Ann) -> Result<List<u8>, AllocError> {
+fn text_of(alloc: Global, second: bool, ann: &Ann) -> Result<List<u8>, Wrong> {
     if ann.slots.len() > 640_000 || ann.notes.len() > 200_000 {
-        return Err(AllocError);
+        return Err(Wrong::PastLimit);
     }
     if second {
-        write2(alloc, ann)
+        Ok(write2(alloc, ann)?)
     } else {
-        write(alloc, ann)
+        Ok(write(alloc, ann)?)
     }
 }
 
-fn is_written_as(alloc: Global, second: bool, ann: &Ann, text: &[u8]) -> bool {
-    match text_of(alloc, second, ann) {
-        Ok(found) => found.as_slice() == text,
-        Err(AllocError) => false,
-    }
+fn is_written_as(alloc: Global, second: bool, ann: &Ann, text: &[u8]) -> Result<(), Wrong> {
+    let found = text_of(alloc, second, ann)?;
+    compared(found.as_slice(), text)
 }
 
 // Whether lines with another first line are read as the example's slots and these nodes.
@@ -54,17 +55,17 @@ fn is_read(
     lines: &[&[u8]],
     first: &[u8],
     rows: &[NodeRow],
-) -> Result<bool, AllocError> {
+) -> Result<ReadAs, AllocError> {
     let text = variant_of(alloc, lines, 1, first)?;
     let wanted = ann_of(alloc, rows)?;
     Ok(is_read_as(alloc, &text, &wanted))
 }
 
-// Whether these lines are written for the example, in version 2 or in version 1.
-fn is_written(alloc: Global, second: bool, lines: &[&[u8]]) -> Result<bool, AllocError> {
+// Checks that these lines are written for the example, in version 2 or in version 1.
+fn is_written(alloc: Global, second: bool, lines: &[&[u8]]) -> Result<(), Wrong> {
     let text = variant_of(alloc, lines, 0, b"")?;
     let ann = ann_of(alloc, &NODES)?;
-    Ok(is_written_as(alloc, second, &ann, &text))
+    is_written_as(alloc, second, &ann, &text)
 }
 
 const HEAD: &[u8] = b"rcap-derivation 1 4 7\n";
@@ -74,10 +75,10 @@ const HEAD2: &[u8] = b"rcap-derivation 2 4 7\n";
 #[test]
 fn the_example_is_read_and_written_in_both_versions(rt: HostRuntime) {
     let alloc = rt.alloc();
-    assert!(rt; is_read(alloc, &LINES, HEAD, &NODES) == Ok(true));
-    assert!(rt; is_read(alloc, &LINES2, HEAD2, &NODES) == Ok(true));
-    assert!(rt; is_written(alloc, false, &LINES) == Ok(true));
-    assert!(rt; is_written(alloc, true, &LINES2) == Ok(true));
+    assert_eq!(rt; is_read(alloc, &LINES, HEAD, &NODES), Ok(Ok(true)));
+    assert_eq!(rt; is_read(alloc, &LINES2, HEAD2, &NODES), Ok(Ok(true)));
+    assert_eq!(rt; is_written(alloc, false, &LINES), Ok(()));
+    assert_eq!(rt; is_written(alloc, true, &LINES2), Ok(()));
 }
 
 // The masks after a node taken for the bits that differ, and the bits that differ taken for the masks after it.
@@ -94,8 +95,8 @@ const OTHER_NODES: [NodeRow; 7] = [
 #[test]
 fn the_lines_of_one_version_say_other_masks_in_the_other(rt: HostRuntime) {
     let alloc = rt.alloc();
-    assert!(rt; is_read(alloc, &LINES, HEAD2, &OTHER_NODES) == Ok(true));
-    assert!(rt; is_read(alloc, &LINES2, HEAD, &OTHER_NODES) == Ok(true));
+    assert_eq!(rt; is_read(alloc, &LINES, HEAD2, &OTHER_NODES), Ok(Ok(true)));
+    assert_eq!(rt; is_read(alloc, &LINES2, HEAD, &OTHER_NODES), Ok(Ok(true)));
 }
 
 /// The number of a line, other bytes for it, and what is wrong then.
@@ -306,13 +307,13 @@ fn alone(alloc: Global, own: Note) -> Result<Ann, AllocError> {
     })
 }
 
-// Whether a text is read as this one note, and is what is written for it in version 2, or in version 1.
-fn is_of_note(alloc: Global, second: bool, text: &[u8], own: Note) -> Result<bool, AllocError> {
+// Whether a text is read as this one note, if it is what is written for it in version 2, or in version 1.
+fn is_of_note(alloc: Global, second: bool, text: &[u8], own: Note) -> Result<ReadAs, Wrong> {
     let ann = alone(alloc, own)?;
-    Ok(is_written_as(alloc, second, &ann, text) && is_read_as(alloc, text, &ann))
+    is_written_as(alloc, second, &ann, text).and(Ok(is_read_as(alloc, text, &ann)))
 }
 
-fn is_named(alloc: Global, rule: Rule, name: &str) -> Result<bool, AllocError> {
+fn is_named(alloc: Global, rule: Rule, name: &str) -> Result<ReadAs, Wrong> {
     let parts: [&[u8]; 3] = [
         b"rcap-derivation 1 0 1\nn ",
         name.as_bytes(),
@@ -333,7 +334,7 @@ fn is_named(alloc: Global, rule: Rule, name: &str) -> Result<bool, AllocError> {
 // The first name that is not the name of its rule.
 fn wrong_name<'a>(alloc: Global, names: &[(Rule, &'a str)]) -> Option<&'a str> {
     for (rule, name) in names {
-        if is_named(alloc, *rule, name) != Ok(true) {
+        if is_named(alloc, *rule, name) != Ok(Ok(true)) {
             return Some(*name);
         }
     }
@@ -359,7 +360,7 @@ const MASKS: [MaskRow; 7] = [
 ];
 
 // Whether a node with these live masks, and with the same set masks swapped, is written like this.
-fn has_masks(alloc: Global, row: MaskRow) -> Result<bool, AllocError> {
+fn has_masks(alloc: Global, row: MaskRow) -> Result<ReadAs, Wrong> {
     let (before, after, before_text, after_text, differing) = row;
     let parts: [&[u8]; 9] = [
         b"rcap-derivation 2 0 1\nn body - ",
@@ -387,7 +388,7 @@ fn has_masks(alloc: Global, row: MaskRow) -> Result<bool, AllocError> {
 // The place of the first row of masks that is written differently.
 fn wrong_masks(alloc: Global, rows: &[MaskRow]) -> Option<usize> {
     for at in 0..rows.len() {
-        if has_masks(alloc, rows[at]) != Ok(true) {
+        if has_masks(alloc, rows[at]) != Ok(Ok(true)) {
             return Some(at);
         }
     }

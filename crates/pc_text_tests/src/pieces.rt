@@ -29,12 +29,12 @@ fn line_of(version: u32, at: usize) -> Option<Line> {
     Some(Line::Node(note(*row)))
 }
 
-/// How many lines ended, and whether each is that of the example in the version with this number.
+/// How many lines ended, and the first of them that is not that of the example in the version with this number.
 #[derive(Drop)]
 struct Ended {
     version: u32,
     count: usize,
-    are_right: bool,
+    other: Option<usize>,
 }
 
 impl Ended {
@@ -42,17 +42,19 @@ impl Ended {
         Ended {
             version,
             count: 0,
-            are_right: true,
+            other: None,
         }
     }
 
     fn add(&mut self, line: Line) {
-        self.are_right = self.are_right && line_of(self.version, self.count) == Some(line);
+        if self.other.is_none() && line_of(self.version, self.count) != Some(line) {
+            self.other = Some(self.count);
+        }
         self.count = self.count.saturating_add(1);
     }
 
     fn is_example(&self) -> bool {
-        self.are_right && self.count == 12
+        self.other.is_none() && self.count == 12
     }
 }
 
@@ -97,16 +99,22 @@ fn wrong_cut(version: u32, bytes: &[u8]) -> Option<usize> {
     None
 }
 
-// Whether a text whose bytes come one by one has the lines of the example.
-fn is_taken_by_bytes(version: u32, bytes: &[u8]) -> bool {
+/// How many lines ended, the first of them that is not that of the example, and the fault that came then, if one did.
+type Taken = (usize, Option<usize>, Result<(), LineFault>);
+
+// Appends the lines of bytes that come one by one.
+fn feed_bytes(lines: &mut Lines, bytes: &[u8], ended: &mut Ended) -> Result<(), LineFault> {
+    for at in 0..bytes.len() {
+        feed(lines, &bytes[at..at + 1], ended)?;
+    }
+    lines.finish()
+}
+
+fn taken_by_bytes(version: u32, bytes: &[u8]) -> Taken {
     let mut lines = Lines::new();
     let mut ended = Ended::new(version);
-    for at in 0..bytes.len() {
-        if feed(&mut lines, &bytes[at..at + 1], &mut ended).is_err() {
-            return false;
-        }
-    }
-    lines.finish().is_ok() && ended.is_example()
+    let fed = feed_bytes(&mut lines, bytes, &mut ended);
+    (ended.count, ended.other, fed)
 }
 
 // A place where the example can be cut so that its lines are others, if there is one.
@@ -119,22 +127,28 @@ fn wrong_example(
     Ok(wrong_cut(version, &text))
 }
 
-// Whether the example has its lines if its bytes come one by one.
-fn is_taken(alloc: Global, version: u32, lines: &[&[u8]]) -> Result<bool, AllocError> {
+// The lines of the example if its bytes come one by one.
+fn example_by_bytes(alloc: Global, version: u32, lines: &[&[u8]]) -> Result<Taken, AllocError> {
     let text = variant_of(alloc, lines, 0, b"")?;
-    Ok(is_taken_by_bytes(version, &text))
+    Ok(taken_by_bytes(version, &text))
 }
 
 #[test]
 fn wherever_the_example_is_cut_its_lines_are_the_same(rt: HostRuntime) {
     assert_eq!(rt; wrong_example(rt.alloc(), 1, &LINES), Ok(None));
-    assert!(rt; is_taken(rt.alloc(), 1, &LINES) == Ok(true));
+    assert_eq!(rt;
+        example_by_bytes(rt.alloc(), 1, &LINES),
+        Ok((12, None, Ok(())))
+    );
 }
 
 #[test]
 fn wherever_version_2_is_cut_its_lines_are_the_same(rt: HostRuntime) {
     assert_eq!(rt; wrong_example(rt.alloc(), 2, &LINES2), Ok(None));
-    assert!(rt; is_taken(rt.alloc(), 2, &LINES2) == Ok(true));
+    assert_eq!(rt;
+        example_by_bytes(rt.alloc(), 2, &LINES2),
+        Ok((12, None, Ok(())))
+    );
 }
 
 // What is wrong with two pieces.

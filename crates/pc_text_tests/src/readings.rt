@@ -98,11 +98,14 @@ fn wrong_on_the_host(rt: &HostRuntime) -> Option<usize> {
     wrong_reading(rt.alloc(), &mut files, &ON_THE_HOST)
 }
 
-// Whether reading a slow file that has this many bytes before it fails, within nine bytes, has this result.
-fn is_slow_answer(alloc: Global, room: usize, wanted: Wanted) -> bool {
+// How many bytes reading a slow file gives that has this many bytes before it fails, within nine bytes, or why none.
+fn slow_answer(alloc: Global, room: usize) -> Result<usize, FileFault> {
     let runtime = SlowFiles { room };
     let mut files = HostFiles::new(alloc, &runtime);
-    is_answer(files.read(alloc, "a", 9), wanted)
+    match files.read(alloc, "a", 9) {
+        Ok(bytes) => Ok(bytes.as_slice().len()),
+        Err(fault) => Err(fault),
+    }
 }
 
 #[test]
@@ -114,8 +117,8 @@ fn a_file_is_given_whole_or_refused_with_its_cause(rt: HostRuntime) -> Result<()
     fs::remove_file(&rt, "none")?;
 
     // A file that fails in mid-stream, and one that has more than the limit before it fails.
-    assert!(rt; is_slow_answer(rt.alloc(), 5, Err(FileFault::Failed)));
-    assert!(rt; is_slow_answer(rt.alloc(), 50, Err(FileFault::TooLong)));
+    assert_eq!(rt; slow_answer(rt.alloc(), 5), Err(FileFault::Failed));
+    assert_eq!(rt; slow_answer(rt.alloc(), 50), Err(FileFault::TooLong));
     Ok(())
 }
 

@@ -113,28 +113,24 @@ fn repeated(alloc: Global, word: u8, count: usize) -> Result<Vec<u8>, AllocError
     Ok(text)
 }
 
-// Whether each of these is one turn of actor 3.
-fn are_all_of_3(turns: &[Turn]) -> bool {
-    for turn in turns {
-        if *turn != (Turn { actor: 3, times: 1 }) {
-            return false;
+// The place of the first of these that is not one turn of actor 3.
+fn other_turn(turns: &[Turn]) -> Option<usize> {
+    for at in 0..turns.len() {
+        if turns[at] != (Turn { actor: 3, times: 1 }) {
+            return Some(at);
         }
     }
-    true
+    None
 }
 
-/// How many turns this many words `3` are, if each is one turn of actor 3.
-fn counted(alloc: Global, count: usize) -> Option<usize> {
-    let text = repeated(alloc, b'3', count).ok()?;
-    let turns = answer(alloc, text.as_slice()).ok()?;
-    if are_all_of_3(turns.as_slice()) {
-        Some(turns.len())
-    } else {
-        None
-    }
+/// How many turns this many words `3` are, and the first that is not one turn of actor 3.
+fn counted(alloc: Global, count: usize) -> Result<(usize, Option<usize>), SchedFault> {
+    let text = repeated(alloc, b'3', count)?;
+    let turns = answer(alloc, text.as_slice())?;
+    Ok((turns.len(), other_turn(turns.as_slice())))
 }
 
 #[test]
 fn a_schedule_of_524288_words_is_read(rt: HostRuntime) {
-    assert!(rt; counted(rt.alloc(), 524_288) == Some(524_288));
+    assert_eq!(rt; counted(rt.alloc(), 524_288), Ok((524_288, None)));
 }

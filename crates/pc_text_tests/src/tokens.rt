@@ -329,8 +329,10 @@ fn dots_fault(alloc: Global, count: usize, last: u8) -> Option<LexFault> {
 
 #[test]
 fn limits(rt: HostRuntime) {
-    assert!(rt; dots_fault(rt.alloc(), 200_000, b' ').is_none());
-    assert!(rt; dots_fault(rt.alloc(), 200_000, b'$') == Some(LexFault::BadByte(200_000)));
-    assert!(rt; dots_fault(rt.alloc(), 200_000, b'.') == Some(LexFault::TooMany(200_000)));
-    assert!(rt; dots_fault(rt.alloc(), 200_001, b'$') == Some(LexFault::TooMany(200_000)));
+    let bad = Some(LexFault::BadByte(200_000));
+    let many = Some(LexFault::TooMany(200_000));
+    assert_eq!(rt; dots_fault(rt.alloc(), 200_000, b' '), None);
+    assert_eq!(rt; dots_fault(rt.alloc(), 200_000, b'$'), bad);
+    assert_eq!(rt; dots_fault(rt.alloc(), 200_000, b'.'), many);
+    assert_eq!(rt; dots_fault(rt.alloc(), 200_001, b'$'), many);
 }

@@ -1,6 +1,7 @@
 //! Sinks that are written to: in memory, and over a slow writer that fails.
 use crate::slow::SlowWriter;
 use pc_io::{HostSink, MemSink, NeverSink, Sink};
+use pc_test_inputs::place_of_difference;
 use std::alloc::{AllocError, Global};
 
 /// A piece, and whether it is written.
@@ -32,22 +33,27 @@ const WRITTEN: [Piece; 5] = [
     ("g", true),
 ];
 
-// Whether a sink in memory, which is made to fail, holds the rest.
-fn holds_the_rest(alloc: Global) -> Result<bool, AllocError> {
+/// The first piece with another result, and the first place at which a sink holds something else than it should.
+type Other = (Option<&'static str>, Option<usize>);
+
+// A sink in memory, which is made to fail, should hold the rest.
+fn other_in_memory(alloc: Global) -> Result<Other, AllocError> {
     let mut sink = MemSink::new(alloc, &[(2, 1), (3, 1), (4, 9)])?;
-    Ok(wrong_piece(&mut sink, &PIECES).is_none() && sink.bytes() == b"abcefg".as_slice())
+    let piece = wrong_piece(&mut sink, &PIECES);
+    Ok((piece, place_of_difference(sink.bytes(), b"abcefg")))
 }
 
-// Whether a sink that never fails holds it all.
-fn holds_all(alloc: Global) -> bool {
+// A sink that never fails should hold it all.
+fn other_never_failing(alloc: Global) -> Other {
     let mut sink = NeverSink::new(alloc);
-    wrong_piece(&mut sink, &WRITTEN).is_none() && sink.bytes() == b"abcdefg".as_slice()
+    let piece = wrong_piece(&mut sink, &WRITTEN);
+    (piece, place_of_difference(sink.bytes(), b"abcdefg"))
 }
 
 #[test]
 fn sinks_in_memory_fail_as_they_are_told(rt: HostRuntime) {
-    assert!(rt; holds_the_rest(rt.alloc()) == Ok(true));
-    assert!(rt; holds_all(rt.alloc()));
+    assert_eq!(rt; other_in_memory(rt.alloc()), Ok((None, None)));
+    assert_eq!(rt; other_never_failing(rt.alloc()), (None, None));
 }
 
 const SLOW_PIECES: [Piece; 5] = [
@@ -64,18 +70,21 @@ fn wrong_slow_piece(writer: &mut SlowWriter, pieces: &[Piece]) -> Option<&'stati
     wrong_piece(&mut sink, pieces)
 }
 
-// Whether a slow writer with room for eight bytes holds the first eight.
-fn holds_eight(alloc: Global) -> bool {
+// A slow writer with room for eight bytes should hold the first eight.
+fn other_slow(alloc: Global) -> Other {
     let mut writer = SlowWriter {
         held: Vec::new(alloc),
         room: 8,
         is_interrupted: false,
     };
-    wrong_slow_piece(&mut writer, &SLOW_PIECES).is_none()
-        && writer.held.as_slice() == b"abcdefgh".as_slice()
+    let piece = wrong_slow_piece(&mut writer, &SLOW_PIECES);
+    (
+        piece,
+        place_of_difference(writer.held.as_slice(), b"abcdefgh"),
+    )
 }
 
 #[test]
 fn short_writes_go_on_until_the_writer_fails(rt: HostRuntime) {
-    assert!(rt; holds_eight(rt.alloc()));
+    assert_eq!(rt; other_slow(rt.alloc()), (None, None));
 }

@@ -5,6 +5,7 @@ use crate::rows::{
     CHECK, Ending, Failure, JUDGE, NONE, Refused, Spoken, USAGE, all_end, all_end_within, all_fail,
     all_refused, all_words_end, made_ends, tells,
 };
+use crate::running::Differs;
 use crate::texts::repeated;
 use pc_test_inputs::programs::ONE_OBJECT;
 use std::alloc::Global;
@@ -98,7 +99,10 @@ const DERIVATIONS: &[Refused<'_>] = &[
 #[test]
 fn derivations_are_judged(rt: HostRuntime) {
     let alloc = rt.alloc();
-    assert!(rt; tells(alloc, JUDGE, ONE_OBJECT, FIRST, b"accepted\n"));
+    assert_eq!(rt;
+        tells(alloc, JUDGE, ONE_OBJECT, FIRST, b"accepted\n"),
+        Ok(())
+    );
     all_refused(&rt, alloc, JUDGE, DERIVATIONS);
 }
 
@@ -113,8 +117,8 @@ n seq - 3 0 3 0\nn body - 3 0 3 0\n";
 
 #[test]
 fn a_derivation_is_written(rt: HostRuntime) {
-    assert!(rt; tells(rt.alloc(), CHECK, ONE_OBJECT, b"", FIRST));
-    assert!(rt; tells(rt.alloc(), CHECK, NESTED, b"", NESTED_FIRST));
+    assert_eq!(rt; tells(rt.alloc(), CHECK, ONE_OBJECT, b"", FIRST), Ok(()));
+    assert_eq!(rt; tells(rt.alloc(), CHECK, NESTED, b"", NESTED_FIRST), Ok(()));
 }
 
 const CHECKS: &[Failure<'_>] = &[
@@ -146,20 +150,28 @@ fn faults_have_their_status_and_line(rt: HostRuntime) {
     all_fail(&rt, alloc, JUDGE, (b"", b""), JUDGES_OF_NOTHING);
 }
 
-// Whether a source that repeats one byte this many times ends with this status and line.
-fn bytes_end(alloc: Global, byte: &[u8], times: usize, status: u8, err: &[u8]) -> bool {
+// Checks that a source that repeats one byte this many times ends with this status and line.
+fn bytes_end(
+    alloc: Global,
+    byte: &[u8],
+    times: usize,
+    status: u8,
+    err: &[u8],
+) -> Result<(), Differs> {
     made_ends(alloc, repeated(alloc, b"", byte, times, b""), status, err)
 }
 
 #[test]
-fn files_may_have_so_many_bytes_and_tokens(rt: HostRuntime) {
+fn files_may_have_1048576_bytes_and_200000_tokens(rt: HostRuntime) {
     let alloc = rt.alloc();
     let long = b"a.pony: longer than 1048576 bytes\n";
     let many = b"a.pony:1:200001: too many tokens\n";
-    assert!(rt; bytes_end(alloc, b" ", 1_048_576, 3, b"a.pony:1:1048577: unexpected\n"));
-    assert!(rt; bytes_end(alloc, b" ", 1_048_577, 8, long));
-    assert!(rt; bytes_end(alloc, b".", 200_000, 3, b"a.pony:1:1: unexpected\n"));
-    assert!(rt; bytes_end(alloc, b".", 200_001, 8, many));
+    let end = b"a.pony:1:1048577: unexpected\n";
+    assert_eq!(rt; bytes_end(alloc, b" ", 1_048_576, 3, end), Ok(()));
+    assert_eq!(rt; bytes_end(alloc, b" ", 1_048_577, 8, long), Ok(()));
+    let first = b"a.pony:1:1: unexpected\n";
+    assert_eq!(rt; bytes_end(alloc, b".", 200_000, 3, first), Ok(()));
+    assert_eq!(rt; bytes_end(alloc, b".", 200_001, 8, many), Ok(()));
 }
 
 const TOKENLESS: &[Ending<'_>] = &[

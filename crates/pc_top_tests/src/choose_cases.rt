@@ -2,11 +2,13 @@
 //! what is played, and each different outcome.
 
 use crate::rows::{
-    Failure, NONE, Refused, Spoken, USAGE, all_fail, all_refused, all_words_end, answers, tells,
+    Failure, NONE, RUN, Refused, Spoken, USAGE, all_fail, all_refused, all_words_end, answers,
+    tells,
 };
-use crate::running::{Done, Wanted, run};
+use crate::running::{Differs, Done, Wanted, run};
+use pc_test_inputs::place_of_difference;
 use pc_test_inputs::programs::{BANK, DOUBLES, HELLO, READERS};
-use std::alloc::{AllocError, Global};
+use std::alloc::Global;
 use std::process::Abort;
 
 const PRINTS: &[u8] = b"actor Main\n  new create(env: Env) => env.out.print(\"\")\n";
@@ -34,7 +36,7 @@ fn all_chosen(rt: &impl Abort, alloc: Global, command: &str, rows: &[Chosen<'_>]
     for at in 0..rows.len() {
         let (number, source, out) = rows[at];
         let words = [command, "a.pony", number];
-        assert!(rt; tells(alloc, &words, source, b"", out), "row {at}");
+        assert_eq!(rt; tells(alloc, &words, source, b"", out), Ok(()), "row {at}");
     }
 }
 
@@ -98,32 +100,40 @@ const TOO_LONG: Wanted<'static> = Wanted {
 
 #[test]
 fn a_play_ends_at_a_text_that_is_too_long(rt: HostRuntime) {
-    assert!(rt; answers(rt.alloc(), &["play", "a.pony", "0"], DOUBLES, b"", TOO_LONG));
+    let ended = answers(rt.alloc(), &["play", "a.pony", "0"], DOUBLES, b"", TOO_LONG);
+    assert_eq!(rt; ended, Ok(()));
 }
 
-// Whether a run by the line that was written has the same result as the play.
-fn runs_as(alloc: Global, source: &[u8], line: &Done, played: &Done) -> bool {
-    match run(
-        alloc,
-        &["run", "a.pony", "a.sched"],
-        source,
-        line.out.bytes(),
-    ) {
-        Ok(ran) => {
-            line.status == 0
-                && ran.status == played.status
-                && ran.out.bytes() == played.out.bytes()
-                && !line.out.bytes().is_empty()
-        }
-        Err(_) => false,
+// Checks that a run has the same status as a play, and the same is on out.
+fn is_same(ran: &Done, played: &Done) -> Result<(), Differs> {
+    if ran.status != played.status {
+        return Err(Differs::Status(ran.status));
+    }
+    match place_of_difference(ran.out.bytes(), played.out.bytes()) {
+        Some(place) => Err(Differs::Out(place)),
+        None => Ok(()),
+    }
+}
+
+// Checks that a line was written, and that a run by it has the same result as the play.
+fn runs_as(alloc: Global, source: &[u8], line: &Done, played: &Done) -> Result<(), Differs> {
+    if line.status != 0 {
+        return Err(Differs::Status(line.status));
+    }
+    if line.out.bytes().is_empty() {
+        return Err(Differs::Out(0));
+    }
+    match run(alloc, RUN, source, line.out.bytes()) {
+        Ok(ran) => is_same(&ran, played),
+        Err(_) => Err(Differs::NotRun),
     }
 }
 
 // The same of the line of a seed, and of its play.
-fn both_run(alloc: Global, source: &[u8], seed: &str) -> Result<bool, AllocError> {
+fn both_run(alloc: Global, source: &[u8], seed: &str) -> Result<(), Differs> {
     let line = run(alloc, &["schedule", "a.pony", seed], source, b"")?;
     let played = run(alloc, &["play", "a.pony", seed], source, b"")?;
-    Ok(runs_as(alloc, source, &line, &played))
+    runs_as(alloc, source, &line, &played)
 }
 
 const PROGRAMS: &[&[u8]] = &[HELLO, READERS, BANK, TWO, DOUBLES];
@@ -131,8 +141,7 @@ const PROGRAMS: &[&[u8]] = &[HELLO, READERS, BANK, TWO, DOUBLES];
 // Each of these programs is played by a seed as it is run by its line.
 fn all_run(rt: &impl Abort, alloc: Global, seed: &str) {
     for at in 0..PROGRAMS.len() {
-        let runs = matches!(both_run(alloc, PROGRAMS[at], seed), Ok(true));
-        assert!(rt; runs, "row {at}");
+        assert_eq!(rt; both_run(alloc, PROGRAMS[at], seed), Ok(()), "row {at}");
     }
 }
 
@@ -161,16 +170,25 @@ fn tables_have_each_outcome(rt: HostRuntime) {
     all_chosen(&rt, rt.alloc(), "outcomes", TABLED);
 }
 
-// Whether a command was done with a table that begins with seed 0 and ends with this text.
-fn is_table(done: &Done, end: &[u8]) -> bool {
-    done.status == 0 && done.out.bytes().starts_with(b"seed 0: ") && done.out.bytes().ends_with(end)
+// Checks that a command was done with a table that begins with seed 0 and ends with this text.
+fn is_table(done: &Done, end: &[u8]) -> Result<(), Differs> {
+    let out = done.out.bytes();
+    if done.status != 0 {
+        Err(Differs::Status(done.status))
+    } else if !out.starts_with(b"seed 0: ") {
+        Err(Differs::Out(0))
+    } else if !out.ends_with(end) {
+        Err(Differs::Out(out.len()))
+    } else {
+        Ok(())
+    }
 }
 
 // The same of the table of TWO for a count.
-fn table_ends(alloc: Global, count: &str, end: &[u8]) -> bool {
+fn table_ends(alloc: Global, count: &str, end: &[u8]) -> Result<(), Differs> {
     match run(alloc, &["outcomes", "a.pony", count], TWO, b"") {
         Ok(done) => is_table(&done, end),
-        Err(_) => false,
+        Err(_) => Err(Differs::NotRun),
     }
 }
 
@@ -179,8 +197,8 @@ fn table_ends(alloc: Global, count: &str, end: &[u8]) -> bool {
 #[test]
 fn a_table_shows_both_outcomes(rt: HostRuntime) {
     let alloc = rt.alloc();
-    assert!(rt; table_ends(alloc, "1", b" steps\n  a\n  b\n"));
-    assert!(rt; table_ends(alloc, "50", b" steps\n  b\n  a\n"));
+    assert_eq!(rt; table_ends(alloc, "1", b" steps\n  a\n  b\n"), Ok(()));
+    assert_eq!(rt; table_ends(alloc, "50", b" steps\n  b\n  a\n"), Ok(()));
 }
 
 const NO_NUMBERS: &[Spoken<'_>] = &[

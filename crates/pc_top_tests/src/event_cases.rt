@@ -96,7 +96,10 @@ const REFUSED: &[Refused<'_>] = &[
 #[test]
 fn runs_without_events_are_refused(rt: HostRuntime) {
     let alloc = rt.alloc();
-    assert!(rt; refuses(alloc, &["events", "a.pony"], HELLO, b"", (2, USAGE)));
+    assert_eq!(rt;
+        refuses(alloc, &["events", "a.pony"], HELLO, b"", (2, USAGE)),
+        Ok(())
+    );
     all_refused(&rt, alloc, EVENTS, REFUSED);
 }
 

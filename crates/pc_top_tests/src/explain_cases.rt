@@ -3,6 +3,7 @@
 
 use crate::limit_cases::with_fields;
 use crate::rows::{CHECK, Failure, NONE, Refused, USAGE, all_fail, all_refused, refuses, tells};
+use crate::running::Differs;
 use crate::texts::joined;
 use crate::tree_cases::nested;
 use std::alloc::{AllocError, Global};
@@ -113,24 +114,28 @@ const EXPLAINED: &[Explained<'_>] = &[
     (UNKNOWN, 4, UNKNOWN_LINE, UNKNOWN_LINES),
 ];
 
-// Whether the explanation of a source is a text that was built.
-fn tells_made(alloc: Global, source: &[u8], text: Result<Vec<u8>, AllocError>) -> bool {
+// Checks that the explanation of a source is a text that was built.
+fn tells_made(
+    alloc: Global,
+    source: &[u8],
+    text: Result<Vec<u8>, AllocError>,
+) -> Result<(), Differs> {
     match text {
         Ok(text) => tells(alloc, EXPLAIN, source, b"", &text),
-        Err(_) => false,
+        Err(_) => Err(Differs::NotRun),
     }
 }
 
-// Whether `check` refuses a source with this status and line, and the explanation is the line and these lines.
-fn is_explained(alloc: Global, row: &Explained<'_>) -> bool {
-    refuses(alloc, CHECK, row.0, b"", (row.1, row.2))
-        && tells_made(alloc, row.0, joined(alloc, &[row.2, row.3]))
+// Checks that `check` refuses a source with this status and line, and the explanation is the line and these lines.
+fn is_explained(alloc: Global, row: &Explained<'_>) -> Result<(), Differs> {
+    refuses(alloc, CHECK, row.0, b"", (row.1, row.2))?;
+    tells_made(alloc, row.0, joined(alloc, &[row.2, row.3]))
 }
 
 // Each of these sources has its explanation.
 fn all_explained(rt: &impl Abort, alloc: Global, rows: &[Explained<'_>]) {
     for at in 0..rows.len() {
-        assert!(rt; is_explained(alloc, &rows[at]), "row {at}");
+        assert_eq!(rt; is_explained(alloc, &rows[at]), Ok(()), "row {at}");
     }
 }
 
@@ -144,36 +149,42 @@ const REFUSED: &[Refused<'_>] = &[
     (b"", b"", 3, b"a.pony:1:1: unexpected\n"),
 ];
 
-// Whether a source that was built is refused with 8 and this line, by `check` and here.
-fn passes_limit(alloc: Global, source: Result<Vec<u8>, AllocError>, line: &[u8]) -> bool {
+// Checks that a source is refused with 8 and this line, by `check` and here.
+fn both_refuse(alloc: Global, source: &[u8], line: &[u8]) -> Result<(), Differs> {
+    refuses(alloc, CHECK, source, b"", (8, line))?;
+    refuses(alloc, EXPLAIN, source, b"", (8, line))
+}
+
+// The same of a source that was built.
+fn passes_limit(
+    alloc: Global,
+    source: Result<Vec<u8>, AllocError>,
+    line: &[u8],
+) -> Result<(), Differs> {
     match source {
-        Ok(source) => {
-            refuses(alloc, CHECK, &source, b"", (8, line))
-                && refuses(alloc, EXPLAIN, &source, b"", (8, line))
-        }
-        Err(_) => false,
+        Ok(source) => both_refuse(alloc, &source, line),
+        Err(_) => Err(Differs::NotRun),
     }
 }
 
 #[test]
 fn other_sources_are_accepted_or_refused(rt: HostRuntime) {
     let alloc = rt.alloc();
-    assert!(rt; tells(alloc, EXPLAIN, FINE, b"", b"accepted\n"));
+    assert_eq!(rt; tells(alloc, EXPLAIN, FINE, b"", b"accepted\n"), Ok(()));
     all_refused(&rt, alloc, EXPLAIN, REFUSED);
     let many = b"a.pony:66:7: too many fields\n";
-    assert!(rt; passes_limit(alloc, with_fields(alloc, 65), many));
+    assert_eq!(rt; passes_limit(alloc, with_fields(alloc, 65), many), Ok(()));
     let deep = b"a.pony:3:204: nested too deep\n";
-    assert!(rt; passes_limit(alloc, nested(alloc, 200), deep));
-    assert!(rt; refuses(alloc, &["explain"], FINE, b"", (2, USAGE)));
-    assert!(rt;
-        refuses(
-            alloc,
-            &["explain", "a.pony", "a.der"],
-            FINE,
-            b"",
-            (2, USAGE)
-        )
+    assert_eq!(rt; passes_limit(alloc, nested(alloc, 200), deep), Ok(()));
+    assert_eq!(rt; refuses(alloc, &["explain"], FINE, b"", (2, USAGE)), Ok(()));
+    let ended = refuses(
+        alloc,
+        &["explain", "a.pony", "a.der"],
+        FINE,
+        b"",
+        (2, USAGE),
     );
+    assert_eq!(rt; ended, Ok(()));
 }
 
 const FAILURES: &[Failure<'_>] = &[

@@ -2,7 +2,7 @@
 
 use crate::programs::OPEN;
 use crate::rows::{CHECK, Ending, JUDGE, all_end_within, ends, refuses_made};
-use crate::running::{Done, is_done, run};
+use crate::running::{Differs, Done, is_done, run};
 use crate::texts::joined;
 use std::alloc::{AllocError, Global};
 
@@ -56,7 +56,7 @@ const FLOWS: &[Ending<'_>] = &[
 #[test]
 fn flow_is_accepted_or_refused(rt: HostRuntime) {
     let alloc = rt.alloc();
-    assert!(rt; ends(alloc, REFILLED, 0, b""));
+    assert_eq!(rt; ends(alloc, REFILLED, 0, b""), Ok(()));
     all_end_within(&rt, alloc, (OPEN, b""), FLOWS);
 }
 
@@ -73,20 +73,24 @@ fn with_definition(alloc: Global, derivation: &[u8]) -> Result<Vec<u8>, AllocErr
     }
 }
 
-// Whether a source was checked, and its derivation with a definition instead of its first assignment is refused with
+// Checks that what a command wrote for a source, with a definition instead of its first assignment, is refused with
 // this line.
+fn other_is_refused(alloc: Global, source: &[u8], done: &Done, err: &[u8]) -> Result<(), Differs> {
+    is_done(done)?;
+    let other = with_definition(alloc, done.out.bytes());
+    refuses_made(alloc, JUDGE, source, other, (6, err))
+}
+
+// The same, if there was memory for the command.
 fn definition_is_refused(
     alloc: Global,
     source: &[u8],
     checked: Result<Done, AllocError>,
     err: &[u8],
-) -> bool {
+) -> Result<(), Differs> {
     match checked {
-        Ok(done) => {
-            let other = with_definition(alloc, done.out.bytes());
-            is_done(&done) && refuses_made(alloc, JUDGE, source, other, (6, err))
-        }
-        Err(_) => false,
+        Ok(done) => other_is_refused(alloc, source, &done, err),
+        Err(_) => Err(Differs::NotRun),
     }
 }
 
@@ -94,5 +98,6 @@ fn definition_is_refused(
 fn another_rule_in_a_derivation_is_named(rt: HostRuntime) {
     // Three nodes of the class's constructor and five of Main's come before the assignment.
     let checked = run(rt.alloc(), CHECK, REFILLED, b"");
-    assert!(rt; definition_is_refused(rt.alloc(), REFILLED, checked, b"a.der: node 8\n"));
+    let ended = definition_is_refused(rt.alloc(), REFILLED, checked, b"a.der: node 8\n");
+    assert_eq!(rt; ended, Ok(()));
 }

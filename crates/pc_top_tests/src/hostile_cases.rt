@@ -1,7 +1,7 @@
 //! Derivations and schedules that are cut short, huge or crafted: the status and the line of each.
 
 use crate::rows::{CHECK, JUDGE, RUN, Refused, all_refused, refuses, refuses_made};
-use crate::running::{Done, is_done, run};
+use crate::running::{Differs, Done, is_done, run};
 use crate::texts::joined;
 use pc_test_inputs::programs::{HELLO, ONE_OBJECT};
 use std::alloc::{AllocError, Global};
@@ -23,29 +23,27 @@ const DERIVATIONS: &[Refused<'_>] = &[
     (ONE_OBJECT, b"rcap-derivation 1 0 0\n", 6, b"a.der: shape\n"),
 ];
 
-// Whether a derivation is refused with this line if its last two bytes are missing.
-fn shorter_is_refused(alloc: Global, derivation: &[u8], err: &[u8]) -> bool {
+// Checks that a derivation is refused with this line if its last two bytes are missing.
+fn shorter_is_refused(alloc: Global, derivation: &[u8], err: &[u8]) -> Result<(), Differs> {
     let shorter = &derivation[..derivation.len().saturating_sub(2)];
     refuses(alloc, JUDGE, ONE_OBJECT, shorter, (5, err))
 }
 
-// Whether a derivation is refused with one more line, and without its last two bytes.
-fn others_are_refused(alloc: Global, derivation: &[u8]) -> bool {
+// Checks that what a command wrote is refused with one more line, and without its last two bytes.
+fn others_are_refused(alloc: Global, done: &Done) -> Result<(), Differs> {
+    is_done(done)?;
+    let derivation = done.out.bytes();
     let longer = joined(alloc, &[derivation, b"\n"]);
-    refuses_made(
-        alloc,
-        JUDGE,
-        ONE_OBJECT,
-        longer,
-        (5, b"a.der:13: bad line\n"),
-    ) && shorter_is_refused(alloc, derivation, b"a.der:12: bad line\n")
+    let err = b"a.der:13: bad line\n";
+    refuses_made(alloc, JUDGE, ONE_OBJECT, longer, (5, err))?;
+    shorter_is_refused(alloc, derivation, b"a.der:12: bad line\n")
 }
 
-// Whether `ONE_OBJECT` was checked, and what was written is refused in this way.
-fn derived_is_refused(alloc: Global, checked: Result<Done, AllocError>) -> bool {
+// The same of what was written for `ONE_OBJECT`.
+fn derived_is_refused(alloc: Global, checked: Result<Done, AllocError>) -> Result<(), Differs> {
     match checked {
-        Ok(done) => is_done(&done) && others_are_refused(alloc, done.out.bytes()),
-        Err(_) => false,
+        Ok(done) => others_are_refused(alloc, &done),
+        Err(_) => Err(Differs::NotRun),
     }
 }
 
@@ -53,7 +51,8 @@ fn derived_is_refused(alloc: Global, checked: Result<Done, AllocError>) -> bool 
 fn hostile_derivations_are_refused_at_their_first_fault(rt: HostRuntime) {
     let alloc = rt.alloc();
     all_refused(&rt, alloc, JUDGE, DERIVATIONS);
-    assert!(rt; derived_is_refused(alloc, run(alloc, CHECK, ONE_OBJECT, b"")));
+    let checked = run(alloc, CHECK, ONE_OBJECT, b"");
+    assert_eq!(rt; derived_is_refused(alloc, checked), Ok(()));
 }
 
 const SCHEDULES: &[Refused<'_>] = &[

@@ -62,7 +62,10 @@ actor Main
 
 #[test]
 fn a_trait_is_named(rt: HostRuntime) {
-    assert!(rt; ends(rt.alloc(), TRAIT, 1, b"a.pony:7:5: no rule\n"));
+    assert_eq!(rt;
+        ends(rt.alloc(), TRAIT, 1, b"a.pony:7:5: no rule\n"),
+        Ok(())
+    );
 }
 
 const DECLARED: &[Ending<'_>] = &[
@@ -115,5 +118,5 @@ actor Main
 #[test]
 fn a_method_is_called_through_an_interface(rt: HostRuntime) {
     let out = b"dog\nsteps 26 skipped 0 actors 2 objects 4 waiting 0\n";
-    assert!(rt; tells(rt.alloc(), RUN, CALLED, b"1*25 0", out));
+    assert_eq!(rt; tells(rt.alloc(), RUN, CALLED, b"1*25 0", out), Ok(()));
 }

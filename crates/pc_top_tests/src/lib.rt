@@ -13,6 +13,8 @@ mod choose_cases;
 #[cfg(test)]
 mod counted_sink;
 #[cfg(test)]
+mod derivations;
+#[cfg(test)]
 mod event_cases;
 #[cfg(test)]
 mod explain_cases;
@@ -34,6 +36,8 @@ mod make_cases;
 mod name_cases;
 #[cfg(test)]
 mod place_cases;
+#[cfg(test)]
+mod prefix_cases;
 #[cfg(test)]
 mod programs;
 #[cfg(test)]

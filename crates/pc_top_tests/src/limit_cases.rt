@@ -2,6 +2,7 @@
 
 use crate::programs::IDLE;
 use crate::rows::{JUDGE, RUN, Refused, all_refused, made_ends, refuses, refuses_made, tells};
+use crate::running::Differs;
 use crate::texts::{add_numbered, add_repeated, repeated, spaces};
 use pc_test_inputs::programs::{HELLO, ONE_OBJECT};
 use std::alloc::{AllocError, Global};
@@ -19,11 +20,14 @@ fn with_classes(alloc: Global, count: usize) -> Result<Vec<u8>, AllocError> {
 }
 
 #[test]
-fn a_file_may_have_so_many_entities(rt: HostRuntime) {
+fn a_file_may_have_1000_entities(rt: HostRuntime) {
     let alloc = rt.alloc();
-    assert!(rt; made_ends(alloc, with_classes(alloc, 999), 0, b""));
+    assert_eq!(rt; made_ends(alloc, with_classes(alloc, 999), 0, b""), Ok(()));
     let more = b"a.pony:1001:7: too many entities\n";
-    assert!(rt; made_ends(alloc, with_classes(alloc, 1_000), 8, more));
+    assert_eq!(rt;
+        made_ends(alloc, with_classes(alloc, 1_000), 8, more),
+        Ok(())
+    );
 }
 
 // Adds an entity with this many methods.
@@ -70,11 +74,11 @@ fn with_methods(alloc: Global, last: usize) -> Result<Vec<u8>, AllocError> {
 }
 
 #[test]
-fn a_file_may_have_so_many_methods(rt: HostRuntime) {
+fn a_file_may_have_10000_methods(rt: HostRuntime) {
     let alloc = rt.alloc();
-    assert!(rt; made_ends(alloc, with_methods(alloc, 98), 0, b""));
+    assert_eq!(rt; made_ends(alloc, with_methods(alloc, 98), 0, b""), Ok(()));
     let more = b"a.pony:9903:7: too many methods\n";
-    assert!(rt; made_ends(alloc, with_methods(alloc, 99), 8, more));
+    assert_eq!(rt; made_ends(alloc, with_methods(alloc, 99), 8, more), Ok(()));
 }
 
 fn add_fields(alloc: Global, source: &mut Vec<u8>, count: usize) -> Result<(), AllocError> {
@@ -91,11 +95,11 @@ pub(crate) fn with_fields(alloc: Global, count: usize) -> Result<Vec<u8>, AllocE
 }
 
 #[test]
-fn an_entity_may_have_so_many_fields(rt: HostRuntime) {
+fn an_entity_may_have_64_fields(rt: HostRuntime) {
     let alloc = rt.alloc();
-    assert!(rt; made_ends(alloc, with_fields(alloc, 64), 0, b""));
+    assert_eq!(rt; made_ends(alloc, with_fields(alloc, 64), 0, b""), Ok(()));
     let more = b"a.pony:66:7: too many fields\n";
-    assert!(rt; made_ends(alloc, with_fields(alloc, 65), 8, more));
+    assert_eq!(rt; made_ends(alloc, with_fields(alloc, 65), 8, more), Ok(()));
 }
 
 // Adds a class whose 99 constructors have 2,000 nodes each: the 1,995 of the field's initial value, a sum of 998 ones,
@@ -120,11 +124,17 @@ const ONE_MORE: &[u8] = b"\nactor Main\n  new create(env: Env) => None\n";
 const TWO_MORE: &[u8] = b"\nactor Main\n  new create(env: Env) => None; None\n";
 
 #[test]
-fn a_core_may_have_so_many_nodes(rt: HostRuntime) {
+fn a_core_may_have_200000_nodes(rt: HostRuntime) {
     let alloc = rt.alloc();
-    assert!(rt; made_ends(alloc, with_nodes(alloc, ONE_MORE), 0, b""));
+    assert_eq!(rt;
+        made_ends(alloc, with_nodes(alloc, ONE_MORE), 0, b""),
+        Ok(())
+    );
     let more = b"a.pony:104:7: too many nodes\n";
-    assert!(rt; made_ends(alloc, with_nodes(alloc, TWO_MORE), 8, more));
+    assert_eq!(rt;
+        made_ends(alloc, with_nodes(alloc, TWO_MORE), 8, more),
+        Ok(())
+    );
 }
 
 const LINES: &[Refused<'_>] = &[
@@ -155,43 +165,31 @@ const LINES: &[Refused<'_>] = &[
 ];
 
 #[test]
-fn a_derivation_may_have_so_many_lines(rt: HostRuntime) {
+fn a_derivation_may_have_640000_slots_and_200000_nodes(rt: HostRuntime) {
     all_refused(&rt, rt.alloc(), JUDGE, LINES);
 }
 
 #[test]
-fn a_derivation_may_have_so_many_bytes(rt: HostRuntime) {
+fn a_derivation_may_have_33554432_bytes(rt: HostRuntime) {
     let alloc = rt.alloc();
     let line = b"a.der:1: bad line\n";
-    assert!(rt;
-        refuses_made(
-            alloc,
-            JUDGE,
-            ONE_OBJECT,
-            spaces(alloc, 33_554_432),
-            (5, line)
-        )
-    );
+    let derivation = spaces(alloc, 33_554_432);
+    let ended = refuses_made(alloc, JUDGE, ONE_OBJECT, derivation, (5, line));
+    assert_eq!(rt; ended, Ok(()));
     let long = b"a.der: longer than 33554432 bytes\n";
-    assert!(rt;
-        refuses_made(
-            alloc,
-            JUDGE,
-            ONE_OBJECT,
-            spaces(alloc, 33_554_433),
-            (8, long)
-        )
-    );
+    let derivation = spaces(alloc, 33_554_433);
+    let ended = refuses_made(alloc, JUDGE, ONE_OBJECT, derivation, (8, long));
+    assert_eq!(rt; ended, Ok(()));
 }
 
 #[test]
-fn a_schedule_may_have_so_many_turns(rt: HostRuntime) {
+fn a_schedule_may_have_1000000_turns(rt: HostRuntime) {
     let alloc = rt.alloc();
     // The greeting is sent within ten turns, and waits: the stream has no turn.
     let out = b"steps 10 skipped 999990 actors 2 objects 3 waiting 1\n";
-    assert!(rt; tells(alloc, RUN, HELLO, b"1*1000000", out));
+    assert_eq!(rt; tells(alloc, RUN, HELLO, b"1*1000000", out), Ok(()));
     let err = b"a.sched:1:1: too many steps\n";
-    assert!(rt; refuses(alloc, RUN, HELLO, b"1*1000001", (8, err)));
+    assert_eq!(rt; refuses(alloc, RUN, HELLO, b"1*1000001", (8, err)), Ok(()));
 }
 
 // A Main that prints a text of this many bytes joined with one more.
@@ -200,24 +198,24 @@ fn with_joined(alloc: Global, size: usize) -> Result<Vec<u8>, AllocError> {
     repeated(alloc, before, b"x", size, b"\" + \"x\")\n")
 }
 
-// Whether a source that was built prints a text that was built.
+// Checks that a source that was built prints a text that was built.
 fn prints(
     alloc: Global,
     source: Result<Vec<u8>, AllocError>,
     printed: Result<Vec<u8>, AllocError>,
-) -> bool {
+) -> Result<(), Differs> {
     match (source, printed) {
         (Ok(source), Ok(printed)) => tells(alloc, RUN, &source, b"1*13 0", &printed),
-        (Err(_), _) | (_, Err(_)) => false,
+        (Err(_), _) | (_, Err(_)) => Err(Differs::NotRun),
     }
 }
 
-// Whether a source that was built ends with a text that is too long.
-fn is_too_long(alloc: Global, source: Result<Vec<u8>, AllocError>) -> bool {
+// Checks that a source that was built ends with a text that is too long.
+fn is_too_long(alloc: Global, source: Result<Vec<u8>, AllocError>) -> Result<(), Differs> {
     let err = b"a.sched: text too long at step 8\n";
     match source {
         Ok(source) => refuses(alloc, RUN, &source, b"1*13 0", (12, err)),
-        Err(_) => false,
+        Err(_) => Err(Differs::NotRun),
     }
 }
 
@@ -228,8 +226,11 @@ fn longest(alloc: Global) -> Result<Vec<u8>, AllocError> {
 }
 
 #[test]
-fn a_text_of_the_machine_may_have_so_many_bytes(rt: HostRuntime) {
+fn a_text_of_the_machine_may_have_4096_bytes(rt: HostRuntime) {
     let alloc = rt.alloc();
-    assert!(rt; prints(alloc, with_joined(alloc, 4_095), longest(alloc)));
-    assert!(rt; is_too_long(alloc, with_joined(alloc, 4_096)));
+    assert_eq!(rt;
+        prints(alloc, with_joined(alloc, 4_095), longest(alloc)),
+        Ok(())
+    );
+    assert_eq!(rt; is_too_long(alloc, with_joined(alloc, 4_096)), Ok(()));
 }

@@ -126,7 +126,10 @@ fn faults_of_bodies_are_named(rt: HostRuntime) {
     let alloc = rt.alloc();
     all_end_within(&rt, alloc, (FUN, BEHIND), BODIES);
     all_end_within(&rt, alloc, (b"", IDLE), OTHERS);
-    assert!(rt; ends(alloc, TEXT, 4, b"a.pony:3:19: name unknown\n"));
+    assert_eq!(rt;
+        ends(alloc, TEXT, 4, b"a.pony:3:19: name unknown\n"),
+        Ok(())
+    );
 }
 
 fn add_locals(alloc: Global, source: &mut Vec<u8>, count: usize) -> Result<(), AllocError> {
@@ -142,11 +145,11 @@ fn with_locals(alloc: Global, count: usize) -> Result<Vec<u8>, AllocError> {
 }
 
 #[test]
-fn a_method_may_have_so_many_slots(rt: HostRuntime) {
+fn a_method_may_have_64_slots(rt: HostRuntime) {
     let alloc = rt.alloc();
-    assert!(rt; made_ends(alloc, with_locals(alloc, 62), 0, b""));
+    assert_eq!(rt; made_ends(alloc, with_locals(alloc, 62), 0, b""), Ok(()));
     let more = b"a.pony:66:9: too many slots\n";
-    assert!(rt; made_ends(alloc, with_locals(alloc, 63), 8, more));
+    assert_eq!(rt; made_ends(alloc, with_locals(alloc, 63), 8, more), Ok(()));
 }
 
 // A Main with a text of this many bytes as its body.
@@ -156,9 +159,9 @@ fn with_text(alloc: Global, size: usize) -> Result<Vec<u8>, AllocError> {
 }
 
 #[test]
-fn a_text_may_have_so_many_bytes(rt: HostRuntime) {
+fn a_text_may_have_4096_bytes(rt: HostRuntime) {
     let alloc = rt.alloc();
-    assert!(rt; made_ends(alloc, with_text(alloc, 4_096), 0, b""));
+    assert_eq!(rt; made_ends(alloc, with_text(alloc, 4_096), 0, b""), Ok(()));
     let more = b"a.pony:2:27: text too long\n";
-    assert!(rt; made_ends(alloc, with_text(alloc, 4_097), 8, more));
+    assert_eq!(rt; made_ends(alloc, with_text(alloc, 4_097), 8, more), Ok(()));
 }

@@ -102,9 +102,9 @@ n body 4 0 121 127 11
 #[test]
 fn places_are_told(rt: HostRuntime) {
     let alloc = rt.alloc();
-    assert!(rt; tells(alloc, PLACES, CELL, b"", CELL_PLACES));
+    assert_eq!(rt; tells(alloc, PLACES, CELL, b"", CELL_PLACES), Ok(()));
     // Names are those of the trait's text, even if they come after a comment.
-    assert!(rt; tells(alloc, PLACES, TAKEN, b"", TAKEN_PLACES));
+    assert_eq!(rt; tells(alloc, PLACES, TAKEN, b"", TAKEN_PLACES), Ok(()));
 }
 
 const REFUSED: &[Refused<'_>] = &[
@@ -116,8 +116,11 @@ const REFUSED: &[Refused<'_>] = &[
 #[test]
 fn sources_without_a_core_have_no_places(rt: HostRuntime) {
     let alloc = rt.alloc();
-    assert!(rt; refuses(alloc, &["places"], CELL, b"", (2, USAGE)));
-    assert!(rt; refuses(alloc, &["places", "a.pony", "a.der"], CELL, b"", (2, USAGE)));
+    assert_eq!(rt; refuses(alloc, &["places"], CELL, b"", (2, USAGE)), Ok(()));
+    assert_eq!(rt;
+        refuses(alloc, &["places", "a.pony", "a.der"], CELL, b"", (2, USAGE)),
+        Ok(())
+    );
     all_refused(&rt, alloc, PLACES, REFUSED);
 }
 

@@ -3,10 +3,11 @@
 use crate::counted_sink::CountedSink;
 use crate::programs::{FIRST, SECOND};
 use crate::rows::CHECK;
-use crate::running::{Failing, NOTHING, stored};
+use crate::running::{Differs, Failing, NOTHING, stored};
 use crate::texts::joined;
 use pc_io::MemFiles;
 use pc_referee::Rules;
+use pc_test_inputs::place_of_difference;
 use pc_test_inputs::programs::{DOUBLES, HELLO, ONE_OBJECT, READERS};
 use pc_top::rcap;
 use std::alloc::{AllocError, Global};
@@ -212,26 +213,47 @@ fn write(alloc: Global, writing: &Writing<'_>, failing: Failing) -> Result<Writt
     write_on(alloc, writing.words, &mut files, failing)
 }
 
-// Whether a sink has this text, and had this many calls.
-fn is_called(sink: &CountedSink, called: Called<'_>) -> bool {
-    sink.bytes() == called.0 && sink.calls() == called.1
+// Checks that out had these calls, and has this text.
+fn has_out(sink: &CountedSink, called: Called<'_>) -> Result<(), Differs> {
+    if sink.calls() != called.1 {
+        return Err(Differs::OutCalls(sink.calls()));
+    }
+    match place_of_difference(sink.bytes(), called.0) {
+        Some(place) => Err(Differs::Out(place)),
+        None => Ok(()),
+    }
 }
 
-// Whether a command did this: its status, and what it left on out and err.
-fn did(written: &Written, status: u8, out: Called<'_>, err: Called<'_>) -> bool {
-    written.status == status && is_called(&written.out, out) && is_called(&written.err, err)
+// Checks that err had these calls, and has this text.
+fn has_err(sink: &CountedSink, called: Called<'_>) -> Result<(), Differs> {
+    if sink.calls() != called.1 {
+        return Err(Differs::ErrCalls(sink.calls()));
+    }
+    match place_of_difference(sink.bytes(), called.0) {
+        Some(place) => Err(Differs::Line(place)),
+        None => Ok(()),
+    }
 }
 
-// Whether a command was run, and has this status and leaves this on out and err.
+// Checks that a command did this: its status, and what it left on out and err.
+fn did(written: &Written, status: u8, out: Called<'_>, err: Called<'_>) -> Result<(), Differs> {
+    if written.status != status {
+        return Err(Differs::Status(written.status));
+    }
+    has_out(&written.out, out)?;
+    has_err(&written.err, err)
+}
+
+// Checks that a command was run, and has this status and leaves this on out and err.
 fn left(
     written: Result<Written, AllocError>,
     status: u8,
     out: Called<'_>,
     err: Called<'_>,
-) -> bool {
+) -> Result<(), Differs> {
     match written {
         Ok(written) => did(&written, status, out, err),
-        Err(_) => false,
+        Err(_) => Err(Differs::NotRun),
     }
 }
 
@@ -253,49 +275,60 @@ fn cut_at(alloc: Global, pieces: &[&[u8]], at: usize) -> Result<Vec<u8>, AllocEr
     Ok(text)
 }
 
-// Whether, if one call of `put` on out only takes one byte, this text is on out, nothing more is written there, and
+// Checks that if one call of `put` on out only takes one byte, this text is on out, nothing more is written there, and
 // nothing is written to err.
 fn is_cut(
     alloc: Global,
     writing: &Writing<'_>,
     call: u32,
     text: Result<Vec<u8>, AllocError>,
-) -> bool {
+) -> Result<(), Differs> {
     let failing = Failing {
         out: (call, 1),
         err: (0, 0),
     };
     match text {
         Ok(text) => left(write(alloc, writing, failing), 10, (&text, call), (b"", 0)),
-        Err(_) => false,
+        Err(_) => Err(Differs::NotRun),
     }
 }
 
-// Whether this holds for the call with the piece at a place, with the pieces before it.
-fn piece_fails(alloc: Global, writing: &Writing<'_>, at: usize) -> bool {
+// Checks that this holds for the call with the piece at a place, with the pieces before it.
+fn piece_fails(alloc: Global, writing: &Writing<'_>, at: usize) -> Result<(), Differs> {
     let text = cut_at(alloc, writing.pieces, at);
     is_cut(alloc, writing, number_at(at), text)
 }
 
-// Whether this holds for each piece in turn.
-fn pieces_fail(alloc: Global, writing: &Writing<'_>) -> bool {
-    for at in 0..writing.pieces.len() {
-        if !piece_fails(alloc, writing, at) {
-            return false;
-        }
-    }
-    true
+/// The run in which a command writes something else, and how it differs.
+#[derive(Clone, Copy, Debug, PartialEq, Eq)]
+enum Unlike {
+    /// The one in which the call with the piece at this place fails.
+    Piece(usize, Differs),
+    /// The one in which the call with the line fails.
+    Line(Differs),
+    /// The one in which nothing fails.
+    Whole(Differs),
 }
 
-// Whether, if nothing fails, these pieces are on out, and the line is one call.
-fn line_stands(alloc: Global, writing: &Writing<'_>, out: Called<'_>) -> bool {
+// Checks that this holds for each piece in turn.
+fn pieces_fail(alloc: Global, writing: &Writing<'_>) -> Result<(), Unlike> {
+    for at in 0..writing.pieces.len() {
+        if let Err(differs) = piece_fails(alloc, writing, at) {
+            return Err(Unlike::Piece(at, differs));
+        }
+    }
+    Ok(())
+}
+
+// Checks that if nothing fails, these pieces are on out, and the line is one call.
+fn line_stands(alloc: Global, writing: &Writing<'_>, out: Called<'_>) -> Result<(), Differs> {
     let calls = u32::from(!writing.line.is_empty());
     let written = write(alloc, writing, NOTHING);
     left(written, writing.status, out, (writing.line, calls))
 }
 
-// Whether, if only two bytes of the line are taken, these pieces are on out, and the two bytes on err.
-fn line_fails(alloc: Global, writing: &Writing<'_>, out: Called<'_>) -> bool {
+// Checks that if only two bytes of the line are taken, these pieces are on out, and the two bytes on err.
+fn line_fails(alloc: Global, writing: &Writing<'_>, out: Called<'_>) -> Result<(), Differs> {
     let failing = Failing {
         out: (0, 0),
         err: (1, 2),
@@ -304,37 +337,49 @@ fn line_fails(alloc: Global, writing: &Writing<'_>, out: Called<'_>) -> bool {
     left(write(alloc, writing, failing), 10, out, (part, 1))
 }
 
-// Whether, if no piece fails, this text is on out in this many calls, and the line, if there is one, is one call.
+// Checks that if no piece fails, these pieces are on out, and the line, if there is one, is one call.
+fn both_stand(alloc: Global, writing: &Writing<'_>, out: Called<'_>) -> Result<(), Unlike> {
+    if let Err(differs) = line_stands(alloc, writing, out) {
+        return Err(Unlike::Whole(differs));
+    }
+    if writing.line.is_empty() {
+        return Ok(());
+    }
+    match line_fails(alloc, writing, out) {
+        Ok(()) => Ok(()),
+        Err(differs) => Err(Unlike::Line(differs)),
+    }
+}
+
+// The same of a text that was built, in this many calls.
 fn text_stands(
     alloc: Global,
     writing: &Writing<'_>,
     text: Result<Vec<u8>, AllocError>,
     calls: u32,
-) -> bool {
+) -> Result<(), Unlike> {
     match text {
-        Ok(text) => {
-            line_stands(alloc, writing, (&text, calls))
-                && (writing.line.is_empty() || line_fails(alloc, writing, (&text, calls)))
-        }
-        Err(_) => false,
+        Ok(text) => both_stand(alloc, writing, (&text, calls)),
+        Err(_) => Err(Unlike::Whole(Differs::NotRun)),
     }
 }
 
-// Whether each piece and the line are one call each.
-fn whole_stands(alloc: Global, writing: &Writing<'_>) -> bool {
+// Checks that each piece and the line are one call each.
+fn whole_stands(alloc: Global, writing: &Writing<'_>) -> Result<(), Unlike> {
     let calls = u32::try_from(writing.pieces.len()).unwrap_or(u32::MAX);
     text_stands(alloc, writing, joined(alloc, writing.pieces), calls)
 }
 
-// Whether a command writes like this.
-fn writes(alloc: Global, writing: &Writing<'_>) -> bool {
-    pieces_fail(alloc, writing) && whole_stands(alloc, writing)
+// Checks that a command writes like this.
+fn writes(alloc: Global, writing: &Writing<'_>) -> Result<(), Unlike> {
+    pieces_fail(alloc, writing)?;
+    whole_stands(alloc, writing)
 }
 
 // Each of these commands writes like this.
 fn all_write(rt: &impl Abort, alloc: Global, cases: &[Writing<'_>]) {
     for at in 0..cases.len() {
-        assert!(rt; writes(alloc, &cases[at]), "row {at}");
+        assert_eq!(rt; writes(alloc, &cases[at]), Ok(()), "row {at}");
     }
 }
 

@@ -1,35 +1,33 @@
-//! What `judge` asks a referee that records its questions; other commands ask nothing.
+//! What a referee that records the nodes which it found right has recorded after each command.
 
 use crate::rows::{CHECK, JUDGE, UPGRADE};
 use crate::running::files_of;
-use crate::texts::joined;
 use pc_io::{MemFiles, MemSink};
 use pc_referee::ListReferee;
 use pc_test_inputs::programs::ONE_OBJECT;
+use pc_test_inputs::{LINES, LINES2, NODES, note, variant_of};
 use pc_top::rcap;
 use std::alloc::{AllocError, Global};
 use std::process::Abort;
 
-const SLOTS: &[u8] = b"rcap-derivation 1 4 7\ns 6 ref\ns 7 ref\ns 4 val\ns 6 iso\n";
-
-const CLASS: &[u8] = b"n prim 0 val 1 0 1 0\nn seq 0 val 1 0 1 0\nn body - 1 0 1 0\n";
-
-const REST: &[u8] = b"n define - 3 0 7 0\nn seq - 3 0 3 0\nn body - 3 0 3 0\n";
-
-const RIGHT: &[u8] = b"n new 6 iso^ 3 0 3 0\n";
-
-const WRONG: &[u8] = b"n new 6 ref 3 0 3 0\n";
-
-/// The words of a command on `ONE_OBJECT` and its derivation, a line of the derivation, the status, and how many nodes
-/// the referee is asked about.
+/// The words of a command on `ONE_OBJECT` and its derivation, the line of node 3 in the derivation, the status, and how
+/// many nodes are recorded.
 type Asking = (&'static [&'static str], &'static [u8], u8, usize);
 
-const ASKED: &[Asking] = &[
-    (JUDGE, RIGHT, 0, 7),
-    (JUDGE, WRONG, 6, 3),
-    (CHECK, RIGHT, 0, 0),
-    (UPGRADE, RIGHT, 0, 0),
-    (UPGRADE, WRONG, 6, 0),
+/// In version 1 of the text, with the right type at the node and with another.
+const FIRST: &[Asking] = &[
+    (JUDGE, b"n new 6 iso^ 3 0 3 0\n", 0, 7),
+    (JUDGE, b"n new 6 ref 3 0 3 0\n", 6, 3),
+    (CHECK, b"n new 6 iso^ 3 0 3 0\n", 0, 0),
+    (UPGRADE, b"n new 6 iso^ 3 0 3 0\n", 0, 0),
+    (UPGRADE, b"n new 6 ref 3 0 3 0\n", 6, 0),
+];
+
+/// The same in version 2.
+const SECOND: &[Asking] = &[
+    (JUDGE, b"n new 6 iso^ 3 0 0 0\n", 0, 7),
+    (JUDGE, b"n new 6 ref 3 0 0 0\n", 6, 3),
+    (UPGRADE, b"n new 6 iso^ 3 0 0 0\n", 0, 0),
 ];
 
 // The status of a command that asks a referee.
@@ -56,68 +54,64 @@ fn ask(
     Ok(status_of(alloc, words, files, &mut out, &mut err, referee))
 }
 
-// Whether this many nodes were asked about, with numbers that count up from 0.
-fn was_asked(referee: &ListReferee, count: usize) -> bool {
-    let asked = referee.asked().as_slice();
-    for at in 0..asked.len() {
-        if asked[at].0 as usize != at {
-            return false;
-        }
+// Whether what is recorded at this place is this node, with its note.
+fn is_node(referee: &ListReferee, at: usize) -> bool {
+    match (referee.asked().get(at), NODES.get(at)) {
+        (Some((number, own)), Some(row)) => *number as usize == at && *own == note(*row),
+        (None, _) | (_, None) => false,
     }
-    asked.len() == count
 }
 
-// Whether a command on these files has this status, and the referee was asked about this many nodes.
-fn asks_on(alloc: Global, words: &[&str], files: &mut MemFiles, status: u8, count: usize) -> bool {
+// How many nodes are recorded, if they are the first ones, in order and each with its note, or the first place at which
+// there is another.
+fn asked_of(referee: &ListReferee) -> Result<usize, usize> {
+    let count = referee.asked().len();
+    for at in 0..count {
+        if !is_node(referee, at) {
+            return Err(at);
+        }
+    }
+    Ok(count)
+}
+
+/// The status of a command, unless memory ran out, and what the referee has recorded.
+type Answer = (Result<u8, AllocError>, Result<usize, usize>);
+
+// What a command on these files answers, and what is recorded after it.
+fn ask_on(alloc: Global, words: &[&str], files: &mut MemFiles) -> Answer {
     let mut referee = ListReferee::new(alloc);
-    let answer = ask(alloc, words, files, &mut referee);
-    answer == Ok(status) && was_asked(&referee, count)
+    let status = ask(alloc, words, files, &mut referee);
+    (status, asked_of(&referee))
 }
 
 // The same with these files.
-fn asks_with(
-    alloc: Global,
-    words: &[&str],
-    files: Result<MemFiles, AllocError>,
-    status: u8,
-    count: usize,
-) -> bool {
+fn ask_with(alloc: Global, words: &[&str], files: Result<MemFiles, AllocError>) -> Answer {
     match files {
-        Ok(mut files) => asks_on(alloc, words, &mut files, status, count),
-        Err(_) => false,
+        Ok(mut files) => ask_on(alloc, words, &mut files),
+        Err(AllocError) => (Err(AllocError), Ok(0)),
     }
 }
 
 // The same with this derivation.
-fn asks_of(
-    alloc: Global,
-    words: &[&str],
-    derivation: Result<Vec<u8>, AllocError>,
-    status: u8,
-    count: usize,
-) -> bool {
+fn ask_of(alloc: Global, words: &[&str], derivation: Result<Vec<u8>, AllocError>) -> Answer {
     match derivation {
-        Ok(derivation) => {
-            let files = files_of(alloc, ONE_OBJECT, &derivation, 0);
-            asks_with(alloc, words, files, status, count)
-        }
-        Err(_) => false,
+        Ok(derivation) => ask_with(alloc, words, files_of(alloc, ONE_OBJECT, &derivation, 0)),
+        Err(AllocError) => (Err(AllocError), Ok(0)),
     }
 }
 
-// Each of these commands asks as stated.
-fn all_ask(rt: &impl Abort, alloc: Global, rows: &[Asking]) {
+// After each of these commands, on these lines of the derivation, what is stated is recorded.
+fn all_ask(rt: &impl Abort, alloc: Global, lines: &[&[u8]], rows: &[Asking]) {
     for at in 0..rows.len() {
         let (words, line, status, count) = rows[at];
-        let derivation = joined(alloc, &[SLOTS, CLASS, line, REST]);
-        assert!(rt;
-            asks_of(alloc, words, derivation, status, count),
-            "row {at}"
-        );
+        let derivation = variant_of(alloc, lines, 9, line);
+        let answer = ask_of(alloc, words, derivation);
+        assert_eq!(rt; answer, (Ok(status), Ok(count)), "row {at}");
     }
 }
 
 #[test]
 fn each_node_is_asked_up_to_the_first_that_is_wrong(rt: HostRuntime) {
-    all_ask(&rt, rt.alloc(), ASKED);
+    all_ask(&rt, rt.alloc(), &LINES, FIRST);
+    all_ask(&rt, rt.alloc(), &LINES2, SECOND);
 }

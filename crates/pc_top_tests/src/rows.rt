@@ -1,7 +1,7 @@
 //! Rows of tables: what is given to a command, and what it should do. If the result of a row differs, the test ends
-//! with the place of the first such row.
+//! with the place of the first such row, and how it differs.
 
-use crate::running::{Done, Failing, Wanted, files_of, is_done, is_wanted, run, run_on};
+use crate::running::{Differs, Done, Failing, Wanted, files_of, is_done, is_wanted, run, run_on};
 use crate::texts::joined;
 use pc_io::MemFiles;
 use std::alloc::{AllocError, Global};
@@ -42,33 +42,33 @@ pub(crate) type Failure<'a> = (u32, (u32, u32), (u32, u32), u8, &'a [u8], &'a [u
 /// No write fails.
 pub(crate) const NONE: (u32, u32) = (0, 0);
 
-// Whether a command was run, and did what it should.
-fn did(run: Result<Done, AllocError>, wanted: Wanted<'_>) -> bool {
+// Checks that a command was run, and did what it should.
+fn did(run: Result<Done, AllocError>, wanted: Wanted<'_>) -> Result<(), Differs> {
     match run {
         Ok(done) => is_wanted(&done, wanted),
-        Err(_) => false,
+        Err(_) => Err(Differs::NotRun),
     }
 }
 
-/// Whether a command on a source and the other text does what it should.
+/// Checks that a command on a source and the other text does what it should.
 pub(crate) fn answers(
     alloc: Global,
     words: &[&str],
     source: &[u8],
     other: &[u8],
     wanted: Wanted<'_>,
-) -> bool {
+) -> Result<(), Differs> {
     did(run(alloc, words, source, other), wanted)
 }
 
-/// Whether a command on a source and the other text is done with this on out, and nothing on err.
+/// Checks that a command on a source and the other text is done with this on out, and nothing on err.
 pub(crate) fn tells(
     alloc: Global,
     words: &[&str],
     source: &[u8],
     other: &[u8],
     out: &[u8],
-) -> bool {
+) -> Result<(), Differs> {
     let wanted = Wanted {
         status: 0,
         out,
@@ -77,14 +77,14 @@ pub(crate) fn tells(
     answers(alloc, words, source, other, wanted)
 }
 
-/// Whether a command on a source and the other text ends with this status and line, and writes nothing on out.
+/// Checks that a command on a source and the other text ends with this status and line, and writes nothing on out.
 pub(crate) fn refuses(
     alloc: Global,
     words: &[&str],
     source: &[u8],
     other: &[u8],
     refusal: (u8, &[u8]),
-) -> bool {
+) -> Result<(), Differs> {
     let wanted = Wanted {
         status: refusal.0,
         out: b"",
@@ -93,32 +93,41 @@ pub(crate) fn refuses(
     answers(alloc, words, source, other, wanted)
 }
 
-/// Whether a command on a source and a text that was built ends with this status and line, and writes nothing on out.
+/// Checks that a command on a source and a text that was built ends with this status and line, and writes nothing on
+/// out.
 pub(crate) fn refuses_made(
     alloc: Global,
     words: &[&str],
     source: &[u8],
     other: Result<Vec<u8>, AllocError>,
     refusal: (u8, &[u8]),
-) -> bool {
+) -> Result<(), Differs> {
     match other {
         Ok(other) => refuses(alloc, words, source, &other, refusal),
-        Err(_) => false,
+        Err(_) => Err(Differs::NotRun),
     }
 }
 
-// Whether a source was checked, and what was written is accepted.
-fn is_accepted(alloc: Global, source: &[u8], checked: Result<Done, AllocError>) -> bool {
+// Checks that a command was done, and that the derivation that it wrote for a source is accepted.
+fn is_judged(alloc: Global, source: &[u8], done: &Done) -> Result<(), Differs> {
+    is_done(done)?;
+    tells(alloc, JUDGE, source, done.out.bytes(), b"accepted\n")
+}
+
+// The same, if there was memory for the command.
+fn is_accepted(
+    alloc: Global,
+    source: &[u8],
+    checked: Result<Done, AllocError>,
+) -> Result<(), Differs> {
     match checked {
-        Ok(done) => {
-            is_done(&done) && tells(alloc, JUDGE, source, done.out.bytes(), b"accepted\n")
-        }
-        Err(_) => false,
+        Ok(done) => is_judged(alloc, source, &done),
+        Err(_) => Err(Differs::NotRun),
     }
 }
 
-/// Whether a source ends with this status and line.
-pub(crate) fn ends(alloc: Global, source: &[u8], status: u8, err: &[u8]) -> bool {
+/// Checks that a source ends with this status and line.
+pub(crate) fn ends(alloc: Global, source: &[u8], status: u8, err: &[u8]) -> Result<(), Differs> {
     if status == 0 && err.is_empty() {
         is_accepted(alloc, source, run(alloc, CHECK, source, b""))
     } else {
@@ -126,16 +135,16 @@ pub(crate) fn ends(alloc: Global, source: &[u8], status: u8, err: &[u8]) -> bool
     }
 }
 
-/// Whether a source that was built ends with this status and line.
+/// Checks that a source that was built ends with this status and line.
 pub(crate) fn made_ends(
     alloc: Global,
     source: Result<Vec<u8>, AllocError>,
     status: u8,
     err: &[u8],
-) -> bool {
+) -> Result<(), Differs> {
     match source {
         Ok(source) => ends(alloc, &source, status, err),
-        Err(_) => false,
+        Err(_) => Err(Differs::NotRun),
     }
 }
 
@@ -149,7 +158,7 @@ pub(crate) fn all_end_within(
     for at in 0..rows.len() {
         let (part, status, err) = rows[at];
         let source = joined(alloc, &[around.0, part, around.1]);
-        assert!(rt; made_ends(alloc, source, status, err), "row {at}");
+        assert_eq!(rt; made_ends(alloc, source, status, err), Ok(()), "row {at}");
     }
 }
 
@@ -162,10 +171,8 @@ pub(crate) fn all_end(rt: &impl Abort, alloc: Global, rows: &[Ending<'_>]) {
 pub(crate) fn all_words_end(rt: &impl Abort, alloc: Global, source: &[u8], rows: &[Spoken<'_>]) {
     for at in 0..rows.len() {
         let (words, status, err) = rows[at];
-        assert!(rt;
-            refuses(alloc, words, source, b"", (status, err)),
-            "row {at}"
-        );
+        let ended = refuses(alloc, words, source, b"", (status, err));
+        assert_eq!(rt; ended, Ok(()), "row {at}");
     }
 }
 
@@ -173,7 +180,7 @@ pub(crate) fn all_words_end(rt: &impl Abort, alloc: Global, source: &[u8], rows:
 pub(crate) fn all_told(rt: &impl Abort, alloc: Global, words: &[&str], rows: &[Told<'_>]) {
     for at in 0..rows.len() {
         let (source, other, out) = rows[at];
-        assert!(rt; tells(alloc, words, source, other, out), "row {at}");
+        assert_eq!(rt; tells(alloc, words, source, other, out), Ok(()), "row {at}");
     }
 }
 
@@ -181,15 +188,18 @@ pub(crate) fn all_told(rt: &impl Abort, alloc: Global, words: &[&str], rows: &[T
 pub(crate) fn all_refused(rt: &impl Abort, alloc: Global, words: &[&str], rows: &[Refused<'_>]) {
     for at in 0..rows.len() {
         let (source, other, status, err) = rows[at];
-        assert!(rt;
-            refuses(alloc, words, source, other, (status, err)),
-            "row {at}"
-        );
+        let ended = refuses(alloc, words, source, other, (status, err));
+        assert_eq!(rt; ended, Ok(()), "row {at}");
     }
 }
 
-// Whether a command on these files does what a row states, except for the read that fails.
-fn fails_on(alloc: Global, words: &[&str], files: &mut MemFiles, row: &Failure<'_>) -> bool {
+// Checks that a command on these files does what a row states, except for the read that fails.
+fn fails_on(
+    alloc: Global,
+    words: &[&str],
+    files: &mut MemFiles,
+    row: &Failure<'_>,
+) -> Result<(), Differs> {
     let failing = Failing {
         out: row.1,
         err: row.2,
@@ -202,16 +212,16 @@ fn fails_on(alloc: Global, words: &[&str], files: &mut MemFiles, row: &Failure<'
     did(run_on(alloc, words, files, failing), wanted)
 }
 
-/// Whether a command on files that were built does what a row states.
+/// Checks that a command on files that were built does what a row states.
 pub(crate) fn fails_with(
     alloc: Global,
     words: &[&str],
     files: Result<MemFiles, AllocError>,
     row: &Failure<'_>,
-) -> bool {
+) -> Result<(), Differs> {
     match files {
         Ok(mut files) => fails_on(alloc, words, &mut files, row),
-        Err(_) => false,
+        Err(_) => Err(Differs::NotRun),
     }
 }
 
@@ -225,6 +235,7 @@ pub(crate) fn all_fail(
 ) {
     for at in 0..rows.len() {
         let files = files_of(alloc, texts.0, texts.1, rows[at].0);
-        assert!(rt; fails_with(alloc, words, files, &rows[at]), "row {at}");
+        let ended = fails_with(alloc, words, files, &rows[at]);
+        assert_eq!(rt; ended, Ok(()), "row {at}");
     }
 }

@@ -5,7 +5,7 @@ use crate::rows::{
     Failure, NONE, RUN, Refused, Told, all_fail, all_refused, all_told, answers, refuses_made,
     tells,
 };
-use crate::running::Wanted;
+use crate::running::{Differs, Wanted};
 use crate::texts::spaces;
 use pc_test_inputs::programs::{BANK, CHAIN, DOUBLES, HELLO, READERS};
 use std::alloc::{AllocError, Global};
@@ -119,24 +119,28 @@ const TOO_LONG: Wanted<'static> = Wanted {
 fn runs_are_refused(rt: HostRuntime) {
     let alloc = rt.alloc();
     all_refused(&rt, alloc, RUN, REFUSED);
-    assert!(rt; answers(alloc, RUN, DOUBLES, b"1*9 0 1*1000", TOO_LONG));
+    assert_eq!(rt;
+        answers(alloc, RUN, DOUBLES, b"1*9 0 1*1000", TOO_LONG),
+        Ok(())
+    );
 }
 
-// Whether a schedule that was built moves nothing.
-fn moves_nothing(alloc: Global, schedule: Result<Vec<u8>, AllocError>) -> bool {
+// Checks that a schedule that was built moves nothing.
+fn moves_nothing(alloc: Global, schedule: Result<Vec<u8>, AllocError>) -> Result<(), Differs> {
     let out = b"steps 0 skipped 0 actors 2 objects 3 waiting 1\n";
     match schedule {
         Ok(schedule) => tells(alloc, RUN, HELLO, &schedule, out),
-        Err(_) => false,
+        Err(_) => Err(Differs::NotRun),
     }
 }
 
 #[test]
-fn schedules_may_have_so_many_bytes(rt: HostRuntime) {
+fn schedules_may_have_1048576_bytes(rt: HostRuntime) {
     let alloc = rt.alloc();
-    assert!(rt; moves_nothing(alloc, spaces(alloc, 1_048_576)));
+    assert_eq!(rt; moves_nothing(alloc, spaces(alloc, 1_048_576)), Ok(()));
     let err = b"a.sched: longer than 1048576 bytes\n";
-    assert!(rt; refuses_made(alloc, RUN, HELLO, spaces(alloc, 1_048_577), (8, err)));
+    let ended = refuses_made(alloc, RUN, HELLO, spaces(alloc, 1_048_577), (8, err));
+    assert_eq!(rt; ended, Ok(()));
 }
 
 const SCHEDULE: &[u8] = b"1*9 0 1*1000";

@@ -2,6 +2,7 @@
 
 use pc_io::{MemFiles, MemSink};
 use pc_referee::Rules;
+use pc_test_inputs::place_of_difference;
 use pc_top::rcap;
 use std::alloc::{AllocError, Global};
 
@@ -108,12 +109,50 @@ pub(crate) fn run(
     run_on(alloc, words, &mut files, NOTHING)
 }
 
-/// Whether a command did what it should.
-pub(crate) fn is_wanted(done: &Done, wanted: Wanted<'_>) -> bool {
-    done.status == wanted.status && done.out.bytes() == wanted.out && done.err.bytes() == wanted.err
+/// How a command does something else than it should.
+#[derive(Clone, Copy, Debug, PartialEq, Eq)]
+pub(crate) enum Differs {
+    /// Memory ran out before it was run.
+    NotRun,
+    /// It has this status.
+    Status(u8),
+    /// From this place on, something else is on out.
+    Out(usize),
+    /// From this place on, something else is on err.
+    Line(usize),
+    /// Out had this many calls of `put`.
+    OutCalls(u32),
+    /// Err had this many calls of `put`.
+    ErrCalls(u32),
 }
 
-/// Whether the status is 0, and nothing is on err.
-pub(crate) fn is_done(done: &Done) -> bool {
-    done.status == 0 && done.err.bytes().is_empty()
+impl From<AllocError> for Differs {
+    fn from(_: AllocError) -> Differs {
+        Differs::NotRun
+    }
+}
+
+/// Checks that a command did what it should.
+pub(crate) fn is_wanted(done: &Done, wanted: Wanted<'_>) -> Result<(), Differs> {
+    if done.status != wanted.status {
+        return Err(Differs::Status(done.status));
+    }
+    if let Some(place) = place_of_difference(done.out.bytes(), wanted.out) {
+        return Err(Differs::Out(place));
+    }
+    match place_of_difference(done.err.bytes(), wanted.err) {
+        Some(place) => Err(Differs::Line(place)),
+        None => Ok(()),
+    }
+}
+
+/// Checks that the status is 0, and nothing is on err.
+pub(crate) fn is_done(done: &Done) -> Result<(), Differs> {
+    if done.status != 0 {
+        Err(Differs::Status(done.status))
+    } else if done.err.bytes().is_empty() {
+        Ok(())
+    } else {
+        Err(Differs::Line(0))
+    }
 }

@@ -1,9 +1,7 @@
 //! `show`: what is printed for which source, and what is refused.
 
-use crate::rows::{Failure, NONE, Refused, all_fail, all_refused, tells};
-use crate::running::{Done, is_done, run};
+use crate::rows::{Failure, NONE, Refused, Told, all_fail, all_refused, all_told, tells};
 use pc_test_inputs::programs::{BANK, CHAIN};
-use std::alloc::{AllocError, Global};
 
 const SHOW: &[&str] = &["show", "a.pony"];
 
@@ -22,24 +20,97 @@ const REFUSED: &[Refused<'_>] = &[
 #[test]
 fn sources_are_shown_or_refused(rt: HostRuntime) {
     let alloc = rt.alloc();
-    assert!(rt; tells(alloc, SHOW, LINE, b"", PRINTED));
+    assert_eq!(rt; tells(alloc, SHOW, LINE, b"", PRINTED), Ok(()));
     // Names and types are not looked at.
-    assert!(rt; tells(alloc, SHOW, UNKNOWN, b"", UNKNOWN));
+    assert_eq!(rt; tells(alloc, SHOW, UNKNOWN, b"", UNKNOWN), Ok(()));
     all_refused(&rt, alloc, SHOW, REFUSED);
 }
 
-// Whether a source was shown, and what was shown is shown as itself.
-fn is_shown_again(alloc: Global, shown: Result<Done, AllocError>) -> bool {
-    match shown {
-        Ok(done) => is_done(&done) && tells(alloc, SHOW, done.out.bytes(), b"", done.out.bytes()),
-        Err(_) => false,
-    }
-}
+/// `CHAIN` in the one layout: each item of a body on a line of its own, and an empty line between entities.
+const CHAIN_SHOWN: &[u8] = b"\
+trait Chain
+  fun sum(): U64
+
+class Stop is Chain
+  new create() =>
+    None
+  fun sum(): U64 =>
+    0
+
+class Link is Chain
+  let _head: U64
+  let _tail: Chain
+  new create(head: U64, tail: Chain) =>
+    _head = head
+    _tail = tail
+  fun sum(): U64 =>
+    _head + _tail.sum()
+
+actor Reader
+  let _out: OutStream
+  new create(out: OutStream) =>
+    _out = out
+  be read(list: Chain val) =>
+    _out.print(list.sum().string())
+
+actor Main
+  new create(env: Env) =>
+    let list: Chain iso = recover Link(1, Link(2, Stop)) end
+    Reader(env.out).read(consume list)
+";
+
+/// `BANK` in it: without docs and comments, and each `if` on one line.
+const BANK_SHOWN: &[u8] = b"\
+trait Report
+  fun line(): String
+
+class Account is Report
+  let _name: String
+  var _sum: U64 = 0
+  new iso create(name: String) =>
+    _name = name
+  fun ref add(n: U64): U64 =>
+    _sum = _sum + n
+    _sum
+  fun ref take(n: U64): Bool =>
+    if n <= _sum then _sum = _sum - n; true else false end
+  fun line(): String =>
+    _name + \": \" + _sum.string()
+
+actor Teller
+  let _out: OutStream
+  var _account: Account iso
+  new create(out: OutStream, account: Account iso) =>
+    _out = out
+    _account = consume account
+  be deposit(n: U64) =>
+    _account.add(n)
+  be withdraw(n: U64, to: Teller) =>
+    if _account.take(n) then to.deposit(n) else _out.print(\"refused \" + n.string()) end
+  be report() =>
+    _out.print(_account.line())
+
+actor Main
+  new create(env: Env) =>
+    let ann: Teller = Teller(env.out, Account(\"ann\"))
+    let bob: Teller = Teller(env.out, Account(\"bob\"))
+    ann.deposit(100)
+    ann.withdraw(30, bob)
+    bob.withdraw(500, ann)
+    ann.report()
+    bob.report()
+";
+
+const SHOWN: &[Told<'_>] = &[
+    (CHAIN, b"", CHAIN_SHOWN),
+    (CHAIN_SHOWN, b"", CHAIN_SHOWN),
+    (BANK, b"", BANK_SHOWN),
+    (BANK_SHOWN, b"", BANK_SHOWN),
+];
 
 #[test]
-fn what_is_shown_is_shown_again(rt: HostRuntime) {
-    assert!(rt; is_shown_again(rt.alloc(), run(rt.alloc(), SHOW, BANK, b"")));
-    assert!(rt; is_shown_again(rt.alloc(), run(rt.alloc(), SHOW, CHAIN, b"")));
+fn sources_are_shown_in_one_layout_and_again(rt: HostRuntime) {
+    all_told(&rt, rt.alloc(), SHOW, SHOWN);
 }
 
 const FAILURES: &[Failure<'_>] = &[

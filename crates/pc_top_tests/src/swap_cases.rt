@@ -52,7 +52,8 @@ fn all_swapped(rt: &impl Abort, alloc: Global, rows: &[Swapped<'_>]) {
     for at in 0..rows.len() {
         let (place, source, schedule, out) = rows[at];
         let words = ["swap", "a.pony", "a.sched", place];
-        assert!(rt; tells(alloc, &words, source, schedule, out), "row {at}");
+        let ended = tells(alloc, &words, source, schedule, out);
+        assert_eq!(rt; ended, Ok(()), "row {at}");
     }
 }
 
@@ -94,10 +95,8 @@ fn all_unswapped(rt: &impl Abort, alloc: Global, rows: &[Unswapped<'_>]) {
     for at in 0..rows.len() {
         let (place, source, schedule, status, err) = rows[at];
         let words = ["swap", "a.pony", "a.sched", place];
-        assert!(rt;
-            refuses(alloc, &words, source, schedule, (status, err)),
-            "row {at}"
-        );
+        let ended = refuses(alloc, &words, source, schedule, (status, err));
+        assert_eq!(rt; ended, Ok(()), "row {at}");
     }
 }
 

@@ -90,7 +90,10 @@ const REFUSED: &[Refused<'_>] = &[
 #[test]
 fn traces_are_refused(rt: HostRuntime) {
     let alloc = rt.alloc();
-    assert!(rt; refuses(alloc, &["trace", "a.pony"], HELLO, b"", (2, USAGE)));
+    assert_eq!(rt;
+        refuses(alloc, &["trace", "a.pony"], HELLO, b"", (2, USAGE)),
+        Ok(())
+    );
     all_refused(&rt, alloc, TRACE, REFUSED);
 }
 

@@ -25,10 +25,10 @@ actor Main
 fn a_class_runs_the_body_of_a_trait(rt: HostRuntime) {
     let alloc = rt.alloc();
     let out = b"hello\nsteps 22 skipped 0 actors 2 objects 4 waiting 0\n";
-    assert!(rt; tells(alloc, RUN, GREETS, b"1*21 0", out));
+    assert_eq!(rt; tells(alloc, RUN, GREETS, b"1*21 0", out), Ok(()));
     // The name is looked up in the class, and is written in the trait.
     let err = b"a.pony:2:25: name unknown\n";
-    assert!(rt; refuses(alloc, RUN, UNKNOWN, b"1*21 0", (4, err)));
+    assert_eq!(rt; refuses(alloc, RUN, UNKNOWN, b"1*21 0", (4, err)), Ok(()));
 }
 
 const BODIES: &[Ending<'_>] = &[

@@ -1,11 +1,8 @@
-//! `check` on sources that have no tree, and on every prefix of some that have one.
+//! `check` on sources that have no tree.
 
-use crate::rows::{CHECK, Ending, all_end, made_ends};
-use crate::running::{Done, run};
+use crate::rows::{Ending, all_end, made_ends};
 use crate::texts::{add_repeated, repeated};
-use pc_test_inputs::programs::{BANK, CHAIN, HELLO};
 use std::alloc::{AllocError, Global};
-use std::process::Abort;
 
 /// Two operators without parentheses.
 const TWO_BODIES: &[u8] = b"\
@@ -83,48 +80,9 @@ fn opened(alloc: Global, count: usize) -> Result<Vec<u8>, AllocError> {
 #[test]
 fn two_hundred_levels_may_be_opened(rt: HostRuntime) {
     let alloc = rt.alloc();
-    assert!(rt; made_ends(alloc, nested(alloc, 199), 0, b""));
+    assert_eq!(rt; made_ends(alloc, nested(alloc, 199), 0, b""), Ok(()));
     let more = b"a.pony:3:204: nested too deep\n";
-    assert!(rt; made_ends(alloc, nested(alloc, 200), 8, more));
+    assert_eq!(rt; made_ends(alloc, nested(alloc, 200), 8, more), Ok(()));
     let many = b"a.pony:1:235: nested too deep\n";
-    assert!(rt; made_ends(alloc, opened(alloc, 100_000), 8, many));
-}
-
-// Whether a line on err, with nothing on out, names a place or a lack in the source.
-fn is_named(out: &[u8], line: &[u8]) -> bool {
-    out.is_empty() && line.starts_with(b"a.pony:") && line.ends_with(b"\n")
-}
-
-// Whether a derivation is on out and nothing on err, or a line on err and nothing on out.
-fn is_told(done: &Done) -> bool {
-    let line = done.err.bytes();
-    match done.status {
-        0 => line.is_empty() && done.out.bytes().starts_with(b"rcap-derivation 1 "),
-        1 | 3 | 4 => is_named(done.out.bytes(), line),
-        _ => false,
-    }
-}
-
-// Whether a source was checked, and the command ended with one of the statuses of its text, and with what belongs to
-// it.
-fn ended_told(checked: Result<Done, AllocError>) -> bool {
-    match checked {
-        Ok(done) => is_told(&done),
-        Err(_) => false,
-    }
-}
-
-// Each prefix of a source, by its length, ends in this way.
-fn all_prefixes_end(rt: &impl Abort, alloc: Global, source: &[u8]) {
-    for length in 0..=source.len() {
-        let checked = run(alloc, CHECK, &source[..length], b"");
-        assert!(rt; ended_told(checked), "length {length}");
-    }
-}
-
-#[test]
-fn every_prefix_ends_in_a_named_status(rt: HostRuntime) {
-    all_prefixes_end(&rt, rt.alloc(), HELLO);
-    all_prefixes_end(&rt, rt.alloc(), CHAIN);
-    all_prefixes_end(&rt, rt.alloc(), BANK);
+    assert_eq!(rt; made_ends(alloc, opened(alloc, 100_000), 8, many), Ok(()));
 }

@@ -1,11 +1,12 @@
 //! `upgrade`: a derivation rewritten in version 2 of its text, and what is refused.
 
+use crate::derivations::{OF_BANK, OF_CHAIN, OF_HELLO, OF_TAKEN};
 use crate::programs::{FIRST, SECOND};
 use crate::rows::{
     CHECK, Failure, JUDGE, NONE, Refused, Spoken, UPGRADE, USAGE, all_fail, all_refused,
     all_words_end, refuses, refuses_made, tells,
 };
-use crate::running::{Done, is_done, run};
+use crate::running::{Differs, Done, is_done, run};
 use crate::texts::spaces;
 use pc_test_inputs::programs::{BANK, CHAIN, HELLO, ONE_OBJECT};
 use std::alloc::{AllocError, Global};
@@ -52,54 +53,68 @@ const UNSENDABLE: &[u8] =
 #[test]
 fn derivations_are_written_in_version_2(rt: HostRuntime) {
     let alloc = rt.alloc();
-    assert!(rt; tells(alloc, UPGRADE, ONE_OBJECT, FIRST, SECOND));
-    assert!(rt; tells(alloc, UPGRADE, ONE_OBJECT, SECOND, SECOND));
-    assert!(rt; tells(alloc, JUDGE, ONE_OBJECT, SECOND, b"accepted\n"));
+    assert_eq!(rt; tells(alloc, UPGRADE, ONE_OBJECT, FIRST, SECOND), Ok(()));
+    assert_eq!(rt; tells(alloc, UPGRADE, ONE_OBJECT, SECOND, SECOND), Ok(()));
+    assert_eq!(rt;
+        tells(alloc, JUDGE, ONE_OBJECT, SECOND, b"accepted\n"),
+        Ok(())
+    );
 }
 
-// Whether a derivation of a source is in version 2, is accepted, and is rewritten as itself.
-fn stays(alloc: Global, source: &[u8], second: &[u8]) -> bool {
-    second.starts_with(b"rcap-derivation 2 ")
-        && tells(alloc, JUDGE, source, second, b"accepted\n")
-        && tells(alloc, UPGRADE, source, second, second)
+/// Sources, and their derivations in version 2.
+const DERIVED: &[(&[u8], &[u8])] = &[
+    (HELLO, OF_HELLO),
+    (CHAIN, OF_CHAIN),
+    (BANK, OF_BANK),
+    (TAKEN, OF_TAKEN),
+];
+
+// Checks that a command was done, and that the derivation that it wrote for a source is rewritten as this text.
+fn is_rewritten(alloc: Global, source: &[u8], done: &Done, second: &[u8]) -> Result<(), Differs> {
+    is_done(done)?;
+    tells(alloc, UPGRADE, source, done.out.bytes(), second)
 }
 
-// Whether a derivation of a source was upgraded, and what was written stays the same.
-fn is_upgraded(alloc: Global, source: &[u8], upgraded: Result<Done, AllocError>) -> bool {
-    match upgraded {
-        Ok(done) => is_done(&done) && stays(alloc, source, done.out.bytes()),
-        Err(_) => false,
+// The same of the derivation that `check` writes.
+fn derived_is_rewritten(alloc: Global, source: &[u8], second: &[u8]) -> Result<(), Differs> {
+    match run(alloc, CHECK, source, b"") {
+        Ok(done) => is_rewritten(alloc, source, &done, second),
+        Err(_) => Err(Differs::NotRun),
     }
-}
-
-// Whether a source was checked, its derivation is upgraded, and what is written then stays the same.
-fn is_derived(alloc: Global, source: &[u8], checked: Result<Done, AllocError>) -> bool {
-    match checked {
-        Ok(done) => {
-            let upgraded = run(alloc, UPGRADE, source, done.out.bytes());
-            is_done(&done) && is_upgraded(alloc, source, upgraded)
-        }
-        Err(_) => false,
-    }
-}
-
-// Whether the derivation of a source is upgraded, and what is written then stays the same.
-fn is_derived_and_upgraded(alloc: Global, source: &[u8]) -> bool {
-    is_derived(alloc, source, run(alloc, CHECK, source, b""))
 }
 
 #[test]
 fn what_is_written_is_accepted_and_stays(rt: HostRuntime) {
-    assert!(rt; is_derived_and_upgraded(rt.alloc(), HELLO));
-    assert!(rt; is_derived_and_upgraded(rt.alloc(), CHAIN));
-    assert!(rt; is_derived_and_upgraded(rt.alloc(), BANK));
-    assert!(rt; is_derived_and_upgraded(rt.alloc(), TAKEN));
+    let alloc = rt.alloc();
+    for at in 0..DERIVED.len() {
+        let (source, second) = DERIVED[at];
+        assert_eq!(rt;
+            derived_is_rewritten(alloc, source, second),
+            Ok(()),
+            "row {at}"
+        );
+        assert_eq!(rt;
+            tells(alloc, JUDGE, source, second, b"accepted\n"),
+            Ok(()),
+            "row {at}"
+        );
+        assert_eq!(rt;
+            tells(alloc, UPGRADE, source, second, second),
+            Ok(()),
+            "row {at}"
+        );
+    }
 }
 
-// Whether `judge` and `upgrade` both refuse this source with this derivation, and write nothing.
-fn both_refuse(alloc: Global, source: &[u8], derivation: &[u8], refusal: (u8, &[u8])) -> bool {
-    refuses(alloc, JUDGE, source, derivation, refusal)
-        && refuses(alloc, UPGRADE, source, derivation, refusal)
+// Checks that `judge` and `upgrade` both refuse this source with this derivation, and write nothing.
+fn both_refuse(
+    alloc: Global,
+    source: &[u8],
+    derivation: &[u8],
+    refusal: (u8, &[u8]),
+) -> Result<(), Differs> {
+    refuses(alloc, JUDGE, source, derivation, refusal)?;
+    refuses(alloc, UPGRADE, source, derivation, refusal)
 }
 
 // `judge` and `upgrade` refuse each of these texts as stated.
@@ -212,43 +227,32 @@ fn words_ask_for_upgrade(rt: HostRuntime) {
     all_words_end(&rt, rt.alloc(), ONE_OBJECT, WORDS);
 }
 
-// Whether a source that was built is refused in this way, with the first derivation.
+// Checks that a source that was built is refused in this way, with the first derivation.
 fn made_source_is_refused(
     alloc: Global,
     source: Result<Vec<u8>, AllocError>,
     refusal: (u8, &[u8]),
-) -> bool {
+) -> Result<(), Differs> {
     match source {
         Ok(source) => both_refuse(alloc, &source, FIRST, refusal),
-        Err(_) => false,
+        Err(_) => Err(Differs::NotRun),
     }
 }
 
 #[test]
-fn upgraded_files_may_have_so_many_bytes(rt: HostRuntime) {
+fn upgraded_files_may_have_1048576_and_33554432_bytes(rt: HostRuntime) {
     let alloc = rt.alloc();
     let source = b"a.pony: longer than 1048576 bytes\n";
-    assert!(rt; made_source_is_refused(alloc, spaces(alloc, 1_048_577), (8, source)));
+    let ended = made_source_is_refused(alloc, spaces(alloc, 1_048_577), (8, source));
+    assert_eq!(rt; ended, Ok(()));
     let line = b"a.der:1: bad line\n";
-    assert!(rt;
-        refuses_made(
-            alloc,
-            UPGRADE,
-            ONE_OBJECT,
-            spaces(alloc, 33_554_432),
-            (5, line)
-        )
-    );
+    let derivation = spaces(alloc, 33_554_432);
+    let ended = refuses_made(alloc, UPGRADE, ONE_OBJECT, derivation, (5, line));
+    assert_eq!(rt; ended, Ok(()));
     let long = b"a.der: longer than 33554432 bytes\n";
-    assert!(rt;
-        refuses_made(
-            alloc,
-            UPGRADE,
-            ONE_OBJECT,
-            spaces(alloc, 33_554_433),
-            (8, long)
-        )
-    );
+    let derivation = spaces(alloc, 33_554_433);
+    let ended = refuses_made(alloc, UPGRADE, ONE_OBJECT, derivation, (8, long));
+    assert_eq!(rt; ended, Ok(()));
 }
 
 const FAILURES: &[Failure<'_>] = &[

@@ -1,5 +1,5 @@
 //! Runs whose accesses, clocks and verdicts are known.
-use crate::traces::{Row, Turns, fault_of, is_accepted_with, refused_declaration, verdict_of};
+use crate::traces::{Row, Turns, accepted_with, fault_of, refused_declaration, verdict_of};
 use pc_check::DeclFault;
 use pc_test_inputs::programs::HELLO;
 use pc_trace::{TraceFault, Verdict};
@@ -12,9 +12,9 @@ const HELLO_ROWS: [Row; 1] = [(8, 1, 0, 1, false, &[0, 8])];
 #[test]
 fn one_read(rt: HostRuntime) {
     let verdict = verdict_of(rt.alloc(), HELLO, &HELLO_TURNS, &HELLO_ROWS);
-    assert_eq!(rt; verdict, Some(Verdict::Ordered));
-    let accepted = is_accepted_with(rt.alloc(), HELLO, &HELLO_TURNS, &HELLO_ROWS);
-    assert!(rt; accepted == Some(Ok(true)));
+    assert_eq!(rt; verdict, Ok(Verdict::Ordered));
+    let accepted = accepted_with(rt.alloc(), HELLO, &HELLO_TURNS, &HELLO_ROWS);
+    assert_eq!(rt; accepted, Ok(()));
 }
 
 const WRITERS: &[u8] = b"class C
@@ -52,10 +52,10 @@ const NOT_SENDABLE: DeclFault = DeclFault::NotSendable {
 #[test]
 fn two_writers_that_nothing_orders(rt: HostRuntime) {
     let verdict = verdict_of(rt.alloc(), WRITERS, &WRITERS_TURNS, &WRITERS_ROWS);
-    assert_eq!(rt; verdict, Some(CONFLICT));
+    assert_eq!(rt; verdict, Ok(CONFLICT));
     assert_eq!(rt;
         refused_declaration(rt.alloc(), WRITERS),
-        Some(NOT_SENDABLE)
+        Ok(Some(NOT_SENDABLE))
     );
 }
 
@@ -75,7 +75,7 @@ actor Main
 #[test]
 fn the_step_that_would_make_the_65th_actor_is_refused(rt: HostRuntime) {
     let fault = fault_of(rt.alloc(), MANY, &[(1, 2000)]);
-    assert_eq!(rt; fault, Some(TraceFault::TooMany(1133)));
+    assert_eq!(rt; fault, Ok(Some(TraceFault::TooMany(1133))));
     let fault = fault_of(rt.alloc(), MANY, &[(1, 1132)]);
-    assert_eq!(rt; fault, None);
+    assert_eq!(rt; fault, Ok(None));
 }

@@ -8,9 +8,9 @@ use pc_caps::List;
 use pc_check::{CheckFault, DeclFault, check};
 use pc_core::Core;
 use pc_safe::accepted_is_safe;
-use pc_test_inputs::core_of;
+use pc_test_inputs::{Wrong, core_of};
 use pc_trace::{AcceptedFault, Touch, Trace, TraceFault, Verdict, accepted_trace, trace};
-use std::alloc::Global;
+use std::alloc::{AllocError, Global};
 
 /// An actor, and how many turns it takes.
 pub type Turns = (u32, u32);
@@ -19,32 +19,63 @@ pub type Turns = (u32, u32);
 /// writes, and its clock.
 pub type Row = (u64, u32, u32, u32, bool, &'static [u64]);
 
-// An actor takes this many more turns.
-fn push_turns(list: &mut Vec<u32>, actor: u32, times: u32) -> Option<()> {
-    for _ in 0..times {
-        list.push(actor).ok()?;
+/// Why a run has no trace, or another one than it should.
+#[derive(Clone, Copy, Debug, PartialEq, Eq)]
+pub enum Untraced {
+    /// There is no run.
+    NoRun(Wrong),
+    /// The run is not traced to its end.
+    Cut(TraceFault),
+    /// The run of an accepted program is not traced to its end.
+    AcceptedCut(AcceptedFault),
+    /// The access at this place is another one.
+    Access(usize),
+}
+
+impl From<AllocError> for Untraced {
+    fn from(_: AllocError) -> Untraced {
+        Untraced::NoRun(Wrong::OutOfMemory)
     }
-    Some(())
+}
+
+impl From<Wrong> for Untraced {
+    fn from(wrong: Wrong) -> Untraced {
+        Untraced::NoRun(wrong)
+    }
+}
+
+// An actor takes this many more turns.
+fn push_turns(list: &mut Vec<u32>, actor: u32, times: u32) -> Result<(), AllocError> {
+    for _ in 0..times {
+        list.push(actor)?;
+    }
+    Ok(())
 }
 
 // The list of actors for these turns.
-fn list_of(alloc: Global, turns: &[Turns]) -> Option<Vec<u32>> {
+fn list_of(alloc: Global, turns: &[Turns]) -> Result<Vec<u32>, AllocError> {
     let mut list = Vec::new(alloc);
     for (actor, times) in turns {
         push_turns(&mut list, *actor, *times)?;
     }
-    Some(list)
+    Ok(list)
 }
 
-// The trace of a program, whether it is accepted or not. If it has no core, the answer is that memory ran out.
-fn trace_of(alloc: Global, program: &[u8], actors: &[u32]) -> Result<Trace, TraceFault> {
+// The trace of a core, whether it is accepted or not.
+fn trace_in(alloc: Global, core: &Core, actors: &[u32]) -> Result<Trace, Untraced> {
     if actors.len() > 4_000_000 {
-        return Err(TraceFault::Memory);
+        return Err(Untraced::NoRun(Wrong::PastLimit));
     }
-    match core_of(alloc, program) {
-        Some(core) => trace(alloc, &core, actors),
-        None => Err(TraceFault::Memory),
+    match trace(alloc, core, actors) {
+        Ok(trace) => Ok(trace),
+        Err(fault) => Err(Untraced::Cut(fault)),
     }
+}
+
+// The same of a program.
+fn trace_of(alloc: Global, program: &[u8], actors: &[u32]) -> Result<Trace, Untraced> {
+    let core = core_of(alloc, program)?;
+    trace_in(alloc, &core, actors)
 }
 
 // The accesses of a program by its derivation.
@@ -79,32 +110,33 @@ fn declaration_in(alloc: Global, core: &Core) -> Option<DeclFault> {
 }
 
 /// The declaration for which a program is refused, if it is refused for one.
-pub fn refused_declaration(alloc: Global, program: &[u8]) -> Option<DeclFault> {
+pub fn refused_declaration(alloc: Global, program: &[u8]) -> Result<Option<DeclFault>, Wrong> {
     let core = core_of(alloc, program)?;
-    declaration_in(alloc, &core)
+    Ok(declaration_in(alloc, &core))
 }
 
-// The accesses of a core, if it is accepted. If not, the answer is that memory ran out.
-fn touches_of(alloc: Global, core: &Core, actors: &[u32]) -> Result<List<Touch>, AcceptedFault> {
+fn accepted_cut(touches: Result<List<Touch>, AcceptedFault>) -> Result<List<Touch>, Untraced> {
+    match touches {
+        Ok(touches) => Ok(touches),
+        Err(fault) => Err(Untraced::AcceptedCut(fault)),
+    }
+}
+
+// The accesses of a core, if it is accepted.
+fn touches_of(alloc: Global, core: &Core, actors: &[u32]) -> Result<List<Touch>, Untraced> {
     if actors.len() > 4_000_000 {
-        return Err(AcceptedFault::Memory);
+        return Err(Untraced::NoRun(Wrong::PastLimit));
     }
     match check(alloc, core) {
-        Ok(ann) => touches_by(alloc, core, &ann, actors),
-        Err(_) => Err(AcceptedFault::Memory),
+        Ok(ann) => accepted_cut(touches_by(alloc, core, &ann, actors)),
+        Err(_) => Err(Untraced::NoRun(Wrong::NotAccepted)),
     }
 }
 
-// The accesses of an accepted program. If it is not accepted, the answer is that memory ran out.
-fn accepted_of(
-    alloc: Global,
-    program: &[u8],
-    actors: &[u32],
-) -> Result<List<Touch>, AcceptedFault> {
-    match core_of(alloc, program) {
-        Some(core) => touches_of(alloc, &core, actors),
-        None => Err(AcceptedFault::Memory),
-    }
+// The accesses of an accepted program.
+fn accepted_of(alloc: Global, program: &[u8], actors: &[u32]) -> Result<List<Touch>, Untraced> {
+    let core = core_of(alloc, program)?;
+    touches_of(alloc, &core, actors)
 }
 
 fn is_told(touch: &Touch, row: &Row) -> bool {
@@ -119,59 +151,74 @@ fn is_told(touch: &Touch, row: &Row) -> bool {
         && touch.clock.as_slice() == clock
 }
 
-// Whether these are the accesses, and there are no others.
-fn are_told(touches: &[Touch], rows: &[Row]) -> bool {
+// Checks that these are the accesses, and there are no others.
+fn are_told(touches: &[Touch], rows: &[Row]) -> Result<(), Untraced> {
     for at in 0..rows.len() {
         match touches.get(at) {
             Some(touch) if is_told(touch, &rows[at]) => {}
-            _ => return false,
+            _ => return Err(Untraced::Access(at)),
         }
     }
-    touches.len() == rows.len()
-}
-
-fn verdict_on(alloc: Global, program: &[u8], actors: &[u32], rows: &[Row]) -> Option<Verdict> {
-    match trace_of(alloc, program, actors) {
-        Ok(trace) if are_told(trace.touches.as_slice(), rows) => Some(trace.verdict),
-        _ => None,
+    if touches.len() == rows.len() {
+        Ok(())
+    } else {
+        Err(Untraced::Access(rows.len()))
     }
 }
 
-/// The verdict on a program's run, if its trace has exactly these accesses.
-pub fn verdict_of(alloc: Global, program: &[u8], turns: &[Turns], rows: &[Row]) -> Option<Verdict> {
-    let list = list_of(alloc, turns)?;
-    verdict_on(alloc, program, &list, rows)
-}
-
-/// Why a program's run is not traced, if it is not. If memory runs out for the list itself, that is the answer.
-pub fn fault_of(alloc: Global, program: &[u8], turns: &[Turns]) -> Option<TraceFault> {
-    match list_of(alloc, turns) {
-        Some(list) => trace_of(alloc, program, &list).err(),
-        None => Some(TraceFault::Memory),
-    }
-}
-
-// Whether a run of a program is that of an accepted one, with exactly these accesses, or why it is not traced.
-fn accepted_with(
+fn verdict_on(
     alloc: Global,
     program: &[u8],
     actors: &[u32],
     rows: &[Row],
-) -> Result<bool, AcceptedFault> {
-    match accepted_of(alloc, program, actors) {
-        Ok(touches) => Ok(are_told(touches.as_slice(), rows)),
-        Err(fault) => Err(fault),
-    }
+) -> Result<Verdict, Untraced> {
+    let trace = trace_of(alloc, program, actors)?;
+    are_told(trace.touches.as_slice(), rows).and(Ok(trace.verdict))
 }
 
-/// Whether a program's run, as that of an accepted one, has exactly these accesses, or why it is not traced. There is
-/// no answer if memory runs out for the list.
-pub fn is_accepted_with(
+/// The verdict on a program's run, if its trace has exactly these accesses.
+pub fn verdict_of(
     alloc: Global,
     program: &[u8],
     turns: &[Turns],
     rows: &[Row],
-) -> Option<Result<bool, AcceptedFault>> {
+) -> Result<Verdict, Untraced> {
     let list = list_of(alloc, turns)?;
-    Some(accepted_with(alloc, program, &list, rows))
+    verdict_on(alloc, program, &list, rows)
+}
+
+/// The fault of a program's run that is not traced to its end, if it has one.
+pub fn fault_of(
+    alloc: Global,
+    program: &[u8],
+    turns: &[Turns],
+) -> Result<Option<TraceFault>, Untraced> {
+    let list = list_of(alloc, turns)?;
+    match trace_of(alloc, program, &list).err() {
+        None => Ok(None),
+        Some(Untraced::Cut(fault)) => Ok(Some(fault)),
+        Some(untraced) => Err(untraced),
+    }
+}
+
+// Checks that a program's run, as that of an accepted one, has exactly these accesses.
+fn accepted_on(
+    alloc: Global,
+    program: &[u8],
+    actors: &[u32],
+    rows: &[Row],
+) -> Result<(), Untraced> {
+    let touches = accepted_of(alloc, program, actors)?;
+    are_told(touches.as_slice(), rows)
+}
+
+/// The same over these turns.
+pub fn accepted_with(
+    alloc: Global,
+    program: &[u8],
+    turns: &[Turns],
+    rows: &[Row],
+) -> Result<(), Untraced> {
+    let list = list_of(alloc, turns)?;
+    accepted_on(alloc, program, &list, rows)
 }

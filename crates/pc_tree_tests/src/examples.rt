@@ -1,11 +1,13 @@
 //! The sources in `examples/`: the lines that are printed for each, and for these lines again.
 use crate::printed::prints;
+use pc_test_inputs::Wrong;
 use pc_test_inputs::programs::BANK;
 use std::alloc::Global;
 
-// Whether these lines are printed for a source, and for themselves.
-fn is_printed_so(alloc: Global, source: &[u8], lines: &[u8]) -> bool {
-    prints(alloc, source, lines) && prints(alloc, lines, lines)
+// Checks that these lines are printed for a source, and for themselves.
+fn prints_twice(alloc: Global, source: &[u8], lines: &[u8]) -> Result<(), Wrong> {
+    prints(alloc, source, lines)?;
+    prints(alloc, lines, lines)
 }
 
 const BANK_LINES: &[u8] = b"trait Report
@@ -183,13 +185,16 @@ actor Main
 
 #[test]
 fn accepted_examples_have_their_lines(rt: HostRuntime) {
-    assert!(rt; is_printed_so(rt.alloc(), BANK, BANK_LINES));
-    assert!(rt; is_printed_so(rt.alloc(), COUNTER, COUNTER_LINES));
-    assert!(rt; is_printed_so(rt.alloc(), FIRST, FIRST_LINES));
+    assert_eq!(rt; prints_twice(rt.alloc(), BANK, BANK_LINES), Ok(()));
+    assert_eq!(rt; prints_twice(rt.alloc(), COUNTER, COUNTER_LINES), Ok(()));
+    assert_eq!(rt; prints_twice(rt.alloc(), FIRST, FIRST_LINES), Ok(()));
 }
 
 #[test]
 fn refused_examples_have_their_lines(rt: HostRuntime) {
-    assert!(rt; is_printed_so(rt.alloc(), NOT_SENDABLE, NOT_SENDABLE_LINES));
-    assert!(rt; is_printed_so(rt.alloc(), REFUSED, REFUSED_LINES));
+    assert_eq!(rt;
+        prints_twice(rt.alloc(), NOT_SENDABLE, NOT_SENDABLE_LINES),
+        Ok(())
+    );
+    assert_eq!(rt; prints_twice(rt.alloc(), REFUSED, REFUSED_LINES), Ok(()));
 }

@@ -3,22 +3,20 @@ use crate::ends::file_with_end;
 use crate::showing::shown;
 use pc_parse::ParseFault;
 use pc_test_inputs::programs::BANK;
-use pc_test_inputs::tree_of;
+use pc_test_inputs::{Wrong, compared, tree_of};
 use pc_tree::File;
 use std::alloc::Global;
 
-fn shows(alloc: Global, file: &File, shape: &[u8]) -> bool {
+fn shows(alloc: Global, file: &File, shape: &[u8]) -> Result<(), Wrong> {
     match shown(alloc, file) {
-        Some(found) => found.as_slice() == shape,
-        None => false,
+        Some(found) => compared(found.as_slice(), shape),
+        None => Err(Wrong::OutOfMemory),
     }
 }
 
-fn has_shape(alloc: Global, text: &[u8], shape: &[u8]) -> bool {
-    match tree_of(alloc, text) {
-        Ok(file) => shows(alloc, &file, shape),
-        Err(_) => false,
-    }
+fn has_shape(alloc: Global, text: &[u8], shape: &[u8]) -> Result<(), Wrong> {
+    let file = tree_of(alloc, text)?;
+    shows(alloc, &file, shape)
 }
 
 // Texts of files, and their entities, fields and methods; `=` and `=>` stand for a value and a body.
@@ -72,11 +70,11 @@ const SHAPES: [(&[u8], &[u8]); 14] = [
     ),
 ];
 
-// The place of the first of these texts that has another shape.
-fn wrong_shape(alloc: Global, shapes: &[(&[u8], &[u8])]) -> Option<usize> {
+// The place of the first of these texts that has another shape, and what is wrong with it.
+fn wrong_shape(alloc: Global, shapes: &[(&[u8], &[u8])]) -> Option<(usize, Wrong)> {
     for at in 0..shapes.len() {
-        if !has_shape(alloc, shapes[at].0, shapes[at].1) {
-            return Some(at);
+        if let Err(wrong) = has_shape(alloc, shapes[at].0, shapes[at].1) {
+            return Some((at, wrong));
         }
     }
     None
@@ -92,15 +90,20 @@ const BANK_SHAPE: &[u8] =
 
 #[test]
 fn the_bank(rt: HostRuntime) {
-    assert!(rt; has_shape(rt.alloc(), BANK, BANK_SHAPE));
+    assert_eq!(rt; has_shape(rt.alloc(), BANK, BANK_SHAPE), Ok(()));
 }
 
-// Whether the token at a byte is the first that cannot continue a file.
-fn stops_at(alloc: Global, text: &[u8], place: u32) -> bool {
+// What is wrong with a text, if it has no tree.
+fn wrong_with(alloc: Global, text: &[u8]) -> Option<Wrong> {
     match tree_of(alloc, text) {
-        Ok(_) => false,
-        Err(fault) => fault == ParseFault::Unexpected(place),
+        Ok(_) => None,
+        Err(wrong) => Some(wrong),
     }
+}
+
+// What is wrong with a text of which the token at this byte is the first that cannot continue a file.
+fn unexpected_at(place: u32) -> Option<Wrong> {
+    Some(Wrong::NoTree(ParseFault::Unexpected(place)))
 }
 
 // Texts that are not files, and the first byte of the first token that cannot continue one.
@@ -197,11 +200,12 @@ const UNEXPECTED: [(&[u8], u32); 45] = [
     (b"class C class D d", 16),
 ];
 
-// The place of the first of these texts that stops elsewhere, or not at all.
-fn wrong_stop(alloc: Global, texts: &[(&[u8], u32)]) -> Option<usize> {
+// The place of the first of these texts that stops elsewhere, or not at all, and what is wrong with it.
+fn wrong_stop(alloc: Global, texts: &[(&[u8], u32)]) -> Option<(usize, Option<Wrong>)> {
     for at in 0..texts.len() {
-        if !stops_at(alloc, texts[at].0, texts[at].1) {
-            return Some(at);
+        let found = wrong_with(alloc, texts[at].0);
+        if found != unexpected_at(texts[at].1) {
+            return Some((at, found));
         }
     }
     None
@@ -212,19 +216,17 @@ fn unexpected(rt: HostRuntime) {
     assert_eq!(rt; wrong_stop(rt.alloc(), &UNEXPECTED), None);
 }
 
-// The fault of a text with two ends, the second of which begins at a byte.
-fn fault_with_end(alloc: Global, text: &[u8], start: u32) -> Option<ParseFault> {
+// What is wrong with a text with two ends, the second of which begins at a byte.
+fn wrong_with_end(alloc: Global, text: &[u8], start: u32) -> Option<Wrong> {
     match file_with_end(alloc, text, start) {
         Ok(_) => None,
-        Err(fault) => Some(fault),
+        Err(wrong) => Some(wrong),
     }
 }
 
 // A text that is a file, and a token after its end.
 #[test]
 fn behind_the_end(rt: HostRuntime) {
-    let found = fault_with_end(rt.alloc(), b"class C", 9);
-    assert_eq!(rt; found, Some(ParseFault::Unexpected(9)));
-    let found = fault_with_end(rt.alloc(), b"class", 9);
-    assert_eq!(rt; found, Some(ParseFault::Unexpected(5)));
+    assert_eq!(rt; wrong_with_end(rt.alloc(), b"class C", 9), unexpected_at(9));
+    assert_eq!(rt; wrong_with_end(rt.alloc(), b"class", 9), unexpected_at(5));
 }

@@ -1,6 +1,6 @@
 //! Which names of a file go into the key of its tables.
 use pc_keyed::keyed_by_names;
-use pc_test_inputs::tree_of;
+use pc_test_inputs::{Wrong, tree_of};
 use std::alloc::{AllocError, Global};
 use std::hash::{BuildHasher, Hasher};
 
@@ -41,33 +41,26 @@ fn with_letter(alloc: Global, text: &[u8], letter: u8) -> Result<Vec<u8>, AllocE
     Ok(made)
 }
 
-// What a hash with the key of the text's tree gives for nothing. `None` if the text has no tree.
-fn hash_of(alloc: Global, text: &[u8], letter: u8) -> Option<u64> {
-    let Ok(text) = with_letter(alloc, text, letter) else {
-        return None;
-    };
-    match tree_of(alloc, text.as_slice()) {
-        Ok(tree) => Some(keyed_by_names(&tree).build_hasher().finish()),
-        Err(_) => None,
-    }
+// What a hash with the key of the text's tree gives for nothing.
+fn hash_of(alloc: Global, text: &[u8], letter: u8) -> Result<u64, Wrong> {
+    let text = with_letter(alloc, text, letter)?;
+    let tree = tree_of(alloc, text.as_slice())?;
+    Ok(keyed_by_names(&tree).build_hasher().finish())
 }
 
 // Whether the key changes with the name.
-fn is_in_key(alloc: Global, text: &[u8]) -> bool {
-    let Some(one) = hash_of(alloc, text, b'a') else {
-        return false;
-    };
-    let Some(other) = hash_of(alloc, text, b'b') else {
-        return false;
-    };
-    one != other
+fn is_in_key(alloc: Global, text: &[u8]) -> Result<bool, Wrong> {
+    let one = hash_of(alloc, text, b'a')?;
+    let other = hash_of(alloc, text, b'b')?;
+    Ok(one != other)
 }
 
-// The place of the first text whose name is not in the key.
-fn without(alloc: Global, texts: &[&[u8]]) -> Option<usize> {
+// The place of the first text whose name is not in the key, and whether it is or what is wrong.
+fn without(alloc: Global, texts: &[&[u8]]) -> Option<(usize, Result<bool, Wrong>)> {
     for at in 0..texts.len() {
-        if !is_in_key(alloc, texts[at]) {
-            return Some(at);
+        let is_in = is_in_key(alloc, texts[at]);
+        if is_in != Ok(true) {
+            return Some((at, is_in));
         }
     }
     None

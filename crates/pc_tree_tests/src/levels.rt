@@ -1,7 +1,7 @@
 //! How deep trees are, and how deep a text may go.
 use pc_measure::{depth, size};
 use pc_parse::ParseFault;
-use pc_test_inputs::tree_of;
+use pc_test_inputs::{Wrong, tree_of};
 use std::alloc::{AllocError, Global};
 
 // Appends the same byte this many times.
@@ -22,11 +22,14 @@ fn nested(alloc: Global, begin: &[u8], count: usize) -> Result<Vec<u8>, AllocErr
 }
 
 /// The highest level of such a text.
-fn level_of(alloc: Global, begin: &[u8], count: usize) -> Result<u32, ParseFault> {
-    match nested(alloc, begin, count) {
-        Ok(text) => Ok(depth(&tree_of(alloc, text.as_slice())?)),
-        Err(AllocError) => Err(ParseFault::Memory),
-    }
+fn level_of(alloc: Global, begin: &[u8], count: usize) -> Result<u32, Wrong> {
+    let text = nested(alloc, begin, count)?;
+    Ok(depth(&tree_of(alloc, text.as_slice())?))
+}
+
+/// What is wrong with a text that opens one level too many, at this byte.
+fn too_deep_at(place: u32) -> Result<u32, Wrong> {
+    Err(Wrong::NoTree(ParseFault::TooDeep(place)))
 }
 
 // A body and a value are at level 1, so that 199 more can be opened.
@@ -35,14 +38,14 @@ fn levels(rt: HostRuntime) {
     let alloc = rt.alloc();
     let body = b"class C fun f() => ";
     assert_eq!(rt; level_of(alloc, body, 199), Ok(200));
-    assert_eq!(rt; level_of(alloc, body, 200), Err(ParseFault::TooDeep(218)));
+    assert_eq!(rt; level_of(alloc, body, 200), too_deep_at(218));
     let value = b"class C let x: U64 = ";
     assert_eq!(rt; level_of(alloc, value, 199), Ok(200));
-    assert_eq!(rt; level_of(alloc, value, 200), Err(ParseFault::TooDeep(220)));
+    assert_eq!(rt; level_of(alloc, value, 200), too_deep_at(220));
 }
 
 // The highest level of a text's tree, and the size of the tree.
-fn measured(alloc: Global, text: &[u8]) -> Result<(u32, u64), ParseFault> {
+fn measured(alloc: Global, text: &[u8]) -> Result<(u32, u64), Wrong> {
     let tree = tree_of(alloc, text)?;
     Ok((depth(&tree), size(&tree)))
 }

@@ -4,6 +4,7 @@ ghost use Rattle.std.specs.Prelude.{◌≤◌};
 use pc_caps::List;
 use pc_gen::make;
 use pc_print::print;
+use pc_test_inputs::{Wrong, compared};
 use std::alloc::{AllocError, Global};
 
 fn text_of(alloc: Global, seed: u64, size: u32) -> Result<List<u8>, AllocError>
@@ -19,22 +20,22 @@ const CELL: &[u8] =
 
 const MAIN: &[u8] = b"actor Main\n  new create(env: Env) =>\n    Work0(env.out, Cell)\n";
 
-// Whether the generated program has these actors between its class and `Main`.
-fn has_workers(alloc: Global, seed: u64, size: u32, workers: &[u8]) -> bool
+// The text of a program with these actors between its class and `Main`.
+fn with_workers(alloc: Global, workers: &[u8]) -> Result<Vec<u8>, AllocError> {
+    let mut text = Vec::from_slice(alloc, CELL)?;
+    text.extend_from_slice(workers)?;
+    text.extend_from_slice(MAIN)?;
+    Ok(text)
+}
+
+// Checks that the generated program has these actors between its class and `Main`.
+fn has_workers(alloc: Global, seed: u64, size: u32, workers: &[u8]) -> Result<(), Wrong>
     requires some { 1 ≤ size }
     requires few { size ≤ 900 }
 {
-    let Ok(text) = text_of(alloc, seed, size) else {
-        return false;
-    };
-    let text = text.as_slice();
-    let Some(rest) = text.strip_prefix(CELL) else {
-        return false;
-    };
-    let Some(middle) = rest.strip_suffix(MAIN) else {
-        return false;
-    };
-    middle == workers
+    let wanted = with_workers(alloc, workers)?;
+    let text = text_of(alloc, seed, size)?;
+    compared(text.as_slice(), wanted.as_slice())
 }
 
 // The draws of seed 0 are 0 and 468, then 0 and 117.
@@ -54,26 +55,26 @@ const FROZEN: &[u8] =
 
 #[test]
 fn one_worker(rt: HostRuntime) {
-    assert!(rt; has_workers(rt.alloc(), 0, 1, ONE));
+    assert_eq!(rt; has_workers(rt.alloc(), 0, 1, ONE), Ok(()));
 }
 
 #[test]
 fn two_workers(rt: HostRuntime) {
-    assert!(rt; has_workers(rt.alloc(), 0, 2, TWO));
+    assert_eq!(rt; has_workers(rt.alloc(), 0, 2, TWO), Ok(()));
 }
 
 #[test]
 fn other_tasks(rt: HostRuntime) {
-    assert!(rt; has_workers(rt.alloc(), 1, 2, OTHERS));
+    assert_eq!(rt; has_workers(rt.alloc(), 1, 2, OTHERS), Ok(()));
 }
 
 #[test]
 fn a_worker_that_freezes(rt: HostRuntime) {
-    assert!(rt; has_workers(rt.alloc(), 3, 1, FROZEN));
+    assert_eq!(rt; has_workers(rt.alloc(), 3, 1, FROZEN), Ok(()));
 }
 
 // A seed counts modulo 2^31.
 #[test]
 fn a_seed_that_wraps(rt: HostRuntime) {
-    assert!(rt; has_workers(rt.alloc(), 2_147_483_651, 1, FROZEN));
+    assert_eq!(rt; has_workers(rt.alloc(), 2_147_483_651, 1, FROZEN), Ok(()));
 }

@@ -2,14 +2,13 @@
 use crate::reading::{Part, read};
 use crate::rows::Row;
 use pc_expr::{ParseFault, seq};
-use pc_test_inputs::tokens_of;
+use pc_test_inputs::{Wrong, tokens_of};
 use std::alloc::{AllocError, Global};
 
-fn has_rows(alloc: Global, text: &[u8], rows: &[Row]) -> bool {
-    match read(alloc, Part::Seq, text, 1) {
-        Ok(found) => found.rows.as_slice() == rows,
-        Err(_) => false,
-    }
+// Whether these are the rows of the tree of a text.
+fn has_rows(alloc: Global, text: &[u8], rows: &[Row]) -> Result<bool, Wrong> {
+    let found = read(alloc, Part::Seq, text, 1)?;
+    Ok(found.rows.as_slice() == rows)
 }
 
 // Whole sequences, each part with its first byte and the byte after its last.
@@ -131,11 +130,12 @@ const TREES: [(&[u8], &[Row]); 9] = [
     ),
 ];
 
-// The place of the first of these texts whose tree has other rows.
-fn wrong_tree(alloc: Global, trees: &[(&[u8], &[Row])]) -> Option<usize> {
+// The place of the first of these texts whose tree has other rows, or that has none.
+fn wrong_tree(alloc: Global, trees: &[(&[u8], &[Row])]) -> Option<(usize, Result<bool, Wrong>)> {
     for at in 0..trees.len() {
-        if !has_rows(alloc, trees[at].0, trees[at].1) {
-            return Some(at);
+        let has_its_rows = has_rows(alloc, trees[at].0, trees[at].1);
+        if has_its_rows != Ok(true) {
+            return Some((at, has_its_rows));
         }
     }
     None
@@ -150,14 +150,14 @@ fn trees(rt: HostRuntime) {
 type Stop = (Part, &'static [u8], u16, Result<usize, ParseFault>);
 
 // How many tokens are read for a part of a text.
-fn tokens_read(alloc: Global, part: Part, text: &[u8], level: u16) -> Result<usize, ParseFault> {
+fn tokens_read(alloc: Global, part: Part, text: &[u8], level: u16) -> Result<usize, Wrong> {
     let found = read(alloc, part, text, level)?;
     Ok(found.to)
 }
 
-fn stops_as(alloc: Global, stop: Stop) -> bool {
-    let (part, text, level, wanted) = stop;
-    tokens_read(alloc, part, text, level) == wanted
+// What should be read, or why none are.
+fn wanted_of(stop: Stop) -> Result<usize, Wrong> {
+    Ok(stop.3?)
 }
 
 // How many tokens are read, or the byte of the token at which none are.
@@ -230,11 +230,13 @@ const STOPS: [Stop; 36] = [
     (Part::Seq, b"a = b", 200, Err(ParseFault::TooDeep(2))),
 ];
 
-// The place of the first of these texts whose reading stops elsewhere.
-fn wrong_stop(alloc: Global, stops: &[Stop]) -> Option<usize> {
+// The place of the first of these texts whose reading stops elsewhere, and where it does.
+fn wrong_stop(alloc: Global, stops: &[Stop]) -> Option<(usize, Result<usize, Wrong>)> {
     for at in 0..stops.len() {
-        if !stops_as(alloc, stops[at]) {
-            return Some(at);
+        let (part, text, level, _) = stops[at];
+        let read = tokens_read(alloc, part, text, level);
+        if read != wanted_of(stops[at]) {
+            return Some((at, read));
         }
     }
     None
@@ -262,13 +264,11 @@ fn repeated(
 }
 
 /// How many tokens of a text are read as a sequence; its tree is dropped.
-fn length_read(alloc: Global, text: &[u8], level: u16) -> Result<usize, ParseFault> {
-    let Ok(tokens) = tokens_of(alloc, text) else {
-        return Err(ParseFault::Memory);
-    };
+fn length_read(alloc: Global, text: &[u8], level: u16) -> Result<usize, Wrong> {
+    let tokens = tokens_of(alloc, text)?;
     let tokens = tokens.as_slice();
     if level > 200 || tokens.is_empty() {
-        return Err(ParseFault::Memory);
+        return Err(Wrong::PastLimit);
     }
     let (_, to) = seq(alloc, tokens, 0, level)?;
     Ok(to)
@@ -283,30 +283,22 @@ fn nested(alloc: Global, opened: usize, closed: usize) -> Result<Vec<u8>, AllocE
     Ok(text)
 }
 
-fn nested_read(
-    alloc: Global,
-    opened: usize,
-    closed: usize,
-    level: u16,
-) -> Result<usize, ParseFault> {
-    match nested(alloc, opened, closed) {
-        Ok(text) => length_read(alloc, text.as_slice(), level),
-        Err(AllocError) => Err(ParseFault::Memory),
-    }
+fn nested_read(alloc: Global, opened: usize, closed: usize, level: u16) -> Result<usize, Wrong> {
+    let text = nested(alloc, opened, closed)?;
+    length_read(alloc, text.as_slice(), level)
+}
+
+/// What is wrong with a text that opens one level too many, at this byte.
+fn too_deep_at(place: u32) -> Result<usize, Wrong> {
+    Err(Wrong::NoTree(ParseFault::TooDeep(place)))
 }
 
 #[test]
 fn levels(rt: HostRuntime) {
     let alloc = rt.alloc();
     assert_eq!(rt; nested_read(alloc, 200, 200, 0), Ok(401));
-    assert_eq!(rt;
-        nested_read(alloc, 200, 200, 1),
-        Err(ParseFault::TooDeep(199))
-    );
-    assert_eq!(rt;
-        nested_read(alloc, 201, 0, 0),
-        Err(ParseFault::TooDeep(200))
-    );
+    assert_eq!(rt; nested_read(alloc, 200, 200, 1), too_deep_at(199));
+    assert_eq!(rt; nested_read(alloc, 201, 0, 0), too_deep_at(200));
 }
 
 /// How many tokens of such a text are read.
@@ -316,11 +308,9 @@ fn chain_read(
     part: &[u8],
     count: usize,
     end: &[u8],
-) -> Result<usize, ParseFault> {
-    match repeated(alloc, begin, part, count, end) {
-        Ok(text) => length_read(alloc, text.as_slice(), 1),
-        Err(AllocError) => Err(ParseFault::Memory),
-    }
+) -> Result<usize, Wrong> {
+    let text = repeated(alloc, begin, part, count, end)?;
+    length_read(alloc, text.as_slice(), 1)
 }
 
 #[test]

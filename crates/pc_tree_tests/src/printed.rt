@@ -1,23 +1,19 @@
 //! Texts that are read, and what is printed for their trees.
 use pc_caps::List;
 use pc_print::print;
-use pc_test_inputs::tree_of;
+use pc_test_inputs::{Wrong, compared, tree_of};
 use std::alloc::Global;
 
-/// What is printed for the tree of a source, if it has one.
-pub fn printed(alloc: Global, source: &[u8]) -> Option<List<u8>> {
-    match tree_of(alloc, source) {
-        Ok(file) => print(alloc, &file).ok(),
-        Err(_) => None,
-    }
+// What is printed for the tree of a source.
+fn printed(alloc: Global, source: &[u8]) -> Result<List<u8>, Wrong> {
+    let tree = tree_of(alloc, source)?;
+    Ok(print(alloc, &tree)?)
 }
 
-/// Whether these lines are printed for the tree of a source.
-pub fn prints(alloc: Global, source: &[u8], lines: &[u8]) -> bool {
-    match printed(alloc, source) {
-        Some(text) => text.as_slice() == lines,
-        None => false,
-    }
+/// Checks that these lines are printed for the tree of a source.
+pub fn prints(alloc: Global, source: &[u8], lines: &[u8]) -> Result<(), Wrong> {
+    let text = printed(alloc, source)?;
+    compared(text.as_slice(), lines)
 }
 
 const ONE_LINE: &[u8] = b"actor Main new create(env: Env) => env.out.print(\"a\\tb\") // x\n";
@@ -26,7 +22,7 @@ const THREE_LINES: &[u8] = b"actor Main\n  new create(env: Env) =>\n    env.out.
 
 #[test]
 fn a_line(rt: HostRuntime) {
-    assert!(rt; prints(rt.alloc(), ONE_LINE, THREE_LINES));
+    assert_eq!(rt; prints(rt.alloc(), ONE_LINE, THREE_LINES), Ok(()));
 }
 
 const SOURCE: &[u8] =
@@ -37,7 +33,7 @@ const LINES: &[u8] =
 
 #[test]
 fn each_kind_of_line(rt: HostRuntime) {
-    assert!(rt; prints(rt.alloc(), SOURCE, LINES));
+    assert_eq!(rt; prints(rt.alloc(), SOURCE, LINES), Ok(()));
 }
 
 const SOME_BODIES: &[u8] =
@@ -48,11 +44,11 @@ const SOME_LINES: &[u8] =
 
 #[test]
 fn some_methods_of_a_trait_have_bodies(rt: HostRuntime) {
-    assert!(rt; prints(rt.alloc(), SOME_BODIES, SOME_LINES));
-    assert!(rt; prints(rt.alloc(), SOME_LINES, SOME_LINES));
+    assert_eq!(rt; prints(rt.alloc(), SOME_BODIES, SOME_LINES), Ok(()));
+    assert_eq!(rt; prints(rt.alloc(), SOME_LINES, SOME_LINES), Ok(()));
 }
 
 #[test]
 fn what_was_printed_is_printed_again(rt: HostRuntime) {
-    assert!(rt; prints(rt.alloc(), LINES, LINES));
+    assert_eq!(rt; prints(rt.alloc(), LINES, LINES), Ok(()));
 }

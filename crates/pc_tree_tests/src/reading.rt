@@ -3,9 +3,9 @@ ghost use Rattle.std.specs.Prelude.{◌<◌, ◌≤◌, length};
 ghost use Rattle.pc_expr.specs.Gives.{EndsWithEnd};
 
 use crate::rows::{Row, Rows, of_expr, of_seq};
-use pc_expr::{ParseFault, expr, infix, seq};
+use pc_expr::{expr, infix, seq};
 use pc_lex::Token;
-use pc_test_inputs::tokens_of;
+use pc_test_inputs::{Wrong, tokens_of};
 use pc_tree::{Expr, Seq};
 use std::alloc::Global;
 
@@ -25,9 +25,9 @@ pub enum Part {
 }
 
 // What was found up to a place, or that memory ran out.
-fn found_of(rows: Rows, to: usize) -> Result<Found, ParseFault> {
+fn found_of(rows: Rows, to: usize) -> Result<Found, Wrong> {
     if rows.is_short {
-        return Err(ParseFault::Memory);
+        return Err(Wrong::OutOfMemory);
     }
     Ok(Found {
         to,
@@ -35,19 +35,19 @@ fn found_of(rows: Rows, to: usize) -> Result<Found, ParseFault> {
     })
 }
 
-fn seq_rows(alloc: Global, tree: &Seq, to: usize) -> Result<Found, ParseFault> {
+fn seq_rows(alloc: Global, tree: &Seq, to: usize) -> Result<Found, Wrong> {
     let mut rows = Rows::new(alloc);
     of_seq(&mut rows, tree);
     found_of(rows, to)
 }
 
-fn expr_rows(alloc: Global, tree: &Expr, to: usize) -> Result<Found, ParseFault> {
+fn expr_rows(alloc: Global, tree: &Expr, to: usize) -> Result<Found, Wrong> {
     let mut rows = Rows::new(alloc);
     of_expr(&mut rows, tree);
     found_of(rows, to)
 }
 
-fn read_seq(alloc: Global, tokens: &[Token], level: u16) -> Result<Found, ParseFault>
+fn read_seq(alloc: Global, tokens: &[Token], level: u16) -> Result<Found, Wrong>
     requires ends { EndsWithEnd tokens.now }
     requires within { 0 < length tokens.now }
     requires level { level ≤ 200 }
@@ -56,7 +56,7 @@ fn read_seq(alloc: Global, tokens: &[Token], level: u16) -> Result<Found, ParseF
     seq_rows(alloc, &tree, to)
 }
 
-fn read_expr(alloc: Global, tokens: &[Token], level: u16) -> Result<Found, ParseFault>
+fn read_expr(alloc: Global, tokens: &[Token], level: u16) -> Result<Found, Wrong>
     requires ends { EndsWithEnd tokens.now }
     requires within { 0 < length tokens.now }
     requires level { level ≤ 200 }
@@ -65,7 +65,7 @@ fn read_expr(alloc: Global, tokens: &[Token], level: u16) -> Result<Found, Parse
     expr_rows(alloc, &tree, to)
 }
 
-fn read_infix(alloc: Global, tokens: &[Token], level: u16) -> Result<Found, ParseFault>
+fn read_infix(alloc: Global, tokens: &[Token], level: u16) -> Result<Found, Wrong>
     requires ends { EndsWithEnd tokens.now }
     requires within { 0 < length tokens.now }
     requires level { level ≤ 200 }
@@ -75,12 +75,10 @@ fn read_infix(alloc: Global, tokens: &[Token], level: u16) -> Result<Found, Pars
 }
 
 /// A part of a text, from its beginning, read at a level.
-pub fn read(alloc: Global, part: Part, text: &[u8], level: u16) -> Result<Found, ParseFault> {
-    let Ok(tokens) = tokens_of(alloc, text) else {
-        return Err(ParseFault::Memory);
-    };
+pub fn read(alloc: Global, part: Part, text: &[u8], level: u16) -> Result<Found, Wrong> {
+    let tokens = tokens_of(alloc, text)?;
     if level > 200 || tokens.is_empty() {
-        return Err(ParseFault::Memory);
+        return Err(Wrong::PastLimit);
     }
     match part {
         Part::Seq => read_seq(alloc, tokens.as_slice(), level),
