@@ -16,10 +16,6 @@ CONTRACT = [
     ("pc_io", "Change"),
 ]
 
-# The record `CoreOf` takes a limit from the files on the verdict, which the headline does not rest on.
-OF_VERDICTS = ("pc_top", "pc_refusals")
-OF_CORES = [("pc_core_relation", "Files"), ("pc_grammar", "FileAnswers"), ("pc_lex", "Answers")]
-
 # The definitions of commands that came after the limits on these counts had been set.
 LATER = [("pc_top", f"Commands/{name}") for name in ("Explain", "Events", "Places", "Outcomes")]
 
@@ -61,12 +57,12 @@ def imports(starts, leave_out=(), without=()):
 
 def headline():
     """What the headline rests on."""
-    return imports(HEADLINE, leave_out=OF_VERDICTS) | imports(OF_CORES)
+    return imports(HEADLINE)
 
 
 def isolated():
     """What the headline and the clause on isolation rest on."""
-    return headline() | imports(ISOLATION, leave_out=("pc_refusals",))
+    return headline() | imports(ISOLATION)
 
 
 def contract(without=()):

@@ -9,6 +9,9 @@ import pages
 # What says only how the parts inside a command end. No clause of the whole call rests on it.
 INNER = "Inner/"
 
+# How the parts of what is to be read begin: for the headline, for isolation, and for the rest of the contract.
+PARTS = ("**1. ", "**Isolation in depth** ", "**4. ")
+
 COMMAND_OF_HELP = re.compile(r"  ((?:[a-z]+)(?: [A-Z]+)+)(?:  .*|)$")
 STATUS_OF_HELP = re.compile(r" *(\d+)  (.*?)(?:  +.*)?$")
 
@@ -68,11 +71,10 @@ def about(number):
     return f"about {round(number, -2):,} lines"
 
 
-def look_at_lines(found, results):
-    """Compares the lines that are to be read with the files, and the files with what is imported."""
-    page = next(it for it in found if it.name == "docs/theorem.md")
+def listed_in(page, rows, results):
+    """The files of definitions that rows name, after comparing how many lines they have."""
     listed = set()
-    for row in pages.table(page, "Read", "Lines"):
+    for row in rows:
         named = named_in(row.cells["Read"])
         missing = [it for it in named if not lines.file_of(*it).exists()]
         missing += [it for it in types_in(row.cells["Read"]) if not it.exists()]
@@ -81,15 +83,25 @@ def look_at_lines(found, results):
             count = f"{lines.length(named):,}"
             results.check(row.cells["Lines"] == count, f"{page.name}:{row.line}: lines", f"the files have {count}")
             listed |= set(named)
-    wanted, whole = lines.headline(), lines.contract()
-    results.check(listed == wanted, f"{page.name}: what the headline imports", f"{sorted(listed ^ wanted)}")
+    return listed
+
+
+def look_at_lines(found, results):
+    """Compares the lines that are to be read with the files, and the files with what is imported."""
+    page = next(it for it in found if it.name == "docs/theorem.md")
+    wanted, isolated, whole = lines.headline(), lines.isolated(), lines.contract()
+    begins = [next(at for at, line in enumerate(page.lines, 1) if line.startswith(it)) for it in PARTS]
+    rows = pages.table(page, "Read", "Lines")
+    for files, begin, end in zip((wanted, isolated - wanted, whole - isolated), begins, [*begins[1:], len(page.lines)]):
+        listed = listed_in(page, [row for row in rows if begin < row.line < end], results)
+        results.check(listed == files, f"{page.name}:{begin}: what is imported", f"{sorted(listed ^ files)}")
     inner = [it for it in whole if it[1].startswith(INNER)]
     results.check(not inner, f"{page.name}: no clause rests on how inner parts end", inner)
     later = [it for it in lines.LATER if it not in whole]
     results.check(not later, f"{page.name}: the later commands are part of the contract", later)
     earlier = lines.contract(without=lines.LATER)
     readme = next(it for it in found if it.name == "README.md")
-    for where, files in ((page, (wanted, lines.isolated(), whole, earlier)), (readme, (lines.isolated(), whole))):
+    for where, files in ((page, (wanted, isolated, whole, earlier)), (readme, (isolated, whole))):
         text = re.sub(r"\s+", " ", where.text())
         for said in (about(lines.length(it)) for it in files):
             is_said = said in text or said.removesuffix(" lines") in text
