@@ -7,8 +7,8 @@ use Rattle.pc_core.specs.Entities.{IsAbstract}
 use Rattle.pc_core.specs.Conforms.{Conforms}
 use Rattle.pc_core.specs.EntitySets.{IsSetOf}
 
--- A set for each entity, by its number: for a trait and an interface that of the entities that conform to it. What is there
--- for another entity is not said.
+-- A set for each entity, by its number: for a trait and an interface that of the entities that conform to it. The set of
+-- any other entity may be any.
 pub record TellsConforming (core : CoreData) (sets : List (List Mask)) : Type 0 where
   pub long : length sets ≡ length core.entities
   pub tells : Each (λ b set. IsAbstract core b → IsSetOf core (λ e. Conforms core e b) set) sets

@@ -1,4 +1,4 @@
--- The first elements of a row are looked through; those behind them are looked up by hash.
+-- The first elements of a row are looked through; those after them are looked up by hash.
 use Rattle.std.specs.Prelude.{ℕ}
 
 -- How many elements are looked through.

@@ -4,7 +4,6 @@ use Rattle.pc_caps.specs.Tables.{view, taken, may_write}
 use Rattle.pc_core.specs.Lookup.{field_named}
 use Rattle.pc_rules.specs.Parts.{says_of, goes_to, constructs, full, through_notes, one_type, two_notes, two_types, last_note, last_child}
 use Rattle.pc_valid.specs.Words.{Ty, Masks, place}
-use Rattle.pc_caps.specs.declared.capability.Cap.{Cap}
 use Rattle.pc_caps.specs.declared.capability.Form.{Form}
 use Rattle.pc_caps.specs.declared.capability.Form.TheVariants as form
 use Rattle.pc_core.specs.declared.declarations.FieldInfo.{FieldInfo}

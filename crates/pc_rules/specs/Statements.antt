@@ -1,11 +1,10 @@
 -- Laws of the rules.
-use Rattle.std.specs.Prelude.{◌≡◌, ◌≢◌, ◌⊎◌, ◌↔◌, ℕ, ◌<◌, List, Some, slice_get}
+use Rattle.std.specs.Prelude.{◌≡◌, ◌≢◌, ◌⊎◌, ◌↔◌, ℕ, ◌<◌, List, Some}
 use Rattle.pc_caps.specs.Limits.{slot_limit}
 use Rattle.pc_core.specs.declared.nodes.Node.{Node}
 use Rattle.pc_core.specs.declared.nodes.NodeKind.{NodeKind}
 use Rattle.pc_core.specs.declared.nodes.NodeKind.TheVariants as node
 use Rattle.pc_core.specs.CoreData.{CoreData}
-use Rattle.pc_lists.specs.Places.{Has}
 use Rattle.pc_ann.specs.declared.annotation.Note.{Note}
 use Rattle.pc_ann.specs.declared.annotation.Ann.{Ann}
 use Rattle.pc_ann.specs.declared.annotation.Rule.{Rule}

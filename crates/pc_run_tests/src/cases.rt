@@ -133,7 +133,7 @@ const DOUBLES_RUNS: [Run; 3] = [
 ];
 
 #[test]
-fn a_text_that_is_too_long_ends_the_run_behind_what_was_printed(rt: HostRuntime) {
+fn a_text_that_is_too_long_ends_the_run_after_what_was_printed(rt: HostRuntime) {
     assert_eq!(rt; wrong_run(rt.alloc(), DOUBLES, &DOUBLES_RUNS), None);
 }
 
@@ -145,7 +145,7 @@ const FAILING_RUNS: [Run; 3] = [
 ];
 
 #[test]
-fn behind_a_call_that_failed_nothing_is_written(rt: HostRuntime) {
+fn after_a_call_that_failed_nothing_is_written(rt: HostRuntime) {
     assert_eq!(rt; wrong_run(rt.alloc(), HELLO, &FAILING_RUNS), None);
 }
 

@@ -2,8 +2,6 @@
 #![tactic(auto)]
 
 #[cfg(test)]
-mod behind;
-#[cfg(test)]
 mod cases;
 #[cfg(test)]
 mod derived;
@@ -11,5 +9,7 @@ mod derived;
 mod programs;
 #[cfg(test)]
 mod safety;
+#[cfg(test)]
+mod sightings;
 #[cfg(test)]
 mod taken_over;

@@ -1,11 +1,9 @@
 -- `sends SRC`.
-use Rattle.std.specs.Prelude.{ℕ, ◌≡◌, List, [], ◌∷◌, ◌++◌, Option, Some, None, IsSome, slice_get, codes}
+use Rattle.std.specs.Prelude.{ℕ, ◌≡◌, List, [], ◌∷◌, ◌++◌, IsSome, slice_get, codes}
 use Rattle.std.specs.Io.KnownBytes.{Appends}
 use Rattle.pc_io.specs.Change.{Change}
 use Rattle.pc_ann.specs.declared.annotation.Ann.{Ann}
 use Rattle.pc_core.specs.CoreData.{CoreData}
-use Rattle.pc_core.specs.declared.declarations.EntityDef.{EntityDef}
-use Rattle.pc_core.specs.declared.declarations.Method.{Method}
 use Rattle.pc_lists.specs.Places.{Each}
 use Rattle.pc_noted_receivers.specs.Noted.{noted_entities}
 use Rattle.pc_valid.specs.Valid.{Valid}
@@ -18,7 +16,7 @@ use Rattle.pc_top.specs.CoreOf.{CoreOf}
 use Rattle.pc_refusals.specs.Named.{Named}
 use Rattle.pc_refusals.specs.Verdict.{Verdict, done}
 use Rattle.pc_refusals.specs.declared.typing.Accepted.{Accepted}
-use Rattle.pc_run_events.specs.Names.{name_of_entity, name_or_nothing, method_text, MethodHasName}
+use Rattle.pc_run_events.specs.Names.{name_of_entity, method_text, MethodHasName}
 use Rattle.pc_top.specs.Shapes.{OfAccepted}
 
 -- ---- names

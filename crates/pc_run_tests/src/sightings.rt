@@ -145,7 +145,7 @@ fn list_of(alloc: Global, turns: &[(u32, u32)]) -> Result<Vec<u32>, AllocError> 
 }
 
 /// What is seen of the machine and of two of its actors after turns, if `accepted_runs` and `accepted_is_safe` agree.
-pub fn seen_behind(
+pub fn seen_after(
     alloc: Global,
     program: &[u8],
     turns: &[(u32, u32)],
