@@ -70,7 +70,24 @@ def contract(without=()):
     return imports(CONTRACT, without=without)
 
 
+def heads(text):
+    """The imports of a file, and its lines that name the files of a folder."""
+    return re.findall(r"^(?:pub )?(?:use|mod) [^{\n]*(?:\{[^}]*\})?[^\n]*$", text, re.MULTILINE)
+
+
 def of_imports(files):
     """How many of the lines of these files are imports."""
-    heads = [re.findall(r"^use [^{\n]*(?:\{[^}]*\})?[^\n]*$", file_of(*it).read_text(), re.MULTILINE) for it in files]
-    return sum(len(head.splitlines()) for found in heads for head in found)
+    return sum(len(head.splitlines()) for it in files for head in heads(file_of(*it).read_text()))
+
+
+def text_of(crate, name):
+    """What there is to read in a file: its definitions with their comments, under its name, without imports and blank lines."""
+    text = file_of(crate, name).read_text()
+    for head in heads(text):
+        text = text.replace(head, "", 1)
+    return [f"== {crate}: {name}", *(line for line in text.splitlines() if line.strip())]
+
+
+def length_of_text(files):
+    """How many lines there are to read in files of definitions."""
+    return sum(len(text_of(*it)) for it in files)

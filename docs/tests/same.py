@@ -101,11 +101,13 @@ def look_at_lines(found, results):
     results.check(not later, f"{page.name}: the later commands are part of the contract", later)
     earlier = lines.contract(without=lines.LATER)
     readme = next(it for it in found if it.name == "README.md")
-    for where, files in ((page, (wanted, isolated, whole, earlier)), (readme, (isolated, whole))):
+    counted = [lines.length(it) for it in (wanted, isolated, whole, earlier)]
+    counted += [lines.length_of_text(it) for it in (wanted, earlier, whole)]
+    for where, counts in ((page, counted), (readme, [lines.length_of_text(it) for it in (isolated, whole)])):
         text = re.sub(r"\s+", " ", where.text())
-        for said in (about(lines.length(it)) for it in files):
-            is_said = said in text or said.removesuffix(" lines") in text
-            results.check(is_said, f"{where.name}: says {said}", "it does not")
+        for one in map(about, counts):
+            is_said = one in text or one.removesuffix(" lines") in text
+            results.check(is_said, f"{where.name}: says {one}", "it does not")
 
 
 def look(found, results):

@@ -44,7 +44,7 @@ def copy_sources(to):
     """Copies what a clone has of the program's sources."""
     for name in FILES:
         shutil.copy(TOP / name, to / name)
-    ignored = shutil.ignore_patterns("out", "must-fail", "tests", "__pycache__")
+    ignored = shutil.ignore_patterns("out", "must-fail", "mutants", "tests", "__pycache__")
     for name in ("launcher", "crates"):
         shutil.copytree(TOP / name, to / name, ignore=ignored)
 
