@@ -24,13 +24,14 @@ _room = tempfile.TemporaryDirectory(prefix="lib-test-")
 _made = {}
 
 
-def find(folder, path):
-    """Takes this library and this program, or builds what is not given."""
+def find(folder, path, after_gate=False):
+    """Takes this library and this program, or builds what is not given, the library over what the gate has just proved if asked to."""
     global library, program
     if path is None:
         subprocess.run([TOP / "rcap", "--prove"], stdin=subprocess.DEVNULL, check=True)
     if folder is None:
-        subprocess.run([LIB / "build"], stdin=subprocess.DEVNULL, check=True)
+        words = ["--after-gate"] if after_gate else []
+        subprocess.run([LIB / "build", *words], stdin=subprocess.DEVNULL, check=True)
     library = (folder or TOP / "out" / "lib").resolve()
     program = (path or TOP / "out" / "proved" / "rcap").resolve()
 
