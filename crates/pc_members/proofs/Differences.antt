@@ -39,6 +39,10 @@ among_has x (y ∷ xs) h = by (λ g. among_has x xs g) (bytes_eq x y) refl h
 pub has_among : (x : Text) (xs : List Text) → Has xs x → is_among x xs ≡ true
 has_among x xs h = among_at x xs h.0 h.1
 
+-- A name that is found at a place is one of the names.
+pub placed_among : (names : List Text) (i : ℕ) (found name : Text) → slice_get names i ≡ Some found → bytes_eq found name ≡ true → is_among name names ≡ true
+placed_among names i found name h e = among_at name names i (h ∙ ap (λ x. Some x) (equal_texts found name e))
+
 -- A place in a list with one more element is a place of the list, or the last.
 push_places : (x y : Text) (xs : List Text) (i : ℕ) → slice_get (xs ++ x ∷ []) i ≡ Some y → (slice_get xs i ≡ Some y) ⊎ ((i ≡ length xs) × (y ≡ x))
 push_places x y [] zero h = inr (refl, sym (same_Some _ _ h))

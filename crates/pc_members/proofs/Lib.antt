@@ -9,3 +9,4 @@ pub mod Firsts
 pub mod Ranks
 pub mod Rounding
 pub mod Completed
+pub mod Marking

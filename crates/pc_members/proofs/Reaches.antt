@@ -193,9 +193,6 @@ any_has (x ∷ xs) b = by (nat_eq b x) (any_has xs b)
     by true rec = refl
     by false rec = rec
 
-pub added : (xs : List ℕ) (b : ℕ) → (if list_any (nat_eq b) xs then xs else xs ++ b ∷ []) ≡ added_last xs b
-added xs b = ap (λ t. if t then xs else xs ++ b ∷ []) (any_has xs b)
-
 pub one_turn : (n : ℕ) (e : Edges) (found : List ℕ) (at a : ℕ) → at < n → slice_get found at ≡ Some a → grow (n - at) e found at ≡ grow (n - (at + 1)) e (add_all found (edges_from e a)) (at + 1)
 one_turn n e found at a l h =
     let m : n - at ≡ suc (n - (at + 1)) = omega (arith, l) in

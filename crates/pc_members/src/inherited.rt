@@ -9,8 +9,10 @@ ghost use Rattle.pc_members.specs.Members.{or_no_members};
 ghost use Rattle.pc_members.specs.Tables.{find_name};
 ghost use Rattle.pc_members.specs.Words.{entity_names};
 ghost use Rattle.pc_members.specs.Rounds as spec;
+ghost use Rattle.pc_members.specs.Numbered.{numbered_table, numbered_view};
 ghost use Rattle.pc_members.specs.Views.{members_view, table_view};
 
+use crate::known::Numbered;
 use crate::member::{Member, own_members};
 use crate::table::NameTable;
 use crate::texts::own_names;
@@ -24,15 +26,16 @@ fn take<'a>(
     kind: EntityKind,
     known: &mut NameTable,
     list: &mut List<Member<'a>>,
-    members: &[Member<'a>],
+    members: &[Numbered<'a>],
 ) -> Result<(), AllocError>
-    ensures list { OnOk result (members_view list.new ≡ members_view list.old ++ spec.taken_members kind known.old (members_view members.now)) }
-    ensures known { OnOk result (known.new ≡ spec.with_taken kind known.old (members_view members.now)) }
+    ensures list { OnOk result (members_view list.new ≡ members_view list.old ++ spec.taken_members kind known.old (numbered_view members.now)) }
+    ensures known { OnOk result (known.new ≡ spec.with_taken kind known.old (numbered_view members.now)) }
 {
-    for member in members {
+    for numbered in members {
+        let member = numbered.member;
         if member.is_takable(kind) && !known.has(member.text()) {
             known.add(member.text())?;
-            list.push(*member)?;
+            list.push(member)?;
         }
     }
     Ok(())
@@ -42,14 +45,14 @@ fn take<'a>(
 fn take_named<'a>(
     kind: EntityKind,
     entities: &NameTable,
-    table: &[List<Member<'a>>],
+    table: &[List<Numbered<'a>>],
     known: &mut NameTable,
     list: &mut List<Member<'a>>,
     name: &Name,
 ) -> Result<(), AllocError>
-    ensures list { OnOk result (members_view list.new ≡ members_view list.old ++ spec.taken_members kind known.old (spec.table_members (table_view table.now) (find_name entities.now name.now.text))) }
+    ensures list { OnOk result (members_view list.new ≡ members_view list.old ++ spec.taken_members kind known.old (spec.table_members (numbered_table table.now) (find_name entities.now name.now.text))) }
     ensures known { OnOk result
-        (known.new ≡ spec.with_taken kind known.old (spec.table_members (table_view table.now) (find_name entities.now name.now.text))) }
+        (known.new ≡ spec.with_taken kind known.old (spec.table_members (numbered_table table.now) (find_name entities.now name.now.text))) }
 {
     match named_at(entities, table, name) {
         Some(members) => take(kind, known, list, members.as_slice()),
@@ -62,12 +65,12 @@ fn take_named<'a>(
 fn take_all_named<'a>(
     kind: EntityKind,
     entities: &NameTable,
-    table: &[List<Member<'a>>],
+    table: &[List<Numbered<'a>>],
     known: &mut NameTable,
     list: &mut List<Member<'a>>,
     provides: &[Name],
 ) -> Result<(), AllocError>
-    ensures { OnOk result (members_view list.new ≡ members_view list.old ++ spec.taken_members kind known.old (spec.named_all entities.now (table_view table.now) provides.now)) }
+    ensures { OnOk result (members_view list.new ≡ members_view list.old ++ spec.taken_members kind known.old (spec.named_all entities.now (numbered_table table.now) provides.now)) }
 {
     for name in provides {
         take_named(kind, entities, table, known, list, name)?;
@@ -79,12 +82,12 @@ fn take_all_named<'a>(
 fn take_over<'a>(
     alloc: Global,
     entities: &NameTable,
-    table: &[List<Member<'a>>],
+    table: &[List<Numbered<'a>>],
     list: &mut List<Member<'a>>,
     entity: &'a Entity,
 ) -> Result<(), AllocError>
     requires { members_view list.old ≡ spec.own_members (entity_view entity.now) }
-    ensures { OnOk result (members_view list.new ≡ spec.concrete entities.now (table_view table.now) (entity_view entity.now)) }
+    ensures { OnOk result (members_view list.new ≡ spec.concrete entities.now (numbered_table table.now) (entity_view entity.now)) }
 {
     let mut known = own_names(alloc, entities, entity)?;
     take_all_named(
@@ -101,22 +104,25 @@ fn take_over<'a>(
 fn concrete_members<'a>(
     alloc: Global,
     entities: &NameTable,
-    table: &[List<Member<'a>>],
+    table: &[List<Numbered<'a>>],
     entity: &'a Entity,
 ) -> Result<List<Member<'a>>, AllocError>
-    ensures { IfOk result (λ l. members_view l ≡ spec.concrete entities.now (table_view table.now) (entity_view entity.now)) }
+    ensures { IfOk result (λ l. members_view l ≡ spec.concrete entities.now (numbered_table table.now) (entity_view entity.now)) }
 {
     let mut list = own_members(alloc, entity)?;
     take_over(alloc, entities, table, &mut list, entity).and(Ok(list))
 }
 
 // These members without bodies.
-fn without_bodies<'a>(alloc: Global, members: &[Member<'a>]) -> Result<List<Member<'a>>, AllocError>
-    ensures { IfOk result (λ l. members_view l ≡ map spec.bodiless (members_view members.now)) }
+fn without_bodies<'a>(
+    alloc: Global,
+    members: &[Numbered<'a>],
+) -> Result<List<Member<'a>>, AllocError>
+    ensures { IfOk result (λ l. members_view l ≡ map spec.bodiless (numbered_view members.now)) }
 {
     let mut list = List::new(alloc);
-    for member in members {
-        list.push(member.without_body())?;
+    for numbered in members {
+        list.push(numbered.member.without_body())?;
     }
     Ok(list)
 }
@@ -124,10 +130,10 @@ fn without_bodies<'a>(alloc: Global, members: &[Member<'a>]) -> Result<List<Memb
 // The members of a trait or an interface, if the table has the methods of the one at this place.
 fn abstract_members<'a>(
     alloc: Global,
-    table: &[List<Member<'a>>],
+    table: &[List<Numbered<'a>>],
     place: usize,
 ) -> Result<List<Member<'a>>, AllocError>
-    ensures { IfOk result (λ l. members_view l ≡ map spec.bodiless (or_no_members (slice_get (table_view table.now) place))) }
+    ensures { IfOk result (λ l. members_view l ≡ map spec.bodiless (or_no_members (slice_get (numbered_table table.now) place))) }
 {
     match table.get(place) {
         Some(members) => without_bodies(alloc, members.as_slice()),
@@ -139,11 +145,11 @@ fn abstract_members<'a>(
 fn complete<'a>(
     alloc: Global,
     entities: &NameTable,
-    table: &[List<Member<'a>>],
+    table: &[List<Numbered<'a>>],
     place: usize,
     entity: &'a Entity,
 ) -> Result<List<Member<'a>>, AllocError>
-    ensures { IfOk result (λ l. members_view l ≡ spec.completed entities.now (table_view table.now) place (entity_view entity.now)) }
+    ensures { IfOk result (λ l. members_view l ≡ spec.completed entities.now (numbered_table table.now) place (entity_view entity.now)) }
 {
     if entity.kind.is_abstract() {
         abstract_members(alloc, table, place)
@@ -156,10 +162,10 @@ fn complete<'a>(
 fn complete_all<'a>(
     alloc: Global,
     entities: &NameTable,
-    table: &[List<Member<'a>>],
+    table: &[List<Numbered<'a>>],
     all: &'a [Entity],
 ) -> Result<List<List<Member<'a>>>, AllocError>
-    ensures { IfOk result (λ l. table_view l ≡ spec.completed_from entities.now (table_view table.now) 0 (map entity_view all.now)) }
+    ensures { IfOk result (λ l. table_view l ≡ spec.completed_from entities.now (numbered_table table.now) 0 (map entity_view all.now)) }
 {
     let mut lists = List::new(alloc);
     for place in 0..all.len() {

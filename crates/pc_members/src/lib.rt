@@ -10,6 +10,7 @@
 mod constructors;
 mod edges;
 mod inherited;
+mod known;
 mod member;
 mod reach;
 mod table;

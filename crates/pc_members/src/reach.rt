@@ -1,8 +1,7 @@
 //! What can be reached from each entity.
-ghost use Rattle.std.specs.Prelude.{◌≡◌, ◌<◌, ◌+◌, [], ◌++◌, ◌^◌, length, OnOk, IfOk, slice_get};
+ghost use Rattle.std.specs.Prelude.{◌≡◌, ◌<◌, ◌+◌, [], ◌++◌, ◌^◌, false, length, true, OnOk, IfOk, replicate, slice_get, slice_set};
 ghost use Rattle.pc_members.specs.Reach as spec;
 
-use indexmap::IndexSet;
 use pc_caps::List;
 use std::alloc::{AllocError, Global};
 use std::marker::Model;
@@ -10,32 +9,78 @@ use std::marker::Model;
 /// Different numbers, in the order in which they were found.
 #[derive(Drop)]
 struct Found {
-    numbers: IndexSet<u32>,
+    numbers: List<u32>,
+    // For each number below the length of this list, whether it is there.
+    marks: List<bool>,
 }
 
 impl Model for Found {
     ghost use Rattle.std.specs.Prelude.{List as Sequence, ℕ};
+    ghost use Rattle.pc_members.specs.Marks.{IsMarked};
 
     ghost Value = { Sequence ℕ };
 
-    ghost view = { λ f. f.numbers.keys };
+    ghost view = { λ f. f.numbers };
+
+    ghost invariant = { λ f. IsMarked f.numbers f.marks };
+}
+
+// A list without marks, with a place for each of `count` numbers.
+fn list_unmarked(alloc: Global, count: usize) -> Result<List<bool>, AllocError>
+    ensures { IfOk result (λ l. l ≡ replicate count false) }
+{
+    Ok(List::from_vec(vec![in alloc; false; count]?))
+}
+
+// Marks the number, if it has a place.
+#[tactic(auto, using(crate::proofs::Marking::set_past))]
+fn mark(marks: &mut List<bool>, number: u32)
+    ensures { marks.new ≡ slice_set marks.old number true }
+{
+    if (number as usize) < marks.len() {
+        marks.replace(number as usize, true);
+    }
+}
+
+// Whether the number is one of these.
+fn is_listed(numbers: &[u32], number: u32) -> bool
+    ensures { result ≡ spec.has_number numbers.now number }
+{
+    numbers.contains(&number)
 }
 
 impl Found {
-    fn new(alloc: Global) -> Found
-        ensures { result ≡ [] }
+    // Nothing found. The numbers below `count` are looked up by their marks.
+    #[tactic(auto, using(crate::proofs::Marking::none_marked))]
+    fn new(alloc: Global, count: usize) -> Result<Found, AllocError>
+        ensures { IfOk result (λ f. f ≡ []) }
     {
-        Found {
-            numbers: IndexSet::new(alloc),
+        let marks = list_unmarked(alloc, count)?;
+        Ok(Found {
+            numbers: List::new(alloc),
+            marks,
+        })
+    }
+
+    fn has(&self, number: u32) -> bool
+        ensures { result ≡ spec.has_number self.now number }
+    {
+        match self.marks.get(number as usize) {
+            Some(is_there) => *is_there,
+            None => is_listed(self.numbers.as_slice(), number),
         }
     }
 
     // Appends the number, unless it is there already.
-    #[tactic(auto, using(crate::proofs::Reaches::added))]
+    #[tactic(auto, using(crate::proofs::Marking::push_marked, crate::proofs::Marking::added_known, crate::proofs::Marking::added_new))]
     fn add(&mut self, number: u32) -> Result<(), AllocError>
         ensures { OnOk result (self.new ≡ spec.added_last self.old number) }
     {
-        self.numbers.insert_full(number)?;
+        if self.has(number) {
+            return Ok(());
+        }
+        self.numbers.push(number)?;
+        mark(&mut self.marks, number);
         Ok(())
     }
 
@@ -61,14 +106,7 @@ impl Found {
     fn get(&self, at: usize) -> Option<u32>
         ensures { result ≡ slice_get self.now at }
     {
-        self.numbers.get_index(at).copied()
-    }
-
-    #[tactic(auto, using(crate::proofs::Reaches::any_has))]
-    fn has(&self, number: u32) -> bool
-        ensures { result ≡ spec.has_number self.now number }
-    {
-        self.numbers.contains(&number)
+        self.numbers.get(at).copied()
     }
 }
 
@@ -116,7 +154,7 @@ fn reach(alloc: Global, edges: &[List<u32>], from: usize) -> Result<List<u32>, A
     requires { length edges.now < 2 ^ 32 }
     ensures { IfOk result (λ l. l ≡ spec.ascending (spec.reached edges.now from) 0 (length edges.now)) }
 {
-    let mut found = Found::new(alloc);
+    let mut found = Found::new(alloc, edges.len())?;
     find(&mut found, edges, from)?;
     sort_found(alloc, &found, edges.len() as u32)
 }

@@ -1,5 +1,5 @@
 //! Names in the order of their first appearance, with their numbers.
-ghost use Rattle.std.specs.Prelude.{◌≡◌, ◌<◌, ◌^◌, [], length, OnOk, OnErr, slice_get};
+ghost use Rattle.std.specs.Prelude.{◌≡◌, ◌<◌, ◌^◌, [], length, true, IsTrue, OnOk, OnErr, slice_get};
 ghost use Rattle.std.specs.Option.{option_copied};
 ghost use Rattle.pc_members.specs.Tables.{find_name, with_name};
 ghost use Rattle.pc_members.specs.Words.{is_among};
@@ -75,6 +75,17 @@ impl NameTable {
         match self.names.get_index(number as usize) {
             Some(name) => Some(name.as_slice()),
             None => None,
+        }
+    }
+
+    /// Whether this name has this number. Does not allocate.
+    #[tactic(auto, using(crate::proofs::Differences::placed_among))]
+    pub(crate) fn is_at(&self, number: u32, name: &[u8]) -> bool
+        ensures { IsTrue result → is_among name.now self.now ≡ true }
+    {
+        match self.get(number) {
+            Some(found) => found == name,
+            None => false,
         }
     }
 

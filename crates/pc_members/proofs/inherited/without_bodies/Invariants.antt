@@ -1,8 +1,9 @@
 use Rattle.std.proofs.Common.{◌≡◌, ◌++◌, map, drop}
 use Rattle.pc_members.specs.Rounds.{bodiless}
+use Rattle.pc_members.specs.Numbered.{numbered_view}
 use Rattle.pc_members.specs.Views.{members_view}
 use Rattle.pc_members.proofs.inherited.without_bodies.Given as goal
 
-abbrev pub invariant-loop-member : goal.invariant-loop-member
-invariant-loop-member l =
-    map bodiless (members_view l.members) ≡ members_view l.list ++ map bodiless (members_view (drop l.member-index l.members))
+abbrev pub invariant-loop-numbered : goal.invariant-loop-numbered
+invariant-loop-numbered l =
+    map bodiless (numbered_view l.members) ≡ members_view l.list ++ map bodiless (numbered_view (drop l.numbered-index l.members))

@@ -1,10 +1,10 @@
 use Rattle.std.proofs.Common.{◌≡◌, ◌++◌, drop}
 use Rattle.pc_members.specs.Tables.{with_names}
 use Rattle.pc_members.specs.Rounds.{first_members, member_texts}
-use Rattle.pc_members.specs.Views.{members_view}
+use Rattle.pc_members.specs.Numbered.{numbered_view}
 use Rattle.pc_members.proofs.traits.add_firsts.Given as goal
 
 abbrev pub invariant-loop-member : goal.invariant-loop-member
 invariant-loop-member l =
-    (members_view l.fn.list ++ first_members l.fn.known (members_view l.members) ≡ members_view l.list ++ first_members l.known (members_view (drop l.member-index l.members)))
-    × (with_names l.fn.known (member_texts (members_view l.members)) ≡ with_names l.known (member_texts (members_view (drop l.member-index l.members))))
+    (numbered_view l.fn.list ++ first_members l.fn.known (numbered_view l.members) ≡ numbered_view l.list ++ first_members l.known (numbered_view (drop l.member-index l.members)))
+    × (with_names l.fn.known (member_texts (numbered_view l.members)) ≡ with_names l.known (member_texts (numbered_view (drop l.member-index l.members))))
