@@ -20,6 +20,10 @@ import sys
 sys.dont_write_bytecode = True
 
 
+# In place of the folder at the top: a call of this script by itself.
+BUILD_ALONE = "--build-alone"
+
+
 class NotTaken(Exception):
     """Why the libraries of the gate are not taken."""
 
@@ -77,8 +81,9 @@ def look(top, crates, parts):
 
 
 def rt_lib(folder):
-    """Runs `rt lib` in a crate's folder, and returns its status."""
-    return subprocess.run(["rt", "lib"], cwd=folder, stdin=subprocess.DEVNULL, stdout=sys.stderr, check=False).returncode
+    """Does in a process of its own what `rt lib` does in a crate's folder, and returns its status."""
+    words = [sys.executable, "-ISB", __file__, BUILD_ALONE, folder]
+    return subprocess.run(words, cwd=folder, stdin=subprocess.DEVNULL, stdout=sys.stderr, check=False).returncode
 
 
 def build(crate, libraries):
@@ -121,4 +126,5 @@ def main(top, name):
 
 
 if __name__ == "__main__":
-    sys.exit(main(*sys.argv[1:]))
+    # `rt lib` itself would compute stamps for minutes.
+    sys.exit(kit().main("lib") if sys.argv[1] == BUILD_ALONE else main(*sys.argv[1:]))

@@ -4,6 +4,7 @@ STAND_IN names a folder: each call of `rt lib` adds a line to its file `calls`, 
 stamp; a file `fail` has it fail, and `other.stamps` has it build each library anew, as if its stamps were made in another way."""
 
 RTLIB = '''
+import os
 import pathlib
 
 PARTS = ("src", "specs")
@@ -25,18 +26,22 @@ class Crate:
 
     def stamp(self):
         return f"stamp of {self.name}"
+
+
+def main(verb):
+    room, folder = pathlib.Path(os.environ["STAND_IN"]), pathlib.Path.cwd()
+    stamps = {it.parents[2].name: it.read_text() for it in sorted(folder.parent.glob("*/out/rlib/stamp"))}
+    stamped = [name for name, stamp in stamps.items() if stamp == f"stamp of {name}"]
+    with open(room / "calls", "a") as calls:
+        calls.write(f"{verb} {folder.name} over {' '.join(stamped)}\\n")
+    if (room / "other.stamps").exists():
+        library = folder / "out" / "rlib" / f"{folder.name}.rlib" / "format"
+        library.unlink()
+        library.write_text("another one\\n")
+    return (room / "fail").exists() and folder.name == "top"
 '''
 
-RT = '''#!/usr/bin/env python3
-import os, pathlib, sys
-room, folder = pathlib.Path(os.environ["STAND_IN"]), pathlib.Path.cwd()
-stamps = {it.parents[2].name: it.read_text() for it in sorted(folder.parent.glob("*/out/rlib/stamp"))}
-stamped = [name for name, stamp in stamps.items() if stamp == f"stamp of {name}"]
-with open(room / "calls", "a") as calls:
-    calls.write(f"{sys.argv[1]} {folder.name} over {' '.join(stamped)}\\n")
-if (room / "other.stamps").exists():
-    library = folder / "out" / "rlib" / f"{folder.name}.rlib" / "format"
-    library.unlink()
-    library.write_text("another one\\n")
-sys.exit((room / "fail").exists() and folder.name == "top")
-'''
+# The script beside it, which nothing here calls.
+RT = """#!/bin/sh
+exit 125
+"""
