@@ -2,6 +2,7 @@
 docs/theorem.md and the files."""
 
 import re
+import subprocess
 
 import lines
 import pages
@@ -110,7 +111,17 @@ def look_at_lines(found, results):
             results.check(is_said, f"{where.name}: says {one}", "it does not")
 
 
+def look_at_text(results):
+    """Compares the text that `docs/read` prints with the files: each of them is there once, and whole."""
+    for word, files in (("headline", lines.headline()), ("isolation", lines.isolated()), ("contract", lines.contract())):
+        said = subprocess.run([pages.TOP / "docs" / "read", word], capture_output=True, text=True, check=False).stdout.splitlines()
+        heads = sorted(line for line in said if line.startswith("== "))
+        results.check(heads == sorted(lines.text_of(*it)[0] for it in files), f"docs/read {word}: the files", heads)
+        results.check(len(said) == lines.length_of_text(files), f"docs/read {word}: its lines", len(said))
+
+
 def look(found, results):
     """Compares all of these."""
     look_at_help(found, results)
     look_at_lines(found, results)
+    look_at_text(results)
