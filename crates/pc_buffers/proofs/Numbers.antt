@@ -7,7 +7,7 @@ use Rattle.pc_deriv.proofs.NameReading.{after_sound, after_own}
 use Rattle.pc_lists.specs.Options.{◌>>=◌}
 use Rattle.pc_lists.specs.Texts.{Text}
 use Rattle.pc_lists.proofs.Options.{none_some, bind_some, bind_is}
-use Rattle.pc_refusal_lines.specs.Place.{line_behind, column_behind}
+use Rattle.pc_refusal_lines.specs.Place.{line_number, column_number}
 use Rattle.pc_buffers.specs.Finding.{Finds, FindsIn}
 use Rattle.pc_buffers.specs.Fronts.{after_word, after_numbers}
 use Rattle.pc_buffers.specs.Places.{BeginsWith, place_front}
@@ -76,15 +76,15 @@ numbered_of name line numbers l c e begins =
 
 pub found_after : (number : ℕ) (name text line numbers : Text) (r : Option Start) → after_word name line ≡ Some numbers → FindsIn number text numbers r → Finds number name text line r
 found_after number name text line numbers None e none =
-    λ at within points. none at within (numbered_of name line numbers (line_behind (take at text)) (column_behind (take at text)) e points)
+    λ at within points. none at within (numbered_of name line numbers (line_number (take at text)) (column_number (take at text)) e points)
 found_after number name text line numbers (Some start) e is =
     record {
       number_is = is.number_is;
       within = is.within;
       line_is = is.line_is;
       column_is = is.column_is;
-      points = named name line numbers (line_behind (take start.offset text)) (column_behind (take start.offset text)) e is.are;
+      points = named name line numbers (line_number (take start.offset text)) (column_number (take start.offset text)) e is.are;
     }
 
 pub found_without : (number : ℕ) (name text line : Text) → after_word name line ≡ None → Finds number name text line None
-found_without number name text line e = λ at within points. none_some (sym e ∙ rest_of name line (line_behind (take at text)) (column_behind (take at text)) points)
+found_without number name text line e = λ at within points. none_some (sym e ∙ rest_of name line (line_number (take at text)) (column_number (take at text)) points)

@@ -2,7 +2,7 @@
 use Rattle.std.proofs.Common.{◌≡◌, ◌<◌, ◌≤◌, ℕ, ◌+◌, true, false, cond, get_or, length, take, refl, sym, ap, ap₂, ◌∙◌, subst, true≢false, below_more, arith}
 use Rattle.std.specs.Prelude.{is_some, decimal}
 use Rattle.pc_lists.specs.Texts.{Text}
-use Rattle.pc_refusal_lines.specs.Place.{is_line_end, line_behind, column_behind}
+use Rattle.pc_refusal_lines.specs.Place.{is_line_end, line_number, column_number}
 use Rattle.pc_refusals.proofs.Places.{At, at_start, at_next}
 use Rattle.pc_buffers.specs.Finding.{AreOf, AreAt}
 use Rattle.pc_buffers.specs.Fronts.{after_word, after_numbers}
@@ -22,7 +22,7 @@ first numbers text m e =
     subst (Before numbers text 0) (sym e) (record { at = at_start text; small = omega arith; offset_is = refl; in_line_is = refl; none = λ k l h. absurd (omega (arith, l)) })
 
 -- the numbers at a mark are those after this many bytes
-are_at : (numbers text : Text) (i : ℕ) (m : Mark) → Before numbers text i m → is_some (after_numbers (line_behind (take i text)) (column_behind (take i text)) numbers) ≡ is_some (after_numbers m.line m.column numbers)
+are_at : (numbers text : Text) (i : ℕ) (m : Mark) → Before numbers text i m → is_some (after_numbers (line_number (take i text)) (column_number (take i text)) numbers) ≡ is_some (after_numbers m.line m.column numbers)
 are_at numbers text i m b = sym (ap₂ (λ l c. is_some (after_numbers l c numbers)) b.at.line_is b.at.column_is)
 
 not_here : (numbers text : Text) (i : ℕ) (m : Mark) → Before numbers text i m → is_some (after_numbers m.line m.column numbers) ≡ false → AreOf text numbers i → ⊥
@@ -49,9 +49,9 @@ found numbers text i m number p b e same =
     subst (AreAt number text numbers) (sym same) (record {
       number_is = refl;
       within = omega (arith, o, s);
-      line_is = b.at.line_is ∙ ap (λ n. line_behind (take n text)) (sym b.offset_is);
-      column_is = b.at.column_is ∙ ap (λ n. column_behind (take n text)) (sym b.offset_is);
-      are = ap (λ n. is_some (after_numbers (line_behind (take n text)) (column_behind (take n text)) numbers)) b.offset_is ∙ (are_at numbers text i m b ∙ e);
+      line_is = b.at.line_is ∙ ap (λ n. line_number (take n text)) (sym b.offset_is);
+      column_is = b.at.column_is ∙ ap (λ n. column_number (take n text)) (sym b.offset_is);
+      are = ap (λ n. is_some (after_numbers (line_number (take n text)) (column_number (take n text)) numbers)) b.offset_is ∙ (are_at numbers text i m b ∙ e);
     })
 
 pub nowhere : (numbers text : Text) (i : ℕ) (m : Mark) → length text ≤ i → Before numbers text i m → is_some (after_numbers m.line m.column numbers) ≡ false → (at : ℕ) → at ≤ length text → AreOf text numbers at → ⊥

@@ -1,7 +1,7 @@
 -- Where in a text a line points. Only the contracts of the parts of `find_place` use it.
 use Rattle.std.specs.Prelude.{ℕ, ◌≡◌, ◌≤◌, true, length, take, is_some, Option, Some, None}
 use Rattle.pc_lists.specs.Texts.{Text}
-use Rattle.pc_refusal_lines.specs.Place.{line_behind, column_behind}
+use Rattle.pc_refusal_lines.specs.Place.{line_number, column_number}
 use Rattle.pc_buffers.specs.Ends.{Ending}
 use Rattle.pc_buffers.specs.Fronts.{after_numbers}
 use Rattle.pc_buffers.specs.Places.{PointsNowhere, PointsTo}
@@ -14,8 +14,8 @@ use Rattle.pc_buffers.specs.declared.start.Start.{Start}
 pub record StartsAt (number : ℕ) (name text line : Text) (start : Start) : Type 0 where
   pub number_is : start.text ≡ number
   pub within : start.offset ≤ length text
-  pub line_is : start.line ≡ line_behind (take start.offset text)
-  pub column_is : start.column ≡ column_behind (take start.offset text)
+  pub line_is : start.line ≡ line_number (take start.offset text)
+  pub column_is : start.column ≡ column_number (take start.offset text)
   pub points : PointsTo name text line start.offset
 
 -- The result of looking for it in this text.
@@ -30,8 +30,8 @@ place_to text start at = record {
   line = start.line;
   column = start.column;
   offset = start.offset;
-  end_line = line_behind (take at text);
-  end_column = column_behind (take at text);
+  end_line = line_number (take at text);
+  end_column = column_number (take at text);
   end_offset = at;
 }
 
@@ -43,13 +43,13 @@ Stretches Ends text start place = (at : ℕ) × Ends start.offset at × (place �
 
 -- They are the line and the column after this many bytes of the text.
 abbrev pub AreOf : (text numbers : Text) → ℕ → Type 0
-AreOf text numbers at = is_some (after_numbers (line_behind (take at text)) (column_behind (take at text)) numbers) ≡ true
+AreOf text numbers at = is_some (after_numbers (line_number (take at text)) (column_number (take at text)) numbers) ≡ true
 
 pub record AreAt (number : ℕ) (text numbers : Text) (start : Start) : Type 0 where
   pub number_is : start.text ≡ number
   pub within : start.offset ≤ length text
-  pub line_is : start.line ≡ line_behind (take start.offset text)
-  pub column_is : start.column ≡ column_behind (take start.offset text)
+  pub line_is : start.line ≡ line_number (take start.offset text)
+  pub column_is : start.column ≡ column_number (take start.offset text)
   pub are : AreOf text numbers start.offset
 
 abbrev pub FindsIn : (number : ℕ) → (text numbers : Text) → Option Start → Type 0

@@ -1,7 +1,7 @@
 -- Where a line points.
 use Rattle.std.specs.Prelude.{ℕ, ◌≡◌, ◌≤◌, ◌++◌, length, take, codes, decimal}
 use Rattle.pc_lists.specs.Texts.{Text}
-use Rattle.pc_refusal_lines.specs.Place.{line_behind, column_behind}
+use Rattle.pc_refusal_lines.specs.Place.{line_number, column_number}
 use Rattle.pc_buffers.specs.Ends.{Ending}
 use Rattle.pc_buffers.specs.declared.place.Place.{Place}
 
@@ -15,19 +15,19 @@ BeginsWith line front = (rest : Text) × (line ≡ front ++ rest)
 
 -- The line points at the byte at this offset of the text with this name, or at the text's end.
 abbrev pub PointsTo : (name text line : Text) → ℕ → Type 0
-PointsTo name text line at = BeginsWith line (place_front name (line_behind (take at text)) (column_behind (take at text)))
+PointsTo name text line at = BeginsWith line (place_front name (line_number (take at text)) (column_number (take at text)))
 
 -- It points at this piece of the text with this number: at its first byte, and the piece ends where some piece that
 -- starts there ends.
 pub record PointsAt (number : ℕ) (name text : Text) (Ends : Ending) (line : Text) (place : Place) : Type 0 where
   pub number_is : place.text ≡ number
   pub within : place.offset ≤ length text
-  pub line_is : place.line ≡ line_behind (take place.offset text)
-  pub column_is : place.column ≡ column_behind (take place.offset text)
+  pub line_is : place.line ≡ line_number (take place.offset text)
+  pub column_is : place.column ≡ column_number (take place.offset text)
   pub points : PointsTo name text line place.offset
   pub ends : Ends place.offset place.end_offset
-  pub end_line_is : place.end_line ≡ line_behind (take place.end_offset text)
-  pub end_column_is : place.end_column ≡ column_behind (take place.end_offset text)
+  pub end_line_is : place.end_line ≡ line_number (take place.end_offset text)
+  pub end_column_is : place.end_column ≡ column_number (take place.end_offset text)
 
 -- It points neither at a byte of the text nor at its end.
 abbrev pub PointsNowhere : (name text line : Text) → Type 0

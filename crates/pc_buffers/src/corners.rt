@@ -1,6 +1,6 @@
 //! Lines and columns.
 ghost use Rattle.std.specs.Prelude.{◌≡◌, ◌<◌, ◌+◌, ◌^◌, cond, take};
-ghost use Rattle.pc_refusal_lines.specs.Place.{is_line_end, line_behind, column_behind};
+ghost use Rattle.pc_refusal_lines.specs.Place.{is_line_end, line_number, column_number};
 
 /// A line and a column, both counted from 1.
 #[derive(Clone, Copy, Debug)]
@@ -33,8 +33,8 @@ fn next_corner(corner: Corner, byte: u8) -> Corner
 
 // The corner after these bytes.
 fn corner_after(front: &[u8]) -> Corner
-    ensures line { result.line ≡ line_behind front.now }
-    ensures column { result.column ≡ column_behind front.now }
+    ensures line { result.line ≡ line_number front.now }
+    ensures column { result.column ≡ column_number front.now }
 {
     let mut corner = Corner { line: 1, column: 1 };
     for byte in front {
@@ -45,8 +45,8 @@ fn corner_after(front: &[u8]) -> Corner
 
 /// The corner after this number of bytes of a text, or at its end.
 pub fn corner_at(text: &[u8], offset: usize) -> Corner
-    ensures line { result.line ≡ line_behind (take offset text.now) }
-    ensures column { result.column ≡ column_behind (take offset text.now) }
+    ensures line { result.line ≡ line_number (take offset text.now) }
+    ensures column { result.column ≡ column_number (take offset text.now) }
 {
     corner_after(&text[..offset.min(text.len())])
 }

@@ -39,7 +39,7 @@ use Rattle.pc_call.proofs.Readings.{derivation_as, file_of, number_as, parts_as,
 
 -- the file of a name, which may be missing
 abbrev seen : Text → Option Text → ℕ → Named
-seen name bytes taken = record { name = name; told = Some (unwrap_or bytes []); before = 0; now = 0; taken = taken }
+seen name bytes taken = record { name = name; known = Some (unwrap_or bytes []); before = 0; now = 0; taken = taken }
 
 -- The words ask for this, and its verdict is one on the file of the source.
 alone : (Is : Named → Verdict → Type 0) (asked : Asked) (words : List Text) (source : Text) → command_of words ≡ Some asked

@@ -20,7 +20,7 @@ use Rattle.pc_call.specs.Verdicts.{derivation_file, schedule_file, source_file}
 
 -- The file with this name and these bytes, of which the last reading took this many.
 abbrev pub file_of : Text → Text → ℕ → Named
-file_of name bytes taken = record { name = name; told = Some bytes; before = 0; now = 0; taken = taken }
+file_of name bytes taken = record { name = name; known = Some bytes; before = 0; now = 0; taken = taken }
 
 as_text : (name bytes : Text) (taken limit : ℕ) (r : Reading) → IsReadingOf (file_of name bytes taken) limit r → IsReadingOf (text_as name bytes) limit r
 as_text name bytes taken limit (whole b) h = h

@@ -40,25 +40,25 @@ text_fed law core bytes part new old after e f is h =
 
 -- ---- a part
 
-pub part_stopped : (core : CoreData) (told : Option (List ℕ)) (from : ℕ) (bytes part : List ℕ) (before now taken : ℕ) (new : StreamData) (a b : Option Pairs) (f : DerivationFault)
-    → PartFed core bytes part new a b (Err f) → PartTaken core told from bytes before now taken new a b (Err f)
-part_stopped core told from bytes part before now taken new a b fault.Failed h = absurd h
-part_stopped core told from bytes part before now taken new a b fault.TooLong h = absurd h
-part_stopped core told from bytes part before now taken new a b (fault.Text f) h = absurd h
-part_stopped core told from bytes part before now taken new a b (fault.Invalid f) h = absurd h
-part_stopped core told from bytes part before now taken new a b fault.Memory h = tt
+pub part_stopped : (core : CoreData) (known : Option (List ℕ)) (from : ℕ) (bytes part : List ℕ) (before now taken : ℕ) (new : StreamData) (a b : Option Pairs) (f : DerivationFault)
+    → PartFed core bytes part new a b (Err f) → PartTaken core known from bytes before now taken new a b (Err f)
+part_stopped core known from bytes part before now taken new a b fault.Failed h = absurd h
+part_stopped core known from bytes part before now taken new a b fault.TooLong h = absurd h
+part_stopped core known from bytes part before now taken new a b (fault.Text f) h = absurd h
+part_stopped core known from bytes part before now taken new a b (fault.Invalid f) h = absurd h
+part_stopped core known from bytes part before now taken new a b fault.Memory h = tt
 
 -- how many bytes of the file there are if a part has this many
 part_length : (from : ℕ) (t part : List ℕ) → part ≡ take part_size (drop from t) → length part ≡ min part_size (length t - from)
 part_length from t part e = ap (λ (x : List ℕ). length x) e ∙ length-take part_size (drop from t) ∙ ap (λ n. min part_size n) (length-drop from t)
 
-longer_by : (told : Option (List ℕ)) (part : List ℕ) → 0 < length part → IfSome told (λ t. part ≡ take part_size (drop derivation_limit t)) → IfSome told (λ t. derivation_limit < length t)
+longer_by : (known : Option (List ℕ)) (part : List ℕ) → 0 < length part → IfSome known (λ t. part ≡ take part_size (drop derivation_limit t)) → IfSome known (λ t. derivation_limit < length t)
 longer_by None part l h = tt
 longer_by (Some t) part l h = let e = part_length derivation_limit t part h in omega (arith, e, l)
 
-pub too_long : (told : Option (List ℕ)) (from taken : ℕ) (part : List ℕ) → from ≡ derivation_limit → 0 < length part → IsPartAt told from part → taken ≡ length part
-    → (0 < taken) × IfSome told (λ t. derivation_limit < length t)
-too_long told from taken part e l h s = (omega (arith, s, l), longer_by told part l (subst (λ n. IfSome told (λ t. part ≡ take part_size (drop n t))) e h.1))
+pub too_long : (known : Option (List ℕ)) (from taken : ℕ) (part : List ℕ) → from ≡ derivation_limit → 0 < length part → IsPartAt known from part → taken ≡ length part
+    → (0 < taken) × IfSome known (λ t. derivation_limit < length t)
+too_long known from taken part e l h s = (omega (arith, s, l), longer_by known part l (subst (λ n. IfSome known (λ t. part ≡ take part_size (drop n t))) e h.1))
 
 pub not_past : (from : ℕ) (part : List ℕ) (past : Bool) → past ≡ false → ((from ≡ derivation_limit) × (0 < length part) → past ≡ true) → from ≡ derivation_limit → length part ≡ 0
 not_past from part past e f at = elim (cases_lt 0 (length part)) [ inl l ↦ absurd (both_ways past e (f (at, l))) | inr l ↦ omega (arith, l) ]
@@ -82,7 +82,7 @@ size_of from n part s l none m = size_by from n part (nat_eq n part_size) refl s
 
 -- ---- all parts
 
-front_on : (told : Option (List ℕ)) (from : ℕ) (bytes part : List ℕ) → IfSome told (λ t. bytes ≡ take from t) → IfSome told (λ t. part ≡ take part_size (drop from t)) → IfSome told (λ t. bytes ++ part ≡ take (from + part_size) t)
+front_on : (known : Option (List ℕ)) (from : ℕ) (bytes part : List ℕ) → IfSome known (λ t. bytes ≡ take from t) → IfSome known (λ t. part ≡ take part_size (drop from t)) → IfSome known (λ t. bytes ++ part ≡ take (from + part_size) t)
 front_on None from bytes part h k = tt
 front_on (Some t) from bytes part h k = ap (λ (x : List ℕ). x ++ part) h ∙ ap (λ (x : List ℕ). take from t ++ x) k ∙ sym (take-add from part_size t)
 
@@ -92,18 +92,18 @@ take_all [] (suc n) l = refl
 take_all (x ∷ xs) zero l = absurd (omega (arith, l))
 take_all (x ∷ xs) (suc n) l = let k : length xs ≤ n = omega (arith, l) in ap (λ ys. x ∷ ys) (take_all xs n k)
 
-whole_by : (told : Option (List ℕ)) (from : ℕ) (bytes part : List ℕ) → length part < part_size → IfSome told (λ t. part ≡ take part_size (drop from t)) → IfSome told (λ t. bytes ++ part ≡ take (from + part_size) t) → IfSome told (λ t. bytes ++ part ≡ t)
+whole_by : (known : Option (List ℕ)) (from : ℕ) (bytes part : List ℕ) → length part < part_size → IfSome known (λ t. part ≡ take part_size (drop from t)) → IfSome known (λ t. bytes ++ part ≡ take (from + part_size) t) → IfSome known (λ t. bytes ++ part ≡ t)
 whole_by None from bytes part l k h = tt
 whole_by (Some t) from bytes part l k h = let e = part_length from t part k in h ∙ take_all t (from + part_size) (omega (arith, e, l))
 
 -- The first parts, which are full.
-pub record Fulls (core : CoreData) (told : Option (List ℕ)) (from : ℕ) (stream : StreamData) (a b : Option Pairs) : Type 0 where
+pub record Fulls (core : CoreData) (known : Option (List ℕ)) (from : ℕ) (stream : StreamData) (a b : Option Pairs) : Type 0 where
   pub count : ℕ
   pub place : from ≡ count * part_size
   pub within : from ≤ derivation_limit
-  pub read : PartsRead core told from stream a b
+  pub read : PartsRead core known from stream a b
 
-front_none : (told : Option (List ℕ)) → IfSome told (λ t. [] ≡ take 0 t)
+front_none : (known : Option (List ℕ)) → IfSome known (λ t. [] ≡ take 0 t)
 front_none None = tt
 front_none (Some []) = refl
 front_none (Some (x ∷ t)) = refl
@@ -115,19 +115,19 @@ asks_none core (Some p) is = ([], is, ap Some (sym (append-nil p)))
 none_asked : (core : CoreData) → IsAsked core [] []
 none_asked core = record { count = 0; within = omega arith; exact = λ k l. absurd (omega (arith, l)); are = refl }
 
-pub no_parts : (core : CoreData) (told : Option (List ℕ)) (s : StreamData) (a : Option Pairs) → IsFed core [] s → Fulls core told 0 s a a
-no_parts core told s a fed = record {
+pub no_parts : (core : CoreData) (known : Option (List ℕ)) (s : StreamData) (a : Option Pairs) → IsFed core [] s → Fulls core known 0 s a a
+no_parts core known s a fed = record {
   count = 0;
   place = omega arith;
   within = omega arith;
-  read = record { bytes = []; size = refl; front = front_none told; fed = fed; asks = asks_none core a (none_asked core) };
+  read = record { bytes = []; size = refl; front = front_none known; fed = fed; asks = asks_none core a (none_asked core) };
 }
 
-module _ (core : CoreData) (told : Option (List ℕ)) (from : ℕ) (s : StreamData) (a b : Option Pairs) (so : Fulls core told from s a b)
+module _ (core : CoreData) (known : Option (List ℕ)) (from : ℕ) (s : StreamData) (a b : Option Pairs) (so : Fulls core known from s a b)
     (before now taken : ℕ) (new : StreamData) (c : Option Pairs) where
-  pub next_part : (full : Bool) → full ≡ true → PartTaken core told from so.read.bytes before now taken new b c (Ok full) → Fulls core told (from + part_size) new a c
+  pub next_part : (full : Bool) → full ≡ true → PartTaken core known from so.read.bytes before now taken new b c (Ok full) → Fulls core known (from + part_size) new a c
   next_part full e k =
-      let h : PartTaken core told from so.read.bytes before now taken new b c (Ok true) = subst (λ x. PartTaken core told from so.read.bytes before now taken new b c (Ok x)) e k in
+      let h : PartTaken core known from so.read.bytes before now taken new b c (Ok true) = subst (λ x. PartTaken core known from so.read.bytes before now taken new b c (Ok x)) e k in
       let both = length-append so.read.bytes h.0 in
       let size = so.read.size in
       let part = h.2.0 in
@@ -140,15 +140,15 @@ module _ (core : CoreData) (told : Option (List ℕ)) (from : ℕ) (s : StreamDa
         read = record {
           bytes = so.read.bytes ++ h.0;
           size = omega (arith, both, size, part);
-          front = front_on told from so.read.bytes h.0 so.read.front h.1.1;
+          front = front_on known from so.read.bytes h.0 so.read.front h.1.1;
           fed = h.3.0;
           asks = h.3.1 a so.read.asks;
         };
       }
 
-  pub last_part : (full : Bool) → full ≡ false → PartTaken core told from so.read.bytes before now taken new b c (Ok full) → AllRead core told new a c
+  pub last_part : (full : Bool) → full ≡ false → PartTaken core known from so.read.bytes before now taken new b c (Ok full) → AllRead core known new a c
   last_part full e k =
-      let h : PartTaken core told from so.read.bytes before now taken new b c (Ok false) = subst (λ x. PartTaken core told from so.read.bytes before now taken new b c (Ok x)) e k in
+      let h : PartTaken core known from so.read.bytes before now taken new b c (Ok false) = subst (λ x. PartTaken core known from so.read.bytes before now taken new b c (Ok x)) e k in
       let both = length-append so.read.bytes h.0 in
       let size = so.read.size in
       let part = h.2.0 in
@@ -160,12 +160,12 @@ module _ (core : CoreData) (told : Option (List ℕ)) (from : ℕ) (s : StreamDa
       ] in
       record {
         bytes = so.read.bytes ++ h.0;
-        read = record { within = few; all = whole_by told from so.read.bytes h.0 h.2.0 h.1.1 (front_on told from so.read.bytes h.0 so.read.front h.1.1) };
+        read = record { within = few; all = whole_by known from so.read.bytes h.0 h.2.0 h.1.1 (front_on known from so.read.bytes h.0 so.read.front h.1.1) };
         fed = h.3.0;
         asks = h.3.1 a so.read.asks;
       }
 
-  pub parts_stopped : (f : DerivationFault) (earlier : ℕ) → earlier ≤ before → PartTaken core told from so.read.bytes before now taken new b c (Err f) → PartsEnd core told earlier now taken new a c (Err f)
+  pub parts_stopped : (f : DerivationFault) (earlier : ℕ) → earlier ≤ before → PartTaken core known from so.read.bytes before now taken new b c (Err f) → PartsEnd core known earlier now taken new a c (Err f)
   parts_stopped fault.Failed earlier l h = omega (arith, l, h)
   parts_stopped fault.TooLong earlier l h = h
   parts_stopped (fault.Text f) earlier l h = h
@@ -173,23 +173,23 @@ module _ (core : CoreData) (told : Option (List ℕ)) (from : ℕ) (s : StreamDa
   parts_stopped fault.Memory earlier l h = tt
 
 -- the same for what is known of the file at first
-pub part_of_same : (core : CoreData) (told later : Option (List ℕ)) (from : ℕ) (bytes : List ℕ) (before now taken : ℕ) (new : StreamData) (a b : Option Pairs) (r : Result Bool DerivationFault) → later ≡ told
-    → PartTaken core later from bytes before now taken new a b r → PartTaken core told from bytes before now taken new a b r
-part_of_same core told later from bytes before now taken new a b r e h = subst (λ (o : Option (List ℕ)). PartTaken core o from bytes before now taken new a b r) e h
+pub part_of_same : (core : CoreData) (known later : Option (List ℕ)) (from : ℕ) (bytes : List ℕ) (before now taken : ℕ) (new : StreamData) (a b : Option Pairs) (r : Result Bool DerivationFault) → later ≡ known
+    → PartTaken core later from bytes before now taken new a b r → PartTaken core known from bytes before now taken new a b r
+part_of_same core known later from bytes before now taken new a b r e h = subst (λ (o : Option (List ℕ)). PartTaken core o from bytes before now taken new a b r) e h
 
 -- ---- the end
 
-pub text_judged : (core : CoreData) (told : Option (List ℕ)) (before now taken : ℕ) (s : StreamData) (a b : Option Pairs) (f : LineFault) (x : StreamFault) → x ≡ stream.Text f → AllRead core told s a b → ((bytes : List ℕ) → IsFed core bytes s → EndsSo core bytes (Err x))
-    → FileJudged core told before now taken a b (Err (fault.Text f))
-text_judged core told before now taken s a b f x is h e =
+pub text_judged : (core : CoreData) (known : Option (List ℕ)) (before now taken : ℕ) (s : StreamData) (a b : Option Pairs) (f : LineFault) (x : StreamFault) → x ≡ stream.Text f → AllRead core known s a b → ((bytes : List ℕ) → IsFed core bytes s → EndsSo core bytes (Err x))
+    → FileJudged core known before now taken a b (Err (fault.Text f))
+text_judged core known before now taken s a b f x is h e =
     let ends : EndsSo core h.bytes (Err (stream.Text f)) = subst (λ (y : StreamFault). EndsSo core h.bytes (Err y)) is (e h.bytes h.fed) in
     (h.bytes, h.read, ends, h.asks)
 
-pub invalid_judged : (core : CoreData) (told : Option (List ℕ)) (before now taken : ℕ) (s : StreamData) (a b : Option Pairs) (f : JudgeFault) (x : StreamFault) → x ≡ stream.Invalid f → AllRead core told s a b → ((bytes : List ℕ) → IsFed core bytes s → EndsSo core bytes (Err x))
-    → FileJudged core told before now taken a b (Err (fault.Invalid f))
-invalid_judged core told before now taken s a b f x is h e =
+pub invalid_judged : (core : CoreData) (known : Option (List ℕ)) (before now taken : ℕ) (s : StreamData) (a b : Option Pairs) (f : JudgeFault) (x : StreamFault) → x ≡ stream.Invalid f → AllRead core known s a b → ((bytes : List ℕ) → IsFed core bytes s → EndsSo core bytes (Err x))
+    → FileJudged core known before now taken a b (Err (fault.Invalid f))
+invalid_judged core known before now taken s a b f x is h e =
     let ends : EndsSo core h.bytes (Err (stream.Invalid f)) = subst (λ (y : StreamFault). EndsSo core h.bytes (Err y)) is (e h.bytes h.fed) in
     (h.bytes, h.read, ends, h.asks)
 
-pub read_of : (core k : CoreData) (told : Option (List ℕ)) (s : StreamData) (a b : Option Pairs) → k ≡ core → AllRead k told s a b → AllRead core told s a b
-read_of core k told s a b e h = subst (λ q. AllRead q told s a b) e h
+pub read_of : (core k : CoreData) (known : Option (List ℕ)) (s : StreamData) (a b : Option Pairs) → k ≡ core → AllRead k known s a b → AllRead core known s a b
+read_of core k known s a b e h = subst (λ q. AllRead q known s a b) e h

@@ -24,38 +24,38 @@ AsksNodes core bytes None after = after ≡ None
 AsksNodes core bytes (Some pairs) after = (more : Pairs) × IsAsked core (lines_in bytes) more × (after ≡ Some (pairs ++ more))
 
 -- The whole file was read: these are all its bytes, if they are known, and not more than a derivation may have.
-pub record ReadWhole (told : Option (List ℕ)) (bytes : List ℕ) : Type 0 where
+pub record ReadWhole (known : Option (List ℕ)) (bytes : List ℕ) : Type 0 where
   pub within : length bytes ≤ derivation_limit
-  pub all : IfSome told (λ t. bytes ≡ t)
+  pub all : IfSome known (λ t. bytes ≡ t)
 
 -- How judging a file ended, depending on what is known of the file, on how often reading it had failed before and after
 -- the call, on how many bytes the last part had, and on the referee's list.
 abbrev pub FileJudged : CoreData → Option (List ℕ) → (before now taken : ℕ) → Option Pairs → Option Pairs → Result (Unit {0}) DerivationFault → Type 0
-FileJudged core told before now taken old new (Ok _) =
-    (bytes : List ℕ) × ReadWhole told bytes × ((ann : Ann) × IsText bytes ann × Valid core ann) × AsksNodes core bytes old new
-FileJudged core told before now taken old new (Err (fault.Text f)) = (bytes : List ℕ) × ReadWhole told bytes × IsFault bytes (as_read f) × AsksNodes core bytes old new
-FileJudged core told before now taken old new (Err (fault.Invalid f)) =
-    (bytes : List ℕ) × ReadWhole told bytes × ((ann : Ann) × IsText bytes ann × FirstAnnotationFault core ann f) × AsksNodes core bytes old new
+FileJudged core known before now taken old new (Ok _) =
+    (bytes : List ℕ) × ReadWhole known bytes × ((ann : Ann) × IsText bytes ann × Valid core ann) × AsksNodes core bytes old new
+FileJudged core known before now taken old new (Err (fault.Text f)) = (bytes : List ℕ) × ReadWhole known bytes × IsFault bytes (as_read f) × AsksNodes core bytes old new
+FileJudged core known before now taken old new (Err (fault.Invalid f)) =
+    (bytes : List ℕ) × ReadWhole known bytes × ((ann : Ann) × IsText bytes ann × FirstAnnotationFault core ann f) × AsksNodes core bytes old new
 -- Its faults rose.
-FileJudged core told before now taken old new (Err fault.Failed) = before < now
+FileJudged core known before now taken old new (Err fault.Failed) = before < now
 -- The part after the greatest number of bytes of a derivation is not empty.
-FileJudged core told before now taken old new (Err fault.TooLong) = (0 < taken) × IfSome told (λ t. derivation_limit < length t)
-FileJudged core told before now taken old new (Err fault.Memory) = Unit {0}
+FileJudged core known before now taken old new (Err fault.TooLong) = (0 < taken) × IfSome known (λ t. derivation_limit < length t)
+FileJudged core known before now taken old new (Err fault.Memory) = Unit {0}
 
 -- ---- the parts
 
 -- The first bytes of a file were read and fed.
-pub record PartsRead (core : CoreData) (told : Option (List ℕ)) (from : ℕ) (stream : StreamData) (old new : Option Pairs) : Type 0 where
+pub record PartsRead (core : CoreData) (known : Option (List ℕ)) (from : ℕ) (stream : StreamData) (old new : Option Pairs) : Type 0 where
   pub bytes : List ℕ
   pub size : length bytes ≡ from
-  pub front : IfSome told (λ t. bytes ≡ take from t)
+  pub front : IfSome known (λ t. bytes ≡ take from t)
   pub fed : IsFed core bytes stream
   pub asks : AsksNodes core bytes old new
 
 -- All of the file was read and fed.
-pub record AllRead (core : CoreData) (told : Option (List ℕ)) (stream : StreamData) (old new : Option Pairs) : Type 0 where
+pub record AllRead (core : CoreData) (known : Option (List ℕ)) (stream : StreamData) (old new : Option Pairs) : Type 0 where
   pub bytes : List ℕ
-  pub read : ReadWhole told bytes
+  pub read : ReadWhole known bytes
   pub fed : IsFed core bytes stream
   pub asks : AsksNodes core bytes old new
 
@@ -70,7 +70,7 @@ PartFed core bytes part new old after (Err fault.Memory) = Unit {0}
 
 -- What is read if a part begins at this place.
 abbrev pub IsPartAt : Option (List ℕ) → ℕ → List ℕ → Type 0
-IsPartAt told from part = (length part ≤ part_size) × IfSome told (λ t. part ≡ take part_size (drop from t))
+IsPartAt known from part = (length part ≤ part_size) × IfSome known (λ t. part ≡ take part_size (drop from t))
 
 -- Why no part was read.
 abbrev pub NoPart : (before now : ℕ) → DerivationFault → Type 0
@@ -87,18 +87,18 @@ Size from part false = (length part < part_size) × (from ≡ derivation_limit �
 
 -- A part was read and fed after these bytes.
 abbrev pub PartTaken : CoreData → Option (List ℕ) → (from : ℕ) → List ℕ → (before now taken : ℕ) → StreamData → Option Pairs → Option Pairs → Result Bool DerivationFault → Type 0
-PartTaken core told from bytes before now taken new old after (Ok full) = (part : List ℕ) × IsPartAt told from part × Size from part full × PartFed core bytes part new old after (Ok tt)
-PartTaken core told from bytes before now taken new old after (Err fault.Failed) = before < now
-PartTaken core told from bytes before now taken new old after (Err fault.TooLong) = (0 < taken) × IfSome told (λ t. derivation_limit < length t)
-PartTaken core told from bytes before now taken new old after (Err (fault.Text f)) = ⊥
-PartTaken core told from bytes before now taken new old after (Err (fault.Invalid f)) = ⊥
-PartTaken core told from bytes before now taken new old after (Err fault.Memory) = Unit {0}
+PartTaken core known from bytes before now taken new old after (Ok full) = (part : List ℕ) × IsPartAt known from part × Size from part full × PartFed core bytes part new old after (Ok tt)
+PartTaken core known from bytes before now taken new old after (Err fault.Failed) = before < now
+PartTaken core known from bytes before now taken new old after (Err fault.TooLong) = (0 < taken) × IfSome known (λ t. derivation_limit < length t)
+PartTaken core known from bytes before now taken new old after (Err (fault.Text f)) = ⊥
+PartTaken core known from bytes before now taken new old after (Err (fault.Invalid f)) = ⊥
+PartTaken core known from bytes before now taken new old after (Err fault.Memory) = Unit {0}
 
 -- How reading all parts ended.
 abbrev pub PartsEnd : CoreData → Option (List ℕ) → (before now taken : ℕ) → StreamData → Option Pairs → Option Pairs → Result (Unit {0}) DerivationFault → Type 0
-PartsEnd core told before now taken new old after (Ok _) = AllRead core told new old after
-PartsEnd core told before now taken new old after (Err fault.Failed) = before < now
-PartsEnd core told before now taken new old after (Err fault.TooLong) = (0 < taken) × IfSome told (λ t. derivation_limit < length t)
-PartsEnd core told before now taken new old after (Err (fault.Text f)) = ⊥
-PartsEnd core told before now taken new old after (Err (fault.Invalid f)) = ⊥
-PartsEnd core told before now taken new old after (Err fault.Memory) = Unit {0}
+PartsEnd core known before now taken new old after (Ok _) = AllRead core known new old after
+PartsEnd core known before now taken new old after (Err fault.Failed) = before < now
+PartsEnd core known before now taken new old after (Err fault.TooLong) = (0 < taken) × IfSome known (λ t. derivation_limit < length t)
+PartsEnd core known before now taken new old after (Err (fault.Text f)) = ⊥
+PartsEnd core known before now taken new old after (Err (fault.Invalid f)) = ⊥
+PartsEnd core known before now taken new old after (Err fault.Memory) = Unit {0}

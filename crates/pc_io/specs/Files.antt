@@ -7,7 +7,7 @@ use Rattle.pc_io.specs.declared.bytes.Bytes.{Bytes}
 
 -- if the bytes are known and no failure of the name was counted, there are more bytes than the limit
 abbrev pub TooLongOnly : (limit : ℕ) → Option (List ℕ) → (before now : ℕ) → Type 0
-TooLongOnly limit bytes before now = now ≡ before → IfSome bytes (λ told. limit < length told)
+TooLongOnly limit bytes before now = now ≡ before → IfSome bytes (λ known. limit < length known)
 
 -- a read of these bytes took `taken` of them, and returns them all, or refuses them as more than the limit
 abbrev pub IsCopy : List ℕ → (limit taken : ℕ) → Result Bytes FileFault → Type 0

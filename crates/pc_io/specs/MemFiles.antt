@@ -42,7 +42,7 @@ after_read store name limit (Err Memory) = record store { next_call = one_more s
 
 -- The same for a call that reads a part, which is never too long.
 abbrev pub IsPartOf : Store → List ℕ → (from limit : ℕ) → Result Bytes FileFault → Type 0
-IsPartOf store name from limit (Ok bytes) = (fails_next store ≡ false) × IsSomeAnd (held store.entries name) (λ told. bytes ≡ part_of told from limit)
+IsPartOf store name from limit (Ok bytes) = (fails_next store ≡ false) × IsSomeAnd (held store.entries name) (λ known. bytes ≡ part_of known from limit)
 IsPartOf store name from limit (Err TooLong) = ⊥
 IsPartOf store name from limit (Err Failed) = fails_next store ≡ false → held store.entries name ≡ None
 IsPartOf store name from limit (Err Memory) = ⊤

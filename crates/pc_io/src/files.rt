@@ -63,14 +63,14 @@ pub trait Files {
         ensures at_most { taken self.new ≤ limit + 1 }
 
         // With Ok, the whole file is returned, and it is within the limit.
-        ensures all { IfOk result (λ b. IfSome (bytes self.old name.now) (λ told. b ≡ told)) }
+        ensures all { IfOk result (λ b. IfSome (bytes self.old name.now) (λ known. b ≡ known)) }
         ensures within { IfOk result (λ b. length b ≤ limit) }
         ensures whole { IfOk result (λ b. taken self.new ≡ length b) }
 
         // Each refusal has its cause.
         ensures failed { IsErrOf result FileFault.Failed → faults self.old name.now < faults self.new name.now }
         ensures longer { IsErrOf result FileFault.TooLong → limit < taken self.new }
-        ensures told { IsErrOf result FileFault.TooLong → TooLongOnly limit (bytes self.old name.now)
+        ensures known { IsErrOf result FileFault.TooLong → TooLongOnly limit (bytes self.old name.now)
             (faults self.old name.now) (faults self.new name.now) };
 
     /// The bytes of the file from `from` on, up to `limit` of them, allocated in `alloc`. No read changes what a name
@@ -90,7 +90,7 @@ pub trait Files {
         ensures at_most { taken self.new ≤ limit }
 
         // With Ok, this part of the file is returned.
-        ensures all { IfOk result (λ b. IfSome (bytes self.old name.now) (λ told. b ≡ part_of told from limit)) }
+        ensures all { IfOk result (λ b. IfSome (bytes self.old name.now) (λ known. b ≡ part_of known from limit)) }
         ensures within { IfOk result (λ b. length b ≤ limit) }
         ensures whole { IfOk result (λ b. taken self.new ≡ length b) }
 

@@ -68,7 +68,7 @@ impl<'a, R: rt::Files> Files for HostFiles<'a, R> {
         ensures names { self.new.failed ≡ failed_after self.old.failed name.now result }
 
         // As for all files: here the bytes are not known.
-        ensures all { IfOk result (λ b. IfSome None (λ told. b ≡ told)) }
+        ensures all { IfOk result (λ b. IfSome None (λ known. b ≡ known)) }
 
         // How much was taken.
         ensures within { IfOk result (λ b. length b ≤ limit) }
@@ -98,7 +98,7 @@ impl<'a, R: rt::Files> Files for HostFiles<'a, R> {
         ensures short { result ≢ Err FileFault.TooLong }
 
         // As for all files: here the bytes are not known.
-        ensures all { IfOk result (λ b. IfSome None (λ told. b ≡ part_of told from limit)) }
+        ensures all { IfOk result (λ b. IfSome None (λ known. b ≡ part_of known from limit)) }
 
         // How much was taken.
         ensures within { IfOk result (λ b. length b ≤ limit) }

@@ -25,7 +25,7 @@ before_next core ann n b p =
       shape = b.shape;
       written = b.written;
       rules = λ k l. elim (cases_lt k n) [ inl m ↦ b.rules k m | inr m ↦ let at : n ≡ k = omega (arith, l, m) in subst (MeetsRule core ann) at p.0 ];
-      sets = λ k l. elim (cases_lt k n) [ inl m ↦ b.sets k m | inr m ↦ let at : n ≡ k = omega (arith, l, m) in subst (spec.SetsBehind core ann) at p.1 ];
+      sets = λ k l. elim (cases_lt k n) [ inl m ↦ b.sets k m | inr m ↦ let at : n ≡ k = omega (arith, l, m) in subst (spec.SetsAfter core ann) at p.1 ];
     }
 
 pub before_all : (core : CoreData) (ann : Ann) (n : ℕ) → Formed core → n ≡ length core.nodes → spec.NothingWrongBefore core ann n → Valid core ann

@@ -70,7 +70,7 @@ no_fields set owner e i l =
     absurd (omega (arith, none, l))
 
 -- Of the nodes before node 3, the last is a body, after which no field is left, since there is none.
-set_behind : (n : ℕ) → n < 3 → spec.SetsBehind four_slots example.noted_as_ref n
+set_behind : (n : ℕ) → n < 3 → spec.SetsAfter four_slots example.noted_as_ref n
 set_behind n l zero x e body c b t there h =
     absurd (let bad : false ≡ true = subst (λ (y : Method). constructs y.kind ≡ true) (sym (same_Some _ x e)) ((constructs_iff x.kind).1 c) in cc)
 set_behind n l (suc zero) x e body c b t there h = subst (λ (y : Method). AllSet four_slots y.entity t.set_after) (same_Some _ x e) (no_fields t.set_after)
@@ -213,7 +213,7 @@ one_rules (suc zero) l = (
 )
 one_rules (suc (suc n)) l = absurd (omega (arith, l))
 
-no_body : (n : ℕ) → n < 2 → spec.SetsBehind example.one_field example.nothing_set n
+no_body : (n : ℕ) → n < 2 → spec.SetsAfter example.one_field example.nothing_set n
 no_body n l zero x e body = let at : 2 ≡ n = same_Some 2 n (ap (λ (y : Method). y.body) (same_Some _ x e) ∙ body) in absurd (omega (arith, at, l))
 no_body n l (suc m) x e body = absurd (none-some x e)
 

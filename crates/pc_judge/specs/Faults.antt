@@ -30,8 +30,8 @@ FirstWrong core ann k =
     × ((j : ℕ) (y : Slot) → j < k → slice_get core.slots j ≡ Some y → KeepsType ann j y)
 
 -- After node n, if it is the body of a constructor, all fields are set.
-abbrev pub SetsBehind : CoreData → Ann → ℕ → Type 0
-SetsBehind core ann n = Each (λ m x. x.body ≡ Some n → SetsFields core ann x) core.methods
+abbrev pub SetsAfter : CoreData → Ann → ℕ → Type 0
+SetsAfter core ann n = Each (λ m x. x.body ≡ Some n → SetsFields core ann x) core.methods
 
 -- There is no fault before node n.
 pub record NothingWrongBefore (core : CoreData) (ann : Ann) (n : ℕ) : Type 0 where
@@ -39,7 +39,7 @@ pub record NothingWrongBefore (core : CoreData) (ann : Ann) (n : ℕ) : Type 0 w
   pub shape : HasShape core ann
   pub written : KeepsWritten core ann
   pub rules : (k : ℕ) → k < n → MeetsRule core ann k
-  pub sets : (k : ℕ) → k < n → SetsBehind core ann k
+  pub sets : (k : ℕ) → k < n → SetsAfter core ann k
 
 -- There is no fault before node n, and the node does not satisfy its rule.
 abbrev pub FailsRule : CoreData → Ann → ℕ → Type 0
@@ -64,7 +64,7 @@ FirstAnnotationFault core ann (fault.Unset m) = LeavesUnset core ann m
 
 -- There is no fault at node n.
 abbrev pub NodePasses : CoreData → Ann → ℕ → Type 0
-NodePasses core ann n = MeetsRule core ann n × SetsBehind core ann n
+NodePasses core ann n = MeetsRule core ann n × SetsAfter core ann n
 
 -- Node n has this fault.
 abbrev pub FailsAt : CoreData → Ann → ℕ → JudgeFault → Type 0

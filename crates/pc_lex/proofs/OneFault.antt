@@ -9,7 +9,7 @@ use Rattle.pc_lex.specs.Bytes.{first_test, begins, open_mark}
 use Rattle.pc_lex.specs.Texts.{is_quote, begins_doc, NeverEnds, BadEscapeIn}
 use Rattle.pc_lex.specs.TextReading.{text_behind, unescape}
 use Rattle.pc_lex.specs.Reading.{between}
-use Rattle.pc_lex.specs.Pieces.{OpensCommentOrText, Piece, gap, token, IsToken, NoPiece, Pieces, count, Faulty, FaultBehind, TokenBehind, FirstLexFault}
+use Rattle.pc_lex.specs.Pieces.{OpensCommentOrText, Piece, gap, token, IsToken, NoPiece, Pieces, count, Faulty, FaultAfter, TokenAfter, FirstLexFault}
 use Rattle.pc_lex.proofs.Longest.{quote_none}
 use Rattle.pc_lex.proofs.QuoteEnds.{behind_covered}
 use Rattle.pc_lex.proofs.QuotedBytes.{no_doc, doc_quote, quote_cut}
@@ -127,23 +127,23 @@ none_of rest at (fault.BadEscape p) h = h.2
 none_of rest at (fault.TooMany p) h = absurd h
 none_of rest at fault.Memory h = absurd h
 
-told_one : (text : List ℕ) (f g : LexFault) → FaultBehind text f → FaultBehind text g → f ≡ g
+told_one : (text : List ℕ) (f g : LexFault) → FaultAfter text f → FaultAfter text g → f ≡ g
 told_one text f g h i =
     let same = same_stop h.0 i.0 text h.1 i.1 h.3 i.3 (none_of h.1 h.2 f h.6) (none_of i.1 i.2 g i.6) in
     let place : h.2 ≡ i.2 = omega (arith, h.5, i.5, ap length same.1) in
     faulty_is h.1 h.2 f h.6 ∙ ap₂ (λ r a. fault_of r a) same.1 place ∙ sym (faulty_is i.1 i.2 g i.6)
 
-told_many : (text : List ℕ) (f : LexFault) (p : ℕ) → FaultBehind text f → TokenBehind text p → ⊥
+told_many : (text : List ℕ) (f : LexFault) (p : ℕ) → FaultAfter text f → TokenAfter text p → ⊥
 told_many text f p h i = never_both i.1 i.2 i.3 i.5 i.0 h.0 text h.1 i.4 h.3 (none_of h.1 h.2 f h.6) (omega (arith, h.4, i.6))
 
-many_many : (text : List ℕ) (p q : ℕ) → TokenBehind text p → TokenBehind text q → p ≡ q
+many_many : (text : List ℕ) (p q : ℕ) → TokenAfter text p → TokenAfter text q → p ≡ q
 many_many text p q h i =
     let same = many_one h.1 h.2 h.3 h.5 h.0 i.0 text i.1 i.2 i.3 h.4 i.4 i.5 (omega (arith, h.6, i.6)) in
     omega (arith, h.7, i.7, ap length same)
 
 -- too many tokens, or a fault at a place
 abbrev pub Cases : List ℕ → LexFault → Type 0
-Cases text f = ((p : ℕ) × (f ≡ fault.TooMany p) × TokenBehind text p) ⊎ FaultBehind text f
+Cases text f = ((p : ℕ) × (f ≡ fault.TooMany p) × TokenAfter text p) ⊎ FaultAfter text f
 
 pub fault_cases : (text : List ℕ) (f : LexFault) → FirstLexFault text f → Cases text f
 fault_cases text (fault.TooMany p) h = inl (p, refl, h)

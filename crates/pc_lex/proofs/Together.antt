@@ -15,7 +15,7 @@ use Rattle.pc_lex.specs.declared.pieces.LexStop.TheVariants as stop
 use Rattle.pc_lex.specs.Limits.{token_limit}
 use Rattle.pc_lex.specs.Bytes.{first_test, begins, open_mark}
 use Rattle.pc_lex.specs.Texts.{is_quote}
-use Rattle.pc_lex.specs.Pieces.{OpensCommentOrText, Piece, gap, token, bytes_of, IsToken, Pieces, tokens_of, Tokens, count, Faulty, FaultBehind, TokenBehind}
+use Rattle.pc_lex.specs.Pieces.{OpensCommentOrText, Piece, gap, token, bytes_of, IsToken, Pieces, tokens_of, Tokens, count, Faulty, FaultAfter, TokenAfter}
 use Rattle.pc_lex.specs.Pieces.{FirstLexFault}
 use Rattle.pc_lex.specs.Answers.{TokenList, RefusesTokens, AnswersTokens}
 use Rattle.pc_lex.specs.Reading.{piece_at, step_of, is_gap, Steps}
@@ -52,7 +52,7 @@ module _ (kind : TokenKind) (b rest : List ℕ) (is : IsToken kind b rest) where
       let one = piece_one p q h.0 i.0 (sym h.1 ∙ i.1) h.2 i.2 in
       count_step p q ps qs one.0 (more_tokens ps qs h.0 h.3 (subst (λ l. Pieces l qs []) (sym one.1) i.3))
 
-too_long : (text : List ℕ) (ts : List Token) (p : ℕ) → Tokens text ts → TokenBehind text p → token_limit + 1 < length ts
+too_long : (text : List ℕ) (ts : List Token) (p : ℕ) → Tokens text ts → TokenAfter text p → token_limit + 1 < length ts
 too_long text ts p h i =
     let more = more_tokens i.1 i.2 i.3 i.5 i.0 h.0 text i.4 h.1 in
     omega (arith, more, i.6, ap length h.2, made_count h.0 0 true)
@@ -82,7 +82,7 @@ faulty_some rest at (fault.BadEscape p) h = omega (arith, ap length h.4.2)
 faulty_some rest at (fault.TooMany p) h = absurd h
 faulty_some rest at fault.Memory h = absurd h
 
-no_list_behind : (text : List ℕ) (ts : List Token) (f : LexFault) → Tokens text ts → FaultBehind text f → ⊥
+no_list_behind : (text : List ℕ) (ts : List Token) (f : LexFault) → Tokens text ts → FaultAfter text f → ⊥
 no_list_behind text ts f h i = not_both h.0 i.0 text i.1 h.1 i.3 (faulty_some i.1 i.2 f i.6) (none_of i.1 i.2 f i.6)
 
 no_list_cases : (text : List ℕ) (ts : List Token) (f : LexFault) → ((p : ℕ) → f ≡ fault.TooMany p → ⊥) → Tokens text ts → Cases text f → ⊥

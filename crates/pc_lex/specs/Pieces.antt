@@ -153,14 +153,14 @@ Faulty text at (fault.TooMany p) = ⊥
 Faulty text at fault.Memory = ⊥
 
 -- Whole pieces, at most the limit of tokens among them, and then a fault.
-abbrev pub FaultBehind : List ℕ → LexFault → Type 0
-FaultBehind text f = (ps : List Piece) × (rest : List ℕ) × (at : ℕ) × Pieces text ps rest × (count ps ≤ token_limit) × (at + length rest ≡ length text) × Faulty rest at f
+abbrev pub FaultAfter : List ℕ → LexFault → Type 0
+FaultAfter text f = (ps : List Piece) × (rest : List ℕ) × (at : ℕ) × Pieces text ps rest × (count ps ≤ token_limit) × (at + length rest ≡ length text) × Faulty rest at f
 
 -- Whole pieces, the greatest number of tokens among them, and then one more token.
-abbrev pub TokenBehind : List ℕ → ℕ → Type 0
-TokenBehind text p = (ps : List Piece) × (kind : TokenKind) × (b rest : List ℕ) × Pieces text ps (b ++ rest) × IsToken kind b rest × (count ps ≡ token_limit) × (p + length (b ++ rest) ≡ length text)
+abbrev pub TokenAfter : List ℕ → ℕ → Type 0
+TokenAfter text p = (ps : List Piece) × (kind : TokenKind) × (b rest : List ℕ) × Pieces text ps (b ++ rest) × IsToken kind b rest × (count ps ≡ token_limit) × (p + length (b ++ rest) ≡ length text)
 
 -- The first fault of a text. Running out of memory is not one.
 abbrev pub FirstLexFault : List ℕ → LexFault → Type 0
-FirstLexFault text (fault.TooMany p) = TokenBehind text p
-FirstLexFault text f = FaultBehind text f
+FirstLexFault text (fault.TooMany p) = TokenAfter text p
+FirstLexFault text f = FaultAfter text f

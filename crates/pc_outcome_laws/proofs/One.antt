@@ -49,25 +49,25 @@ module _ (one : ListsAreOne) (core : CoreData) where
 
   not_told : (count seed : ℕ) (es : List Entry) → seed < count → IsOutcomesTable core count es → StepsPass core seed → ⊥
   not_told count seed es l t s =
-      let w = with_play seed count s.told.plays s.play t.plays l s.told.are s.is t.are in
-      let grow = steps_grow s.told.plays s.play w.0 in
+      let w = with_play seed count s.table.plays s.play t.plays l s.table.are s.is t.are in
+      let grow = steps_grow s.table.plays s.play w.0 in
       let few = t.few_steps in
-      let same : total_steps t.plays ≡ total_steps (s.told.plays ++ s.play ∷ w.0) = ap total_steps w.1 in
+      let same : total_steps t.plays ≡ total_steps (s.table.plays ++ s.play ∷ w.0) = ap total_steps w.1 in
       let past = s.passes in
       omega (arith, grow, few, same, past)
 
   not_told_texts : (count seed : ℕ) (es : List Entry) → seed < count → IsOutcomesTable core count es → TextsPass core seed → ⊥
   not_told_texts count seed es l t s =
-      let w = with_play seed count s.told.plays s.play t.plays l s.told.are s.is t.are in
+      let w = with_play seed count s.table.plays s.play t.plays l s.table.are s.is t.are in
       let are = subst (λ (x : List Play). AreEntries x es) w.1 t.entries_are in
-      let grow = texts_grow s.told.plays s.play w.0 s.entries es s.told.entries_are are s.new in
+      let grow = texts_grow s.table.plays s.play w.0 s.entries es s.table.entries_are are s.new in
       let few = t.few_bytes in
       let past = s.passes in
       omega (arith, grow, few, past)
 
   not_both : (seed : ℕ) → StepsPass core seed → TextsPass core seed → ⊥
   not_both seed s t =
-      let plays = ap total_steps (same_plays seed s.told.plays t.told.plays s.told.are t.told.are) in
+      let plays = ap total_steps (same_plays seed s.table.plays t.table.plays s.table.are t.table.are) in
       let own = ap (λ (p : Play). p.steps) (one_play one core seed s.play t.play s.is t.is) in
       let past = s.passes in
       let within = t.within in
@@ -82,18 +82,18 @@ module _ (one : ListsAreOne) (core : CoreData) where
   -- ---- the seed
 
   steps_steps : (a b : ℕ) → StepsPass core a → StepsPass core b → (a < b) ⊎ (b ≤ a) → (b < a) ⊎ (a ≤ b) → a ≡ b
-  steps_steps a b s t (inl l) q = absurd (not_told b a t.entries l t.told s)
-  steps_steps a b s t (inr l) (inl m) = absurd (not_told a b s.entries m s.told t)
+  steps_steps a b s t (inl l) q = absurd (not_told b a t.entries l t.table s)
+  steps_steps a b s t (inr l) (inl m) = absurd (not_told a b s.entries m s.table t)
   steps_steps a b s t (inr l) (inr m) = omega (arith, l, m)
 
   texts_texts : (a b : ℕ) → TextsPass core a → TextsPass core b → (a < b) ⊎ (b ≤ a) → (b < a) ⊎ (a ≤ b) → a ≡ b
-  texts_texts a b s t (inl l) q = absurd (not_told_texts b a t.entries l t.told s)
-  texts_texts a b s t (inr l) (inl m) = absurd (not_told_texts a b s.entries m s.told t)
+  texts_texts a b s t (inl l) q = absurd (not_told_texts b a t.entries l t.table s)
+  texts_texts a b s t (inr l) (inl m) = absurd (not_told_texts a b s.entries m s.table t)
   texts_texts a b s t (inr l) (inr m) = omega (arith, l, m)
 
   steps_texts : (a b : ℕ) → StepsPass core a → TextsPass core b → (a < b) ⊎ (b ≤ a) → (b < a) ⊎ (a ≤ b) → ⊥
-  steps_texts a b s t (inl l) q = not_told b a t.entries l t.told s
-  steps_texts a b s t (inr l) (inl m) = not_told_texts a b s.entries m s.told t
+  steps_texts a b s t (inl l) q = not_told b a t.entries l t.table s
+  steps_texts a b s t (inr l) (inl m) = not_told_texts a b s.entries m s.table t
   steps_texts a b s t (inr l) (inr m) = not_both a s (subst (λ (k : ℕ). TextsPass core k) (omega (arith, l, m)) t)
 
 pub answers_are_one : ListsAreOne → AnswersAreOne

@@ -46,16 +46,16 @@ not_found p xs e = none_of p xs (nat_lt (position_or_len p xs) (length xs)) (pos
 -- ---- plays and entries
 
 module _ (core : CoreData) (seed : ℕ) (es : List Entry) (totals : Totals) (u : Under core seed es totals) (p : Play) (is : IsPlayOfSeed core seed p) where
-  steps_now : totals.steps + p.steps ≡ total_steps (u.told.plays ++ p ∷ [])
-  steps_now = ap (λ (n : ℕ). n + p.steps) u.steps ∙ sym (steps_push core seed es u.told p is)
+  steps_now : totals.steps + p.steps ≡ total_steps (u.table.plays ++ p ∷ [])
+  steps_now = ap (λ (n : ℕ). n + p.steps) u.steps ∙ sym (steps_push core seed es u.table p is)
 
   pub steps_pass : steps_limit < totals.steps + p.steps → StepsPass core seed
-  steps_pass l = record { entries = es; told = u.told; play = p; is = is; passes = let e = u.steps in omega (arith, e, l) }
+  steps_pass l = record { entries = es; table = u.table; play = p; is = is; passes = let e = u.steps in omega (arith, e, l) }
 
   pub texts_pass : totals.steps + p.steps ≤ steps_limit → position (λ e. shows_outcome e p) es ≡ None → texts_limit < totals.texts + length p.text → TextsPass core seed
   texts_pass s n l = record {
     entries = es;
-    told = u.told;
+    table = u.table;
     play = p;
     is = is;
     within = let e = u.steps in omega (arith, e, s);
@@ -64,17 +64,17 @@ module _ (core : CoreData) (seed : ℕ) (es : List Entry) (totals : Totals) (u :
   }
 
   module _ (s : totals.steps + p.steps ≤ steps_limit) where
-    few : total_steps u.told.plays + p.steps ≤ steps_limit
+    few : total_steps u.table.plays + p.steps ≤ steps_limit
     few = let e = u.steps in omega (arith, e, s)
 
     pub adds_new : position (λ e. shows_outcome e p) es ≡ None → totals.texts + length p.text ≤ texts_limit → Under core (seed + 1) (es ++ entry_of seed p ∷ []) (record { steps = totals.steps + p.steps; texts = totals.texts + length p.text })
     adds_new n l =
         let none = not_found (λ e. shows_outcome e p) es n in
-        subst (λ (k : ℕ). Under core (seed + 1) (es ++ entry_of k p ∷ []) (record { steps = totals.steps + p.steps; texts = totals.texts + length p.text })) u.told.are.all
+        subst (λ (k : ℕ). Under core (seed + 1) (es ++ entry_of k p ∷ []) (record { steps = totals.steps + p.steps; texts = totals.texts + length p.text })) u.table.are.all
         (record {
-          told = with_new core seed es u.told p is few none (let e = u.texts in omega (arith, e, l));
+          table = with_new core seed es u.table p is few none (let e = u.texts in omega (arith, e, l));
           steps = steps_now;
-          texts = let e = texts_new u.told.plays p es in let f = u.texts in omega (arith, e, f);
+          texts = let e = texts_new u.table.plays p es in let f = u.texts in omega (arith, e, f);
         })
 
     module _ (j : ℕ) (found : position (λ e. shows_outcome e p) es ≡ Some j) (e : Entry) (there : slice_get es j ≡ Some e) (now : List Entry) (set : now ≡ slice_set es j (one_more e)) where
@@ -84,16 +84,16 @@ module _ (core : CoreData) (seed : ℕ) (es : List Entry) (totals : Totals) (u :
       shown : list_any (λ f. shows_outcome f p) es ≡ true
       shown = let q = position-Some (λ f. shows_outcome f p) es j e found in list_any_at (λ f. shows_outcome f p) es j e q.0 q.1
 
-      now_is : now ≡ counted u.told.plays p es
-      now_is = let q = position-Some (λ f. shows_outcome f p) es j e found in set ∙ ap (λ (x : Entry). slice_set es j (one_more x)) (sym at) ∙ set_counted u.told.plays p es j e q.0 q.1 q.2
+      now_is : now ≡ counted u.table.plays p es
+      now_is = let q = position-Some (λ f. shows_outcome f p) es j e found in set ∙ ap (λ (x : Entry). slice_set es j (one_more x)) (sym at) ∙ set_counted u.table.plays p es j e q.0 q.1 q.2
 
       pub adds_again : Under core (seed + 1) now (record { steps = totals.steps + p.steps; texts = totals.texts })
       adds_again =
           subst (λ (x : List Entry). Under core (seed + 1) x (record { steps = totals.steps + p.steps; texts = totals.texts })) (sym now_is)
           (record {
-            told = with_shown core seed es u.told p is few shown;
+            table = with_shown core seed es u.table p is few shown;
             steps = steps_now;
-            texts = u.texts ∙ sym (texts_counted u.told.plays p es);
+            texts = u.texts ∙ sym (texts_counted u.table.plays p es);
           })
 
     module _ (j : ℕ) (found : position (λ e. shows_outcome e p) es ≡ Some j) (now : List Entry) where
@@ -115,7 +115,7 @@ few_in ps seed l (e ∷ es) a zero = let n = a.0.number in let c = count_by-le-l
 few_in ps seed l (e ∷ es) a (suc at) = few_in ps seed l es a.1 at
 
 pub numbers_few : (core : CoreData) (seed : ℕ) (es : List Entry) (totals : Totals) → Under core seed es totals → (at : ℕ) → IfSome (slice_get es at) (λ e. e.number ≤ seed)
-numbers_few core seed es totals u at = few_in u.told.plays seed (u.told.are.all) es u.told.entries_are.each at
+numbers_few core seed es totals u at = few_in u.table.plays seed (u.table.are.all) es u.table.entries_are.each at
 
 -- ---- before the first seed
 
@@ -123,7 +123,7 @@ pub begins : (core : CoreData) (es : List Entry) (totals : Totals) → es ≡ []
 begins core es totals e t =
     subst (λ (x : List Entry). Under core 0 x totals) (sym e)
     (subst (λ (x : Totals). Under core 0 [] x) (sym t)
-    (record { told = none_yet core; steps = refl; texts = refl }))
+    (record { table = none_yet core; steps = refl; texts = refl }))
 
 -- ---- the ways out
 

@@ -74,18 +74,18 @@ pub record IsOutcomesTable (core : CoreData) (count : ℕ) (entries : List Entry
 -- The plays have too many steps with the play of this seed, and do not without it.
 pub record StepsPass (core : CoreData) (seed : ℕ) : Type 0 where
   pub entries : List Entry
-  pub told : IsOutcomesTable core seed entries
+  pub table : IsOutcomesTable core seed entries
   pub play : Play
   pub is : IsPlayOfSeed core seed play
-  pub passes : steps_limit < total_steps told.plays + play.steps
+  pub passes : steps_limit < total_steps table.plays + play.steps
 
 -- This seed has a new outcome, with whose text the entries have too many bytes; without it they do not.
 pub record TextsPass (core : CoreData) (seed : ℕ) : Type 0 where
   pub entries : List Entry
-  pub told : IsOutcomesTable core seed entries
+  pub table : IsOutcomesTable core seed entries
   pub play : Play
   pub is : IsPlayOfSeed core seed play
-  pub within : total_steps told.plays + play.steps ≤ steps_limit
+  pub within : total_steps table.plays + play.steps ≤ steps_limit
   pub new : list_any (λ e. shows_outcome e play) entries ≡ false
   pub passes : texts_limit < total_texts entries + length play.text
 

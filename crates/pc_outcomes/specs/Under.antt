@@ -18,8 +18,8 @@ entry_of seed p = record { seed = seed; number = 1; steps = p.steps; text = p.te
 
 -- The seeds below this one have these entries and these totals.
 pub record Under (core : CoreData) (seed : ℕ) (entries : List Entry) (totals : Totals) : Type 0 where
-  pub told : IsOutcomesTable core seed entries
-  pub steps : totals.steps ≡ total_steps told.plays
+  pub table : IsOutcomesTable core seed entries
+  pub steps : totals.steps ≡ total_steps table.plays
   pub texts : totals.texts ≡ total_texts entries
 
 -- The entries and totals after adding the play of a seed.

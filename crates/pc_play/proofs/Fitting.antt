@@ -8,7 +8,7 @@ use Rattle.pc_run.specs.Spreading.{spread}
 use Rattle.pc_sched.specs.declared.turns.Turn.{Turn}
 use Rattle.pc_sched.specs.Limits.{schedule_limit, turn_limit}
 use Rattle.pc_sched.specs.Schedules.{total}
-use Rattle.pc_sched_lines.specs.Lines.{IsLine, line_of, turn_word, words_behind}
+use Rattle.pc_sched_lines.specs.Lines.{IsLine, line_of, turn_word, more_words}
 use Rattle.pc_sched_lines.specs.Rows.{AreRows, HasOtherActor}
 use Rattle.pc_choose.specs.Laws.{InTurns, IsTurn}
 use Rattle.pc_choose.proofs.Cutting.{lists_are_in_turns}
@@ -41,17 +41,17 @@ abbrev bytes : List Turn → ℕ
 bytes [] = 0
 bytes (turn ∷ turns) = length (turn_word turn) + 1 + bytes turns
 
-behind : (turns : List Turn) → length (words_behind turns) ≡ bytes turns + 1
+behind : (turns : List Turn) → length (more_words turns) ≡ bytes turns + 1
 behind [] = refl
 behind (turn ∷ turns) =
-    let e = length-append (turn_word turn) (words_behind turns) in
+    let e = length-append (turn_word turn) (more_words turns) in
     let r = behind turns in
     omega (arith, e, r)
 
 line_bytes : (turns : List Turn) → length (line_of turns) ≤ bytes turns + 1
 line_bytes [] = omega arith
 line_bytes (turn ∷ turns) =
-    let e = length-append (turn_word turn) (words_behind turns) in
+    let e = length-append (turn_word turn) (more_words turns) in
     let r = behind turns in
     omega (arith, e, r)
 

@@ -10,9 +10,9 @@ abbrev pub is_in_line : ℕ → Bool
 is_in_line b = not (is_line_end b)
 
 -- The line after these bytes: one more than the number of line ends among them.
-abbrev pub line_behind : List ℕ → ℕ
-line_behind front = 1 + count_by is_line_end front
+abbrev pub line_number : List ℕ → ℕ
+line_number front = 1 + count_by is_line_end front
 
 -- The column after these bytes: one more than the number of bytes since the last line end.
-abbrev pub column_behind : List ℕ → ℕ
-column_behind front = 1 + prefix_len is_in_line (reverse front)
+abbrev pub column_number : List ℕ → ℕ
+column_number front = 1 + prefix_len is_in_line (reverse front)

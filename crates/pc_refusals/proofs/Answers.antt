@@ -6,7 +6,7 @@ use Rattle.std.specs.Io.KnownBytes.{Appends, Keeps}
 use Rattle.pc_lists.specs.Texts.{Text}
 use Rattle.pc_io.specs.Change.{Change}
 use Rattle.pc_refusals.specs.Answer.{Answer}
-use Rattle.pc_refusals.specs.Answer.Answer.{told, file, out_failed, err_failed, file_err_failed, no_memory}
+use Rattle.pc_refusals.specs.Answer.Answer.{given, file, out_failed, err_failed, file_err_failed, no_memory}
 use Rattle.pc_refusals.specs.Complete.{Completes}
 use Rattle.pc_refusals.specs.Inner.Answering.{EndsCommand, WritesVerdict}
 use Rattle.pc_refusals.specs.Inner.Finishing.{Finishes, LineEnds}
@@ -23,12 +23,12 @@ added_nothing (Some xs) (Some ys) k = k ∙ unchanged (Some xs)
 
 module _ (V : Verdict → Type 0) (Failed : Text → Type 0) (out err : Change) (status : ℕ) where
   refusal : (wanted : ℕ) (line : Text) → WritesVerdict V out wanted line → LineEnds err status wanted line → Answer V Failed out err status
-  refusal wanted line t (inl e) = told t.0 t.1 (e.0 ∙ sym t.2) t.4 (rw t.3 e.1)
+  refusal wanted line t (inl e) = given t.0 t.1 (e.0 ∙ sym t.2) t.4 (rw t.3 e.1)
   refusal wanted line t (inr (inl e)) = err_failed t.0 t.1 e.0 e.1 t.4 (rw t.3 e.2)
   refusal wanted line t (inr (inr e)) = no_memory e.0 (inr (t.0, t.1, (length t.0.out, rw take-length t.4))) e.1
 
   pub answer_of : (ended : Result (Unit {0}) Stop) → EndsCommand V Failed out ended → Finishes err status ended → Answer V Failed out err status
-  answer_of (Ok x) t e = told t.0 t.1 (e.0 ∙ sym t.2) t.4 (rw t.3 (added_nothing _ _ e.1))
+  answer_of (Ok x) t e = given t.0 t.1 (e.0 ∙ sym t.2) t.4 (rw t.3 (added_nothing _ _ e.1))
   answer_of (Err (Refused wanted line)) t e = refusal wanted line t e
   answer_of (Err (File name)) f (inl e) = file name f.0 e.0 f.1 e.1
   answer_of (Err (File name)) f (inr (inl e)) = file_err_failed name f.0 e.0 e.1 f.1 e.2
@@ -38,7 +38,7 @@ module _ (V : Verdict → Type 0) (Failed : Text → Type 0) (out err : Change) 
 
   -- if nothing failed
   pub completes : Answer V Failed out err status → Completes V Failed out err status
-  completes (told v is s o l) f g h = inr (v, is, s, o, l)
+  completes (given v is s o l) f g h = inr (v, is, s, o, l)
   completes (file n f0 s o l) f g h = absurd (f n f0)
   completes (out_failed s r t l) f g h = absurd (g r)
   completes (err_failed v is s r o l) f g h = absurd (h r)

@@ -17,11 +17,11 @@ use Rattle.pc_refusals.specs.declared.stop.Stop.TheVariants.{Refused, File, Sink
 
 -- ---- what is as before
 
-pub unchanged : (told : Option Text) → Appends told told []
+pub unchanged : (known : Option Text) → Appends known known []
 unchanged None = tt
 unchanged (Some xs) = sym (append-nil xs)
 
-pub kept : (told : Option Text) → Keeps told told
+pub kept : (known : Option Text) → Keeps known known
 kept None = tt
 kept (Some xs) = refl
 

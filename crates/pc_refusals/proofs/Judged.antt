@@ -33,10 +33,10 @@ use Rattle.pc_refusals.specs.declared.stop.Stop.TheVariants.{Refused, File, Sink
 
 module _ (source_name : Text) (source : Source) (file : Named) (before after : Option Pairs) where
   abbrev Answered : Result (Unit {0}) DerivationFault → Type 0
-  Answered r = FileJudged source.core file.told file.before file.now file.taken before after r
+  Answered r = FileJudged source.core file.known file.before file.now file.taken before after r
 
   -- it was read whole, and its bytes are a text
-  given : (bytes : Text) (ann : Ann) → ReadWhole file.told bytes → IsText bytes ann → PartGives derivation_limit (DerivationStage file.name) (in_parts file) ann
+  given : (bytes : Text) (ann : Ann) → ReadWhole file.known bytes → IsText bytes ann → PartGives derivation_limit (DerivationStage file.name) (in_parts file) ann
   given bytes ann r t = (whole bytes, (r.within, r.all), goes (fits r.within) (reads t))
 
   pub derivation_holds : (v : Unit {0}) → Answered (Ok v) → DerivationJudged source_name source (in_parts file) (Ok v)
@@ -70,7 +70,7 @@ module _ (source_name : Text) (source : Source) (file : Named) (before after : O
   each law formed bytes ann None t v h = h
   each law formed bytes ann (Some p) t v h = h.2 ∙ ap (λ (more : Pairs). Some (p ++ more)) (law source.core bytes ann h.0 formed t v h.1)
 
-  pub derivation_asked : ValidAsksAll → Formed source.core → (v : Unit {0}) → Answered (Ok v) → JudgedFile source.core file.told before after
+  pub derivation_asked : ValidAsksAll → Formed source.core → (v : Unit {0}) → Answered (Ok v) → JudgedFile source.core file.known before after
   derivation_asked law formed v h = record { text = h.0; of_file = h.1.all; ann = h.2.0; is_text = h.2.1; valid = h.2.2; asks = each law formed h.0 h.2.0 before h.2.1 h.2.2 h.3 }
 
 -- a refusal by the fault that was found

@@ -67,8 +67,8 @@ one_length limit name r _ _ is_longer is_longer = refl
 
 -- ---- commands that read a file
 
-one_reading : (limit : ℕ) (told : Option Text) (before now taken : ℕ) (r s : Reading) → IsSome told → now ≡ before
-    → IsReading limit told before now taken r → IsReading limit told before now taken s → r ≡ s
+one_reading : (limit : ℕ) (known : Option Text) (before now taken : ℕ) (r s : Reading) → IsSome known → now ≡ before
+    → IsReading limit known before now taken r → IsReading limit known before now taken s → r ≡ s
 one_reading limit None before now taken r s t n a b = let bad : false ≡ true = t in cc
 one_reading limit (Some x) before now taken (whole p) (whole q) t n a b = ap whole (a.1 ∙ sym b.1)
 one_reading limit (Some x) before now taken (whole p) longer t n a b = let long : limit < length x = b.1 n in let e : length p ≡ length x = ap length a.1 in absurd (omega (arith, a.0))
@@ -77,20 +77,20 @@ one_reading limit (Some x) before now taken longer longer t n a b = refl
 
 module _ {T : Type 0} (file : Named) (limit : ℕ) (Stages : Reading → Result T Verdict → Type 0) (Last : T → Verdict → Type 0) where
   -- One verdict follows if one does from each reading, and then from each value.
-  pub one_from : IsSome file.told → file.now ≡ file.before → ((r : Reading) → HasOneEnd (Stages r))
+  pub one_from : IsSome file.known → file.now ≡ file.before → ((r : Reading) → HasOneEnd (Stages r))
       → ((r : Reading) (x : T) → Stages r (Ok x) → (v w : Verdict) → Last x v → Last x w → v ≡ w)
       → (v w : Verdict) → FromFile file limit Stages Last v → FromFile file limit Stages Last w → v ≡ w
   one_from t n one last v w (refuses r g h) (refuses q i k) =
-      let same = one_reading limit file.told file.before file.now file.taken q r t n i g in
+      let same = one_reading limit file.known file.before file.now file.taken q r t n i g in
       errs v w (Err v) (Err w) refl refl (one r (Err v) (Err w) h (subst (λ (x : Reading). Stages x (Err w)) same k))
   one_from t n one last v w (refuses r g h) (goes_on q x i k l) =
-      let same = one_reading limit file.told file.before file.now file.taken q r t n i g in
+      let same = one_reading limit file.known file.before file.now file.taken q r t n i g in
       differ x v (Ok x) (Err v) refl refl (one r (Ok x) (Err v) (subst (λ (y : Reading). Stages y (Ok x)) same k) h)
   one_from t n one last v w (goes_on q x i k l) (refuses r g h) =
-      let same = one_reading limit file.told file.before file.now file.taken q r t n i g in
+      let same = one_reading limit file.known file.before file.now file.taken q r t n i g in
       differ x w (Ok x) (Err w) refl refl (one r (Ok x) (Err w) (subst (λ (y : Reading). Stages y (Ok x)) same k) h)
   one_from t n one last v w (goes_on r x g h l) (goes_on q y i k m) =
-      let same = one_reading limit file.told file.before file.now file.taken q r t n i g in
+      let same = one_reading limit file.known file.before file.now file.taken q r t n i g in
       let values : y ≡ x = ok_same y x (Ok y) (Ok x) refl refl (one r (Ok y) (Ok x) (subst (λ (z : Reading). Stages z (Ok y)) same k) h) in
       last r x h v w l (subst (λ (z : T). Last z w) values m)
 

@@ -17,7 +17,7 @@ use Rattle.pc_refusals.specs.declared.stop.Stop.TheVariants.{Refused, File, Sink
 module _ {T : Type 0} (limit : ℕ) (Stage : Reading → Result T Verdict → Type 0) where
   -- a file that was not read
   pub not_read : (file : Named) (s : Stop) → Stage longer (Err (refused 8 (longer_line file.name limit)))
-      → NotRead file.name limit file.told file.before file.now file.taken s → PartStops limit Stage file s
+      → NotRead file.name limit file.known file.before file.now file.taken s → PartStops limit Stage file s
   not_read file (Refused status line) long h = (longer, h.2, rw (h.0, h.1) long)
   not_read file (File name) long h = h
   not_read file Sink long h = h
@@ -46,20 +46,20 @@ module _ {T : Type 0} (limit : ℕ) (Stage : Reading → Result T Verdict → Ty
   gives_later file now taken x never (longer, g, s) = absurd (never s)
 
   -- what was said from a moment within the call, said from its start
-  reading_from_start : (told later : Option Text) (before mid now taken : ℕ) (r : Reading) → later ≡ told → before ≤ mid → mid ≤ now
-      → IsReading limit later mid now taken r → IsReading limit told before now taken r
-  reading_from_start told later before mid now taken (whole bytes) e a b g = (g.0, rw (← e) g.1)
-  reading_from_start told later before mid now taken longer e a b g = (g.0, λ same. rw (← e) (g.1 (omega arith)))
+  reading_from_start : (known later : Option Text) (before mid now taken : ℕ) (r : Reading) → later ≡ known → before ≤ mid → mid ≤ now
+      → IsReading limit later mid now taken r → IsReading limit known before now taken r
+  reading_from_start known later before mid now taken (whole bytes) e a b g = (g.0, rw (← e) g.1)
+  reading_from_start known later before mid now taken longer e a b g = (g.0, λ same. rw (← e) (g.1 (omega arith)))
 
-  pub gives_from_start : (file : Named) (later : Option Text) (mid : ℕ) (x : T) → later ≡ file.told → file.before ≤ mid → mid ≤ file.now
-      → PartGives limit Stage (record file { told = later; before = mid }) x → PartGives limit Stage file x
+  pub gives_from_start : (file : Named) (later : Option Text) (mid : ℕ) (x : T) → later ≡ file.known → file.before ≤ mid → mid ≤ file.now
+      → PartGives limit Stage (record file { known = later; before = mid }) x → PartGives limit Stage file x
   gives_from_start file later mid x e a b h =
-      (h.0, reading_from_start file.told later file.before mid file.now file.taken h.0 e a b h.1, h.2)
+      (h.0, reading_from_start file.known later file.before mid file.now file.taken h.0 e a b h.1, h.2)
 
-  pub stops_from_start : (file : Named) (later : Option Text) (mid : ℕ) (s : Stop) → later ≡ file.told → file.before ≤ mid → mid ≤ file.now
-      → PartStops limit Stage (record file { told = later; before = mid }) s → PartStops limit Stage file s
+  pub stops_from_start : (file : Named) (later : Option Text) (mid : ℕ) (s : Stop) → later ≡ file.known → file.before ≤ mid → mid ≤ file.now
+      → PartStops limit Stage (record file { known = later; before = mid }) s → PartStops limit Stage file s
   stops_from_start file later mid (Refused status line) e a b h =
-      (h.0, reading_from_start file.told later file.before mid file.now file.taken h.0 e a b h.1, h.2)
+      (h.0, reading_from_start file.known later file.before mid file.now file.taken h.0 e a b h.1, h.2)
   stops_from_start file later mid (File name) e a b h = (h.0, let rose : mid < file.now = h.1 in omega arith)
   stops_from_start file later mid Sink e a b h = h
   stops_from_start file later mid Memory e a b h = tt

@@ -11,17 +11,17 @@ use Rattle.pc_refusals.proofs.Parts.{gives_from_start, gives_later, stops_from_s
 
 -- The first file, a, gave x. Then the second, b, was read.
 module _ {T U : Type 0} (first second : ℕ) (One : Reading → Result T Verdict → Type 0) (Two : Reading → Result U Verdict → Type 0) (a b : Text)
-    (told later : Text → Option Text) (before mid now : Text → ℕ) (taken last_taken second_taken : ℕ) (x : T) (never : One longer (Ok x) → ⊥) (given : PartGives first One (file_at told before mid taken a) x)
-    (same : later b ≡ told b) (risen : before b ≤ mid b) (rises : mid b ≤ now b) where
+    (known later : Text → Option Text) (before mid now : Text → ℕ) (taken last_taken second_taken : ℕ) (x : T) (never : One longer (Ok x) → ⊥) (given : PartGives first One (file_at known before mid taken a) x)
+    (same : later b ≡ known b) (risen : before b ≤ mid b) (rises : mid b ≤ now b) where
   abbrev files : Files
-  files = files_change told before now last_taken
+  files = files_change known before now last_taken
 
   -- the second, by how much of it is said to be taken
   abbrev behind : Named
-  behind = file_at told before now second_taken b
+  behind = file_at known before now second_taken b
 
   still : PartGives first One (named files a) x
-  still = gives_later first One (file_at told before mid taken a) (now a) last_taken x never given
+  still = gives_later first One (file_at known before mid taken a) (now a) last_taken x never given
 
   -- b was refused or not read
   pub second_stops : (s : Stop) → PartStops second Two (file_at later mid now second_taken b) s → OneStops first second One Two (named files a) behind s

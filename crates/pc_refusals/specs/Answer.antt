@@ -10,7 +10,7 @@ use Rattle.pc_refusals.specs.Verdict.{Verdict}
 
 pub data Answer (V : Verdict → Type 0) (Failed : Text → Type 0) (out err : Change) (status : ℕ) : Type 0 where
   -- the verdict's status, its text on out, its line on err
-  told : (v : Verdict) → V v → status ≡ v.status → Appends out.before out.now v.out → Appends err.before err.now v.err
+  given : (v : Verdict) → V v → status ≡ v.status → Appends out.before out.now v.out → Appends err.before err.now v.err
       → Answer V Failed out err status
   -- 9: the faults of a name of the command rose, and the line names it
   file : (name : Text) → Failed name → status ≡ 9 → Keeps out.before out.now → Appends err.before err.now (unread_line name)

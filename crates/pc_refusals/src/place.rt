@@ -1,6 +1,6 @@
 //! The position of a byte in a text.
 ghost use Rattle.std.specs.Prelude.{◌≡◌, ◌<◌, ◌+◌, ◌^◌, cond, take};
-ghost use Rattle.pc_refusal_lines.specs.Place.{is_line_end, line_behind, column_behind};
+ghost use Rattle.pc_refusal_lines.specs.Place.{is_line_end, line_number, column_number};
 
 /// A place in a text, both numbers counted from 1.
 #[derive(Clone, Copy, Debug)]
@@ -13,16 +13,16 @@ pub struct Place {
 
 /// The place of the byte at this offset, or of the text's end.
 pub fn place_of(bytes: &[u8], offset: usize) -> Place
-    ensures line { result.line ≡ line_behind (take offset bytes.now) }
-    ensures column { result.column ≡ column_behind (take offset bytes.now) }
+    ensures line { result.line ≡ line_number (take offset bytes.now) }
+    ensures column { result.column ≡ column_number (take offset bytes.now) }
 {
     place_behind(&bytes[..offset.min(bytes.len())])
 }
 
 // The place after these bytes.
 fn place_behind(front: &[u8]) -> Place
-    ensures line { result.line ≡ line_behind front.now }
-    ensures column { result.column ≡ column_behind front.now }
+    ensures line { result.line ≡ line_number front.now }
+    ensures column { result.column ≡ column_number front.now }
 {
     let mut place = Place { line: 1, column: 1 };
     for byte in front {

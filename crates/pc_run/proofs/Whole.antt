@@ -9,7 +9,7 @@ use Rattle.pc_core.specs.CoreData.{CoreData}
 use Rattle.pc_io.specs.Sink.{GrowsByPrefix}
 use Rattle.pc_semantics.specs.Configurations.{Configuration}
 use Rattle.pc_semantics.specs.Runs.{after, outcomes}
-use Rattle.pc_semantics.specs.Text.{is_moved, is_skipped, lines, run_text, text_behind, waiting}
+use Rattle.pc_semantics.specs.Text.{is_moved, is_skipped, lines, run_text, text_at_end, waiting}
 use Rattle.pc_run.specs.declared.counts.Counts.{Counts}
 use Rattle.pc_run.specs.declared.counts.Progress.{Progress}
 use Rattle.pc_run.specs.declared.counts.Progress.TheVariants as progress
@@ -69,10 +69,10 @@ module _ (core : CoreData) (list : List ℕ) where
       whole_text =
           ap (λ (d : Configuration). lines d.printed ++ summary_of (report_at c k)) (behind_all core list c k [] u)
           ∙ ap (λ (r : Report). lines (after core list).printed ++ summary_of r) whole_report
-          ∙ ap (text_behind (after core list) (outcomes core list)) u.end
+          ∙ ap (text_at_end (after core list) (outcomes core list)) u.end
 
     pub cut_text : (n : ℕ) → ReachedSoFar core list c [] (progress.TooLong n) → lines c.printed ≡ run_text core list
-    cut_text n h = ap (λ (d : Configuration). lines d.printed) h.1 ∙ ap (text_behind (after core list) (outcomes core list)) (sym h.0)
+    cut_text n h = ap (λ (d : Configuration). lines d.printed) h.1 ∙ ap (text_at_end (after core list) (outcomes core list)) (sym h.0)
 
     -- The printed texts are the first of what is written.
     pub text_begins : (p : Progress) → ReachedSoFar core list c [] p → (rest : List ℕ) × (lines c.printed ++ rest ≡ run_text core list)

@@ -12,7 +12,7 @@ use Rattle.pc_sched.specs.declared.turns.Turn.{Turn}
 use Rattle.pc_sched.specs.Limits.{turn_limit}
 use Rattle.pc_sched.specs.Schedules.{AtWordEnd, IsSchedulePiece, Number, SchedulePiece, SchedulePieces, SpelledTurns, SpellsTurn, TurnList, blank, no_blank}
 use Rattle.pc_sched.specs.Schedules.{total, decimal_value, word}
-use Rattle.pc_sched_lines.specs.Lines.{IsLine, line_of, turn_word, words_behind}
+use Rattle.pc_sched_lines.specs.Lines.{IsLine, line_of, turn_word, more_words}
 use Rattle.pc_sched_lines.specs.Rows.{Fits, RowsOf}
 use Rattle.pc_sched_lines.proofs.Spreads.{length-spread}
 
@@ -77,23 +77,23 @@ pieces : List Turn → List SchedulePiece
 pieces [] = blank 10 ∷ []
 pieces (turn ∷ turns) = word (turn_word turn) ∷ pieces_behind turns
 
-ends : (turns : List Turn) → AtWordEnd (words_behind turns)
+ends : (turns : List Turn) → AtWordEnd (more_words turns)
 ends [] = refl
 ends (turn ∷ turns) = refl
 
-is_word : (turn : Turn) (turns : List Turn) → Fits turn → IsSchedulePiece (word (turn_word turn)) (words_behind turns)
+is_word : (turn : Turn) (turns : List Turn) → Fits turn → IsSchedulePiece (word (turn_word turn)) (more_words turns)
 is_word turn turns f = let r = read turn f in (r.some, r.plain, ends turns)
 
-cut_behind : (turns : List Turn) → AllByRecursion Fits turns → SchedulePieces (words_behind turns) (pieces_behind turns) []
+cut_behind : (turns : List Turn) → AllByRecursion Fits turns → SchedulePieces (more_words turns) (pieces_behind turns) []
 unfolding pieces_behind
 cut_behind [] f = ([], refl, refl, refl)
 cut_behind (turn ∷ turns) f =
-    (turn_word turn ++ words_behind turns, refl, refl, (words_behind turns, refl, is_word turn turns f.0, cut_behind turns f.1))
+    (turn_word turn ++ more_words turns, refl, refl, (more_words turns, refl, is_word turn turns f.0, cut_behind turns f.1))
 
 cut : (turns : List Turn) → AllByRecursion Fits turns → SchedulePieces (line_of turns) (pieces turns) []
 unfolding pieces
 cut [] f = ([], refl, refl, refl)
-cut (turn ∷ turns) f = (words_behind turns, refl, is_word turn turns f.0, cut_behind turns f.1)
+cut (turn ∷ turns) f = (more_words turns, refl, is_word turn turns f.0, cut_behind turns f.1)
 
 spelled_behind : (turns : List Turn) → AllByRecursion Fits turns → SpelledTurns (pieces_behind turns) turns
 unfolding pieces_behind

@@ -11,14 +11,14 @@ abbrev pub turn_word : Turn → List ℕ
 turn_word turn = if turn.times == 1 then decimal turn.actor else decimal turn.actor ++ 42 ∷ decimal turn.times
 
 -- The words of turns, each after one blank, and a line end.
-abbrev pub words_behind : List Turn → List ℕ
-words_behind [] = 10 ∷ []
-words_behind (turn ∷ turns) = 32 ∷ (turn_word turn ++ words_behind turns)
+abbrev pub more_words : List Turn → List ℕ
+more_words [] = 10 ∷ []
+more_words (turn ∷ turns) = 32 ∷ (turn_word turn ++ more_words turns)
 
 -- The words of turns with one blank between any two, and a line end.
 abbrev pub line_of : List Turn → List ℕ
 line_of [] = 10 ∷ []
-line_of (turn ∷ turns) = turn_word turn ++ words_behind turns
+line_of (turn ∷ turns) = turn_word turn ++ more_words turns
 
 -- The text is one line of a schedule with these steps, in which each maximal row of steps of one actor is one word.
 pub record IsLine (list text : List ℕ) : Type 0 where

@@ -32,7 +32,7 @@ fn push_word(alloc: Global, text: &mut Vec<u8>, turn: Turn) -> Result<(), AllocE
 
 // Appends the words of turns to a text, each after a blank, and a line end.
 fn push_words(alloc: Global, text: &mut Vec<u8>, turns: &[Turn]) -> Result<(), AllocError>
-    ensures { OnOk result (text.new.items ≡ text.old.items ++ line.words_behind turns.now) }
+    ensures { OnOk result (text.new.items ≡ text.old.items ++ line.more_words turns.now) }
 {
     for turn in turns {
         text.push(b' ')?;

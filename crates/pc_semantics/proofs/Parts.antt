@@ -9,10 +9,10 @@ use Rattle.pc_semantics.specs.declared.outcome.Outcome.TheVariants.{Moved, Skipp
 use Rattle.pc_semantics.specs.Configurations.{Configuration}
 use Rattle.pc_semantics.specs.Step.{step}
 use Rattle.pc_semantics.specs.Runs.{followed, run_from, outcomes_from}
-use Rattle.pc_semantics.specs.Text.{is_moved, is_skipped, waiting, lines, summary, end_of, text_behind}
+use Rattle.pc_semantics.specs.Text.{is_moved, is_skipped, waiting, lines, summary, end_of, text_at_end}
 
 -- The text of a run by its parts.
-pub text_is : (c : Configuration) (os steps : List Outcome) (texts : List (List ℕ)) (actors objects messages : ℕ) → os ≡ steps → end_of steps ≡ None → c.printed ≡ texts → length c.actors ≡ actors → len c.objects ≡ objects → waiting c ≡ messages → text_behind c os (end_of os) ≡ lines texts ++ summary (count_by is_moved steps) (count_by is_skipped steps) actors objects messages
+pub text_is : (c : Configuration) (os steps : List Outcome) (texts : List (List ℕ)) (actors objects messages : ℕ) → os ≡ steps → end_of steps ≡ None → c.printed ≡ texts → length c.actors ≡ actors → len c.objects ≡ objects → waiting c ≡ messages → text_at_end c os (end_of os) ≡ lines texts ++ summary (count_by is_moved steps) (count_by is_skipped steps) actors objects messages
 text_is c os steps texts actors objects messages e f g h k l = rw (e, f, g, h, k, l) refl
 
 -- ---- runs in parts

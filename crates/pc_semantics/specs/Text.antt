@@ -57,10 +57,10 @@ abbrev pub end_of : List Outcome → Option (ℕ × Outcome)
 end_of os = ended_at 1 os
 
 -- What was printed, and the summary if no step ended the run.
-abbrev pub text_behind : Configuration → List Outcome → Option (ℕ × Outcome) → List ℕ
-text_behind c os None = lines c.printed ++ summary (count_by is_moved os) (count_by is_skipped os) (length c.actors) (len c.objects) (waiting c)
-text_behind c os (Some end) = lines c.printed
+abbrev pub text_at_end : Configuration → List Outcome → Option (ℕ × Outcome) → List ℕ
+text_at_end c os None = lines c.printed ++ summary (count_by is_moved os) (count_by is_skipped os) (length c.actors) (len c.objects) (waiting c)
+text_at_end c os (Some end) = lines c.printed
 
 -- The output of the run of a list of actors.
 abbrev pub run_text : CoreData → List ℕ → List ℕ
-run_text core list = text_behind (after core list) (outcomes core list) (end_of (outcomes core list))
+run_text core list = text_at_end (after core list) (outcomes core list) (end_of (outcomes core list))

@@ -7,7 +7,7 @@ use Rattle.pc_lists.specs.Texts.{Text}
 use Rattle.pc_io.specs.Change.{Change}
 use Rattle.pc_valid.specs.Valid.{Valid}
 use Rattle.pc_refusals.specs.Answer.{Answer}
-use Rattle.pc_refusals.specs.Answer.Answer.{told as answer_told, file as answer_file, out_failed, err_failed, file_err_failed, no_memory}
+use Rattle.pc_refusals.specs.Answer.Answer.{given as answer_given, file as answer_file, out_failed, err_failed, file_err_failed, no_memory}
 use Rattle.pc_refusals.specs.Named.{Files, Named, Reading, whole, IsReadingOf}
 use Rattle.pc_refusals.specs.Source.{SourceStage, source_limit}
 use Rattle.pc_refusals.specs.Verdict.{Verdict, IsAccepting}
@@ -17,7 +17,7 @@ use Rattle.pc_top.specs.CoreOf.{IsDerivable}
 use Rattle.pc_top.proofs.Deriving.{source_says}
 
 -- what holds of the bytes that were read holds of those that are known
-pub of_told : (Holds : Text → Type 0) (told : Option Text) (bytes : Text) → Holds bytes → IfSome told (λ b. bytes ≡ b) → IfSome told Holds
+pub of_told : (Holds : Text → Type 0) (known : Option Text) (bytes : Text) → Holds bytes → IfSome known (λ b. bytes ≡ b) → IfSome known Holds
 of_told Holds None bytes h e = tt
 of_told Holds (Some b) bytes h e = subst Holds e h
 
@@ -34,10 +34,10 @@ pub source_whole : (file : Named) (r : Reading) (s : Source) → IsReadingOf fil
 source_whole file r s g h = subst (λ (q : Reading). IsReadingOf file source_limit q) (source_says h).0 g
 
 -- what holds of its bytes
-pub of_source : (Holds : Text → Type 0) (file : Named) (r : Reading) (s : Source) → IsReadingOf file source_limit r → SourceStage file.name r (Ok s) → Holds s.bytes → IfSome file.told Holds
-of_source Holds file r s g h holds = of_told Holds file.told s.bytes holds (source_whole file r s g h).1
+pub of_source : (Holds : Text → Type 0) (file : Named) (r : Reading) (s : Source) → IsReadingOf file source_limit r → SourceStage file.name r (Ok s) → Holds s.bytes → IfSome file.known Holds
+of_source Holds file r s g h holds = of_told Holds file.known s.bytes holds (source_whole file r s g h).1
 
-pub derivable : (file : Named) (r : Reading) (s : Source) (ann : Ann) → IsReadingOf file source_limit r → SourceStage file.name r (Ok s) → Valid s.core ann → IfSome file.told IsDerivable
+pub derivable : (file : Named) (r : Reading) (s : Source) (ann : Ann) → IsReadingOf file source_limit r → SourceStage file.name r (Ok s) → Valid s.core ann → IfSome file.known IsDerivable
 derivable file r s ann g h v = of_source IsDerivable file r s g h (s.core, (source_says h).1, (ann, v))
 
 -- ---- an answer
@@ -49,7 +49,7 @@ faults_refuse status n is low high (inr e) = omega (arith, is, low, high, e)
 
 pub accepting : (files : Files) (words : List Text) (out err : Change) (status : ℕ) → Answer (IsVerdict files words) (FailedIn files words) out err status → IsAccepting status
     → (v : Verdict) × IsVerdict files words v × (status ≡ v.status) × Appends out.before out.now v.out
-accepting files words out err status (answer_told v is s o l) e = (v, is, s, o)
+accepting files words out err status (answer_given v is s o l) e = (v, is, s, o)
 accepting files words out err status (answer_file n f s o l) e = absurd (faults_refuse status 9 s (omega arith) (omega arith) e)
 accepting files words out err status (out_failed s r t l) e = absurd (faults_refuse status 10 s (omega arith) (omega arith) e)
 accepting files words out err status (err_failed v is s r o l) e = absurd (faults_refuse status 10 s (omega arith) (omega arith) e)

@@ -35,7 +35,7 @@ pub begins_own : {file : Named} {v : Verdict} → Begins file v → IsOwn v.stat
 begins_own (refused r g h) = accepted_own h
 begins_own {v = v} (accepted r a g h l) = late_own v.status l
 
-pub begins_accepts : {file : Named} {v : Verdict} → Begins file v → IsAccepting v.status → IfSome file.told IsDerivable
+pub begins_accepts : {file : Named} {v : Verdict} → Begins file v → IsAccepting v.status → IfSome file.known IsDerivable
 begins_accepts (refused r g h) e = absurd (accepted_refuses h e)
 begins_accepts {file = file} (accepted r a g h l) e = let s = accepted_source h in derivable file r a.source a.ann g s.0 s.1
 
@@ -47,11 +47,11 @@ module _ (laws : Refusing) where
   typing_refuses {s = s} is (no_rule ann n h) d = laws.ruleless s.core ann n is h d
   typing_refuses {s = s} is (unset ann m left) d = laws.setless s.core ann m is left d
 
-  underived : (file : Named) (r : Reading) (v : Verdict) → IsReadingOf file source_limit r → AcceptedStage file.name r (Err v) → v.status ≡ 1 → IfSome file.told IsUnderivable
+  underived : (file : Named) (r : Reading) (v : Verdict) → IsReadingOf file source_limit r → AcceptedStage file.name r (Err v) → v.status ≡ 1 → IfSome file.known IsUnderivable
   underived file r v g (stops h) e = absurd (other_not_one v.status (source_other h) e)
   underived file r v g (goes {x = s} h t) e = of_source IsUnderivable file r s g h (s.core, (source_says h).1, typing_refuses (source_formed laws.formed h).0 t)
 
-  pub begins_refuses : {file : Named} {v : Verdict} → Begins file v → v.status ≡ 1 → IfSome file.told IsUnderivable
+  pub begins_refuses : {file : Named} {v : Verdict} → Begins file v → v.status ≡ 1 → IfSome file.known IsUnderivable
   begins_refuses {file = file} {v = v} (refused r g h) e = underived file r v g h e
   begins_refuses {v = v} (accepted r a g h l) e = absurd (late_not_one v.status l e)
 
@@ -60,10 +60,10 @@ some_whole : (bytes : Text) (before now taken : ℕ) (r : Reading) → now ≡ b
 some_whole bytes before now taken (whole b) n l g = ap whole g.1
 some_whole bytes before now taken longer n l g = let long : source_limit < length bytes = g.1 n in absurd (omega (arith, l, long))
 
-reads_whole : (file : Named) (bytes : Text) (r : Reading) → file.told ≡ Some bytes → file.now ≡ file.before → length bytes ≤ source_limit → IsReadingOf file source_limit r → r ≡ whole bytes
+reads_whole : (file : Named) (bytes : Text) (r : Reading) → file.known ≡ Some bytes → file.now ≡ file.before → length bytes ≤ source_limit → IsReadingOf file source_limit r → r ≡ whole bytes
 reads_whole file bytes r e n l g = some_whole bytes file.before file.now file.taken r n l (subst (λ (o : Option Text). IsReading source_limit o file.before file.now file.taken r) e g)
 
-module _ (sources : SourceLaws) (laws : Refusing) (file : Named) (bytes : Text) (tells : file.told ≡ Some bytes) (unfailed : file.now ≡ file.before) where
+module _ (sources : SourceLaws) (laws : Refusing) (file : Named) (bytes : Text) (tells : file.known ≡ Some bytes) (unfailed : file.now ≡ file.before) where
   -- its stages let a source with a core pass, and give the core
   module _ (core : CoreData) (c : CoreOf bytes core) where
     abbrev passed : Source

@@ -12,7 +12,7 @@ use Rattle.pc_refusals.specs.Derivation.{in_parts}
 use Rattle.pc_refusals.specs.Derivation.Deriving.{reads}
 use Rattle.pc_refusals.specs.Derivation.Judging.{holds}
 use Rattle.pc_refusals.specs.FromFile.FromFile.{goes_on}
-use Rattle.pc_refusals.specs.Named.{AllTold, Files, Named, IsReadingOf, NoneFailed, named, whole}
+use Rattle.pc_refusals.specs.Named.{AllKnown, Files, Named, IsReadingOf, NoneFailed, named, whole}
 use Rattle.pc_refusals.specs.Source.{source_limit}
 use Rattle.pc_refusals.specs.Source.Length.{fits}
 use Rattle.pc_refusals.specs.Verdict.{Verdict, done}
@@ -27,15 +27,15 @@ use Rattle.pc_top.proofs.Deriving.{core_passes, source_says}
 use Rattle.pc_top.proofs.Shapes.{derivation_derives}
 
 -- Of two files that tell these bytes.
-module _ (shown : Ann → Text) (file derivation : Named) (bytes text : Text) (tells : file.told ≡ Some bytes) (tells_text : derivation.told ≡ Some text) where
+module _ (shown : Ann → Text) (file derivation : Named) (bytes text : Text) (tells : file.known ≡ Some bytes) (tells_text : derivation.known ≡ Some text) where
   -- done, so the text is that of a valid annotation
   pub done_says : (v : Verdict) → v.status ≡ 0 → OfDerivation shown file derivation v → IsDerivationOf bytes text
   done_says v e is =
       let d = derivation_derives shown file derivation v (inl e) is in
-      let both : IfSome file.told (λ b. IfSome derivation.told (IsDerivationOf b)) =
-      of_source (λ b. IfSome derivation.told (IsDerivationOf b)) file d.reading d.source d.is_reading d.passes
-      (of_told (IsDerivationOf d.source.bytes) derivation.told d.bytes (d.source.core, (source_says d.passes).1, d.ann, d.is_text, d.valid) d.of_file) in
-      let one : IfSome derivation.told (IsDerivationOf bytes) = subst (λ (o : Option Text). IfSome o (λ b. IfSome derivation.told (IsDerivationOf b))) tells both in
+      let both : IfSome file.known (λ b. IfSome derivation.known (IsDerivationOf b)) =
+      of_source (λ b. IfSome derivation.known (IsDerivationOf b)) file d.reading d.source d.is_reading d.passes
+      (of_told (IsDerivationOf d.source.bytes) derivation.known d.bytes (d.source.core, (source_says d.passes).1, d.ann, d.is_text, d.valid) d.of_file) in
+      let one : IfSome derivation.known (IsDerivationOf bytes) = subst (λ (o : Option Text). IfSome o (λ b. IfSome derivation.known (IsDerivationOf b))) tells both in
       subst (λ (o : Option Text). IfSome o (IsDerivationOf bytes)) tells_text one
 
   -- a valid annotation's text, so done is a verdict
@@ -59,10 +59,10 @@ module _ (one : VerdictIsOne) (files : Files) (words : List Text) (asked : Asked
   the_one : (w : Verdict) → IsVerdictOf files (Some asked) w → v ≡ w
   the_one w is =
       let unfailed : UnfailedOf files (command_of words) = subst (λ (o : Option Asked). UnfailedOf files o) (sym reads_both.asks) (subst (λ (l : List Text). NoneFailed files l) (sym is_files) reads_both.unfailed) in
-      let some = some_told (files.told source) bytes reads_both.tells in
-      let some_text = some_told (files.told derivation) text reads_both.tells_text in
-      let told : TellsOf files.told (command_of words) = subst (λ (o : Option Asked). TellsOf files.told o) (sym reads_both.asks) (subst (λ (l : List Text). AllTold files.told l) (sym is_files) (some, (some_text, tt))) in
-      one files words v w unfailed told reads_both.verdict (subst (λ (o : Option Asked). IsVerdictOf files o w) (sym reads_both.asks) is)
+      let some = some_told (files.known source) bytes reads_both.tells in
+      let some_text = some_told (files.known derivation) text reads_both.tells_text in
+      let known : TellsOf files.known (command_of words) = subst (λ (o : Option Asked). TellsOf files.known o) (sym reads_both.asks) (subst (λ (l : List Text). AllKnown files.known l) (sym is_files) (some, (some_text, tt))) in
+      one files words v w unfailed known reads_both.verdict (subst (λ (o : Option Asked). IsVerdictOf files o w) (sym reads_both.asks) is)
 
   own : IsVerdictOf files (Some asked) v
   own = subst (λ (o : Option Asked). IsVerdictOf files o v) reads_both.asks reads_both.verdict

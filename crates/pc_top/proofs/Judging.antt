@@ -18,10 +18,10 @@ use Rattle.pc_top.specs.Commands.Judge.{IsJudge, accepted_text}
 use Rattle.pc_top.specs.Shapes.{UnreadDerivation}
 use Rattle.pc_top.proofs.Deriving.{never_longer}
 
-module _ (s d : Text) (told later : Text → Option Text) (before mid now : Text → ℕ) (taken last_taken : ℕ) (x : Source) (given : PartGives source_limit (SourceStage s) (file_at told before mid taken s) x)
-    (same : later d ≡ told d) (risen : before d ≤ mid d) (rises : mid d ≤ now d) where
+module _ (s d : Text) (known later : Text → Option Text) (before mid now : Text → ℕ) (taken last_taken : ℕ) (x : Source) (given : PartGives source_limit (SourceStage s) (file_at known before mid taken s) x)
+    (same : later d ≡ known d) (risen : before d ≤ mid d) (rises : mid d ≤ now d) where
   abbrev files : Files
-  files = files_change told before now last_taken
+  files = files_change known before now last_taken
 
   abbrev parts : Named
   parts = in_parts (named files d)
@@ -35,14 +35,14 @@ module _ (s d : Text) (told later : Text → Option Text) (before mid now : Text
   pub derivation_refused : (stop : Stop) → DerivationJudged s x (in_parts (file_at later mid now last_taken d)) (Err stop) → AnswerStops (IsJudge (named files s) (named files d)) failed stop
   derivation_refused stop (inl h) =
       both_stop source_limit derivation_limit (SourceStage s) (DerivationStage d) Last failed (named files s) parts stop (λ n f. inl f) (λ n p f. inr (p, f))
-      (second_stops source_limit derivation_limit (SourceStage s) (DerivationStage d) s d told later before mid now taken last_taken (derivation_limit + last_taken) x (never_longer s x) given same risen rises stop h)
+      (second_stops source_limit derivation_limit (SourceStage s) (DerivationStage d) s d known later before mid now taken last_taken (derivation_limit + last_taken) x (never_longer s x) given same risen rises stop h)
   derivation_refused stop (inr h) =
       both_answer source_limit derivation_limit (SourceStage s) (DerivationStage d) Last failed (named files s) parts x h.0
-      (second_gives source_limit derivation_limit (SourceStage s) (DerivationStage d) s d told later before mid now taken last_taken (derivation_limit + last_taken) x (never_longer s x) given same risen rises h.0 h.1)
+      (second_gives source_limit derivation_limit (SourceStage s) (DerivationStage d) s d known later before mid now taken last_taken (derivation_limit + last_taken) x (never_longer s x) given same risen rises h.0 h.1)
       (Err stop) (last_stops (λ _. accepted_text) (Judging s d x h.0) (λ n. ⊥) stop h.2)
 
   pub derivation_told : (u : Unit {0}) → DerivationJudged s x (in_parts (file_at later mid now last_taken d)) (Ok u) → (text : Text) → text ≡ accepted_text → IsJudge (named files s) (named files d) (done text)
   derivation_told u h text is =
       both_answer source_limit derivation_limit (SourceStage s) (DerivationStage d) Last failed (named files s) parts x h.0
-      (second_gives source_limit derivation_limit (SourceStage s) (DerivationStage d) s d told later before mid now taken last_taken (derivation_limit + last_taken) x (never_longer s x) given same risen rises h.0 h.1)
+      (second_gives source_limit derivation_limit (SourceStage s) (DerivationStage d) s d known later before mid now taken last_taken (derivation_limit + last_taken) x (never_longer s x) given same risen rises h.0 h.1)
       (Ok text) (subst (λ (t : Text). Last x h.0 (done t)) (sym is) (Ok tt, h.2, refl))

@@ -10,7 +10,7 @@ use Rattle.pc_io.specs.Change.{Change}
 use Rattle.pc_refusals.specs.Accepting.{AcceptedStage}
 use Rattle.pc_refusals.specs.Inner.Answering.{AnswerStops, AnswersText, EndsCommand}
 use Rattle.pc_refusal_lines.specs.Lines.{usage_line}
-use Rattle.pc_refusals.specs.Named.{AllTold, Files, Named, NoneFailed, named}
+use Rattle.pc_refusals.specs.Named.{AllKnown, Files, Named, NoneFailed, named}
 use Rattle.pc_refusals.specs.Source.{source_limit}
 use Rattle.pc_refusals.specs.Verdict.{Verdict, IsAccepting}
 use Rattle.pc_refusals.specs.declared.stop.Stop.{Stop}
@@ -43,7 +43,7 @@ module _ (Is : ℕ → Type 0) (Of : ℕ → Verdict → Type 0) where
 
 -- ---- the room
 
-module _ (files : Files) (asked : Asked) (source : Text) (its : source_of asked ≡ Some source) (looks : IsTrue (infers asked)) (told : AllTold files.told (files_of asked) → IsSome (files.told source)) (none_of : NoneFailed files (files_of asked) → files.now source ≡ files.before source)
+module _ (files : Files) (asked : Asked) (source : Text) (its : source_of asked ≡ Some source) (looks : IsTrue (infers asked)) (known : AllKnown files.known (files_of asked) → IsSome (files.known source)) (none_of : NoneFailed files (files_of asked) → files.now source ≡ files.before source)
     (Is : ℕ → Type 0) (Last : ℕ → Accepted → Verdict → Type 0) (is_of : (v : Verdict) → IsVerdictOf files (Some asked) v → ByNumber Is (λ n. OfAccepted (Last n) (named files source)) v)
     (has : HasNumber asked → (n : ℕ) × Is n) (same : (n m : ℕ) → Is n → Is m → n ≡ m) (late : (n : ℕ) (a : Accepted) (v : Verdict) → Last n a v → IsLate v.status) where
   abbrev file : Named
@@ -55,12 +55,12 @@ module _ (files : Files) (asked : Asked) (source : Text) (its : source_of asked 
 
   -- Its room, from what is its own.
   pub numbered : (Laws → (n : ℕ) (a : Accepted) (v w : Verdict) → Last n a v → Last n a w → v ≡ w)
-      → ((v : Verdict) (out : Change) (n : ℕ) → Is n → OfAccepted (Last n) file v → IsAccepting v.status → Appends out.before out.now v.out → OnOutOf files.told (Some asked) out)
+      → ((v : Verdict) (out : Change) (n : ℕ) → Is n → OfAccepted (Last n) file v → IsAccepting v.status → Appends out.before out.now v.out → OnOutOf files.known (Some asked) out)
       → Room files asked
   numbered one writes =
       inferring files asked source its looks (λ v is. begins_or_none v (is_of v is))
       (λ laws unfailed all v w a b.
-      numbered_one Is (λ n. OfAccepted (Last n) file) same (λ n. accepted_one (Last n) file laws (told all) (none_of unfailed) (one laws n)) v w (is_of v a) (is_of w b))
+      numbered_one Is (λ n. OfAccepted (Last n) file) same (λ n. accepted_one (Last n) file laws (known all) (none_of unfailed) (one laws n)) v w (is_of v a) (is_of w b))
       (λ tells v out is e o. let s = numbered_says Is (λ n. OfAccepted (Last n) file) v e (is_of v is) in writes v out s.0 s.1 s.2 e o)
 
 -- ---- from the result of the reading to how the command ends

@@ -7,7 +7,7 @@ use Rattle.pc_io.specs.Change.{Change}
 use Rattle.pc_isolation.specs.ValidLaws.{ValidIsIsolated, ValidIsPassedWhole}
 use Rattle.pc_regions.specs.Laws.{ValidIsSafe}
 use Rattle.pc_refusals.specs.Answer.{Answer}
-use Rattle.pc_refusals.specs.Answer.Answer.{told as answer_told, file as answer_file, out_failed, err_failed, file_err_failed, no_memory}
+use Rattle.pc_refusals.specs.Answer.Answer.{given as answer_given, file as answer_file, out_failed, err_failed, file_err_failed, no_memory}
 use Rattle.pc_refusals.specs.Named.{Files, named}
 use Rattle.pc_refusals.specs.Verdict.{Verdict, IsAccepting}
 use Rattle.pc_refusals.proofs.Statuses.{IsOwn}
@@ -34,7 +34,7 @@ two v files is = ap (λ (x : Verdict). x.status) is
 
 -- ---- one verdict
 
-one_of : Laws → (files : Files) (asked : Option Asked) (v w : Verdict) → UnfailedOf files asked → TellsOf files.told asked → IsVerdictOf files asked v → IsVerdictOf files asked w → v ≡ w
+one_of : Laws → (files : Files) (asked : Option Asked) (v w : Verdict) → UnfailedOf files asked → TellsOf files.known asked → IsVerdictOf files asked v → IsVerdictOf files asked w → v ≡ w
 one_of laws files None v w n t a b = a ∙ sym b
 one_of laws files (Some asked) v w n t a b = (room_of files asked).one laws n t v w a b
 
@@ -52,17 +52,17 @@ verdicts_own files words v is = own_of files (command_of words) v is
 
 -- ---- an accepting verdict
 
-accepts_of : (files : Files) (asked : Option Asked) (v : Verdict) → IsVerdictOf files asked v → IsAccepting v.status → OfSource IsDerivable files.told asked
+accepts_of : (files : Files) (asked : Option Asked) (v : Verdict) → IsVerdictOf files asked v → IsAccepting v.status → OfSource IsDerivable files.known asked
 accepts_of files None v is e = two_refuses v.status (two v files is) e
 accepts_of files (Some asked) v is e = (room_of files asked).accepts v is e
 
-writes_of : TablesTell → (files : Files) (asked : Option Asked) (v : Verdict) (out : Change) → IsVerdictOf files asked v → IsAccepting v.status → Appends out.before out.now v.out → OnOutOf files.told asked out
+writes_of : TablesTell → (files : Files) (asked : Option Asked) (v : Verdict) (out : Change) → IsVerdictOf files asked v → IsAccepting v.status → Appends out.before out.now v.out → OnOutOf files.known asked out
 writes_of tells files None v out is e o = absurd (two_refuses v.status (two v files is) e)
 writes_of tells files (Some asked) v out is e o = (room_of files asked).writes tells v out is e o
 
 -- ---- status 1
 
-refuses_of : Refusing → (files : Files) (asked : Option Asked) (v : Verdict) → IsVerdictOf files asked v → v.status ≡ 1 → HasNoDerivationOf files.told asked
+refuses_of : Refusing → (files : Files) (asked : Option Asked) (v : Verdict) → IsVerdictOf files asked v → v.status ≡ 1 → HasNoDerivationOf files.known asked
 refuses_of laws files None v is e = absurd (two_not_one v.status (two v files is) e)
 refuses_of laws files (Some asked) v is e = (room_of files asked).refuses laws v is e
 
@@ -72,25 +72,25 @@ refused_underivable laws files words v is e = refuses_of laws files (command_of 
 -- ---- answers
 
 module _ (files : Files) (words : List Text) (out err : Change) (status : ℕ) (answer : Answer (IsVerdict files words) (FailedIn files words) out err status) where
-  pub answer_accepts : IsAccepting status → Accepts files.told words
+  pub answer_accepts : IsAccepting status → Accepts files.known words
   answer_accepts e = let a = accepting files words out err status answer e in accepts_of files (command_of words) a.0 a.1 (subst IsAccepting a.2 e)
 
-  pub answer_writes : TablesTell → IsAccepting status → OnOut files.told words out
+  pub answer_writes : TablesTell → IsAccepting status → OnOut files.known words out
   answer_writes tells e = let a = accepting files words out err status answer e in writes_of tells files (command_of words) a.0 out a.1 (subst IsAccepting a.2 e) a.3
 
-  pub answer_swaps : status ≡ 0 → Swaps files.told words out
+  pub answer_swaps : status ≡ 0 → Swaps files.known words out
   answer_swaps e source schedule place asks =
       let a = accepting files words out err status answer (inl e) in
       swap_done (named files source) (named files schedule) place a.0 out (subst (λ (o : Option Asked). IsVerdictOf files o a.0) asks a.1) (sym a.2 ∙ e) a.3
 
-  pub answer_traces : status ≡ 0 → Traces files.told words out
+  pub answer_traces : status ≡ 0 → Traces files.known words out
   answer_traces e source schedule asks =
       let a = accepting files words out err status answer (inl e) in
       trace_done (named files source) (named files schedule) a.0 out (subst (λ (o : Option Asked). IsVerdictOf files o a.0) asks a.1) (sym a.2 ∙ e) a.3
 
 pub answer_refuses : RefusedIsUnderivable → (files : Files) (words : List Text) (out err : Change) (status : ℕ)
-    → Answer (IsVerdict files words) (FailedIn files words) out err status → status ≡ 1 → HasNoDerivation files.told words
-answer_refuses law files words out err status (answer_told v is s o l) e = law files words v is (sym s ∙ e)
+    → Answer (IsVerdict files words) (FailedIn files words) out err status → status ≡ 1 → HasNoDerivation files.known words
+answer_refuses law files words out err status (answer_given v is s o l) e = law files words v is (sym s ∙ e)
 answer_refuses law files words out err status (answer_file n f s o l) e = absurd (omega arith)
 answer_refuses law files words out err status (out_failed s r t l) e = absurd (omega arith)
 answer_refuses law files words out err status (err_failed v is s r o l) e = absurd (omega arith)
@@ -116,14 +116,14 @@ derivable_isolated formed apart whole bytes d =
 
 -- what holds of each derivable source, holds of the one that is accepted
 module _ (Holds : Text → Type 0) (law : (bytes : Text) → IsDerivable bytes → Holds bytes) where
-  file_holds : (told : Text → Option Text) (source : Option Text) → OfFile IsDerivable told source → OfFile Holds told source
-  file_holds told None h = tt
-  file_holds told (Some source) h = some_by IsDerivable Holds (told source) law h
+  file_holds : (known : Text → Option Text) (source : Option Text) → OfFile IsDerivable known source → OfFile Holds known source
+  file_holds known None h = tt
+  file_holds known (Some source) h = some_by IsDerivable Holds (known source) law h
 
-  asked_holds : (told : Text → Option Text) (asked : Option Asked) → OfSource IsDerivable told asked → OfSource Holds told asked
-  asked_holds told None h = h
-  asked_holds told (Some asked) h =
-      (file_holds told (source_of asked) h.0, λ seed size is. let m = h.1 seed size is in (m.0, m.1, m.2, m.3, law (made_text m.0 m.1) m.4))
+  asked_holds : (known : Text → Option Text) (asked : Option Asked) → OfSource IsDerivable known asked → OfSource Holds known asked
+  asked_holds known None h = h
+  asked_holds known (Some asked) h =
+      (file_holds known (source_of asked) h.0, λ seed size is. let m = h.1 seed size is in (m.0, m.1, m.2, m.3, law (made_text m.0 m.1) m.4))
 
-  pub accepted_holds : (told : Text → Option Text) (words : List Text) → Accepts told words → OfSource Holds told (command_of words)
-  accepted_holds told words h = asked_holds told (command_of words) h
+  pub accepted_holds : (known : Text → Option Text) (words : List Text) → Accepts known words → OfSource Holds known (command_of words)
+  accepted_holds known words h = asked_holds known (command_of words) h

@@ -26,35 +26,35 @@ OfMade Holds seed size = (a b : ℕ) × IsSeed seed a × IsSize size b × Holds 
 
 -- This holds of a file's bytes, if they are known and the command has a file whose core must have a derivation.
 abbrev pub OfFile : (Text → Type 0) → (Text → Option Text) → Option Text → Type 0
-OfFile Holds told None = Unit {0}
-OfFile Holds told (Some source) = IfSome (told source) Holds
+OfFile Holds known None = Unit {0}
+OfFile Holds known (Some source) = IfSome (known source) Holds
 
 -- This holds of the source that must have a derivation: of the command's file, if its bytes are known, and of the
 -- program that `make` generates.
 abbrev pub OfSource : (Text → Type 0) → (Text → Option Text) → Option Asked → Type 0
-OfSource Holds told None = ⊥
-OfSource Holds told (Some asked) = OfFile Holds told (source_of asked) × ((seed size : Text) → asked ≡ make seed size → OfMade Holds seed size)
+OfSource Holds known None = ⊥
+OfSource Holds known (Some asked) = OfFile Holds known (source_of asked) × ((seed size : Text) → asked ≡ make seed size → OfMade Holds seed size)
 
 -- The source has a core with a derivation.
 abbrev pub Accepts : (Text → Option Text) → List Text → Type 0
-Accepts told words = OfSource IsDerivable told (command_of words)
+Accepts known words = OfSource IsDerivable known (command_of words)
 
 -- The source has a core that is safe.
 abbrev pub IsMadeSafe : (Text → Option Text) → List Text → Type 0
-IsMadeSafe told words = OfSource HasSafeCore told (command_of words)
+IsMadeSafe known words = OfSource HasSafeCore known (command_of words)
 
 -- The source has a core whose waiting messages are isolated in depth.
 abbrev pub IsMadeIsolated : (Text → Option Text) → List Text → Type 0
-IsMadeIsolated told words = OfSource HasIsolatedCore told (command_of words)
+IsMadeIsolated known words = OfSource HasIsolatedCore known (command_of words)
 
 -- The command looks for a derivation of the source, which has a core without one.
 abbrev pub HasNoDerivationOf : (Text → Option Text) → Option Asked → Type 0
-HasNoDerivationOf told None = ⊥
-HasNoDerivationOf told (Some asked) = IsTrue (infers asked) × OfSource IsUnderivable told (Some asked)
+HasNoDerivationOf known None = ⊥
+HasNoDerivationOf known (Some asked) = IsTrue (infers asked) × OfSource IsUnderivable known (Some asked)
 
 abbrev pub HasNoDerivation : (Text → Option Text) → List Text → Type 0
-HasNoDerivation told words = HasNoDerivationOf told (command_of words)
+HasNoDerivation known words = HasNoDerivationOf known (command_of words)
 
 -- With status 1, this is the case.
 abbrev pub RefusedIsUnderivable : Type 0
-RefusedIsUnderivable = (files : Files) (words : List Text) (v : Verdict) → IsVerdict files words v → v.status ≡ 1 → HasNoDerivation files.told words
+RefusedIsUnderivable = (files : Files) (words : List Text) (v : Verdict) → IsVerdict files words v → v.status ≡ 1 → HasNoDerivation files.known words

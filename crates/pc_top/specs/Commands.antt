@@ -154,22 +154,22 @@ HasNumber (events source schedule) = Unit {0}
 -- What is on out after a command has passed all its stages, if the bytes of its files are known. `swap`, `trace` and
 -- `events` write nothing if a text ended the run.
 abbrev pub OnOutOf : (Text → Option Text) → Option Asked → Change → Type 0
-OnOutOf told None out = ⊥
-OnOutOf told (Some (check source)) out = IfSome (told source) (WritesDerivation out)
-OnOutOf told (Some (judge source derivation)) out = Appends out.before out.now accepted_text
-OnOutOf told (Some (run source schedule)) out = IfSome (told source) (λ bytes. IfSome (told schedule) (WritesRun out bytes))
-OnOutOf told (Some (show source)) out = IfSome (told source) (WritesTree out)
-OnOutOf told (Some (make seed size)) out = (a b : ℕ) × IsSeed seed a × IsSize size b × WritesMade out a b
-OnOutOf told (Some (swap source schedule place)) out =
-    IfSome (told source) (λ bytes. IfSome (told schedule) (λ text. (n : ℕ) × IsPlace place n × (WritesSwap out bytes text n ⊎ Appends out.before out.now [])))
-OnOutOf told (Some (trace source schedule)) out =
-    IfSome (told source) (λ bytes. IfSome (told schedule) (λ text. WritesTrace out bytes text ⊎ Appends out.before out.now []))
-OnOutOf told (Some (events source schedule)) out =
-    IfSome (told source) (λ bytes. IfSome (told schedule) (λ text. WritesEvents out bytes text ⊎ Appends out.before out.now []))
-OnOutOf told (Some (places source)) out = IfSome (told source) (WritesPlaces out)
-OnOutOf told (Some (explain source)) out = IfSome (told source) (WritesExplained out source)
-OnOutOf told (Some (sends source)) out = IfSome (told source) (WritesSends out)
-OnOutOf told (Some (upgrade source derivation)) out = IfSome (told source) (λ bytes. IfSome (told derivation) (WritesUpgraded out bytes))
-OnOutOf told (Some (schedule_of source seed)) out = IfSome (told source) (λ bytes. (n : ℕ) × IsSeed seed n × WritesSchedule out n bytes)
-OnOutOf told (Some (play source seed)) out = IfSome (told source) (λ bytes. (n : ℕ) × IsSeed seed n × WritesPlay out n bytes)
-OnOutOf told (Some (outcomes source count)) out = IfSome (told source) (λ bytes. (n : ℕ) × IsCount count n × WritesOutcomes out n bytes)
+OnOutOf known None out = ⊥
+OnOutOf known (Some (check source)) out = IfSome (known source) (WritesDerivation out)
+OnOutOf known (Some (judge source derivation)) out = Appends out.before out.now accepted_text
+OnOutOf known (Some (run source schedule)) out = IfSome (known source) (λ bytes. IfSome (known schedule) (WritesRun out bytes))
+OnOutOf known (Some (show source)) out = IfSome (known source) (WritesTree out)
+OnOutOf known (Some (make seed size)) out = (a b : ℕ) × IsSeed seed a × IsSize size b × WritesMade out a b
+OnOutOf known (Some (swap source schedule place)) out =
+    IfSome (known source) (λ bytes. IfSome (known schedule) (λ text. (n : ℕ) × IsPlace place n × (WritesSwap out bytes text n ⊎ Appends out.before out.now [])))
+OnOutOf known (Some (trace source schedule)) out =
+    IfSome (known source) (λ bytes. IfSome (known schedule) (λ text. WritesTrace out bytes text ⊎ Appends out.before out.now []))
+OnOutOf known (Some (events source schedule)) out =
+    IfSome (known source) (λ bytes. IfSome (known schedule) (λ text. WritesEvents out bytes text ⊎ Appends out.before out.now []))
+OnOutOf known (Some (places source)) out = IfSome (known source) (WritesPlaces out)
+OnOutOf known (Some (explain source)) out = IfSome (known source) (WritesExplained out source)
+OnOutOf known (Some (sends source)) out = IfSome (known source) (WritesSends out)
+OnOutOf known (Some (upgrade source derivation)) out = IfSome (known source) (λ bytes. IfSome (known derivation) (WritesUpgraded out bytes))
+OnOutOf known (Some (schedule_of source seed)) out = IfSome (known source) (λ bytes. (n : ℕ) × IsSeed seed n × WritesSchedule out n bytes)
+OnOutOf known (Some (play source seed)) out = IfSome (known source) (λ bytes. (n : ℕ) × IsSeed seed n × WritesPlay out n bytes)
+OnOutOf known (Some (outcomes source count)) out = IfSome (known source) (λ bytes. (n : ℕ) × IsCount count n × WritesOutcomes out n bytes)

@@ -20,7 +20,7 @@ pub record ReadsSource (files : Files) (words : List Text) (asked : Asked) (sour
   pub asks : command_of words ≡ Some asked
   pub is_source : source_of asked ≡ Some source
   pub has_number : HasNumber asked
-  pub tells : files.told source ≡ Some bytes
+  pub tells : files.known source ≡ Some bytes
   pub unfailed : files.now source ≡ files.before source
   pub verdict : IsVerdict files words v
 
@@ -44,8 +44,8 @@ IsDerivationOf source text = (core : CoreData) × CoreOf source core × (ann : A
 -- failed.
 pub record ReadsBoth (files : Files) (words : List Text) (asked : Asked) (source derivation bytes text : Text) (v : Verdict) : Type 0 where
   pub asks : command_of words ≡ Some asked
-  pub tells : files.told source ≡ Some bytes
-  pub tells_text : files.told derivation ≡ Some text
+  pub tells : files.known source ≡ Some bytes
+  pub tells_text : files.known derivation ≡ Some text
   pub unfailed : NoneFailed files (source ∷ derivation ∷ [])
   pub verdict : IsVerdict files words v
 

@@ -19,18 +19,18 @@ use Rattle.pc_top.specs.Commands.Trace.{WritesTrace}
 -- text of its run, or the table of the outcomes of the seeds below a count. `swap`, `trace` and `events` write that, or
 -- nothing.
 abbrev pub OnOut : (Text → Option Text) → List Text → Change → Type 0
-OnOut told words out = OnOutOf told (command_of words) out
+OnOut known words out = OnOutOf known (command_of words) out
 
 -- If `swap` is done, it reports on the turns at its place. If they were exchanged, they lead where they led before: all
 -- four steps move, and both lists lead to the same configuration.
 abbrev pub Swaps : (Text → Option Text) → List Text → Change → Type 0
-Swaps told words out = (source schedule place : Text) → command_of words ≡ Some (swap source schedule place)
-    → IfSome (told source) (λ bytes. IfSome (told schedule) (λ text. (n : ℕ) × IsPlace place n × WritesSwap out bytes text n))
+Swaps known words out = (source schedule place : Text) → command_of words ≡ Some (swap source schedule place)
+    → IfSome (known source) (λ bytes. IfSome (known schedule) (λ text. (n : ℕ) × IsPlace place n × WritesSwap out bytes text n))
 
 -- If `trace` is done, all accesses of the run are on out with their clocks, and those that conflict are ordered.
 abbrev pub Traces : (Text → Option Text) → List Text → Change → Type 0
-Traces told words out = (source schedule : Text) → command_of words ≡ Some (trace source schedule)
-    → IfSome (told source) (λ bytes. IfSome (told schedule) (WritesTrace out bytes))
+Traces known words out = (source schedule : Text) → command_of words ≡ Some (trace source schedule)
+    → IfSome (known source) (λ bytes. IfSome (known schedule) (WritesTrace out bytes))
 
 -- ---- from one command to another
 
@@ -39,15 +39,15 @@ Traces told words out = (source schedule : Text) → command_of words ≡ Some (
 abbrev pub WrittenIsAccepted : Type 0
 WrittenIsAccepted =
     (files later : Files) (words later_words : List Text) (source derivation text : Text) → command_of words ≡ Some (check source)
-    → command_of later_words ≡ Some (judge source derivation) → later.told source ≡ files.told source → later.told derivation ≡ Some text
+    → command_of later_words ≡ Some (judge source derivation) → later.known source ≡ files.known source → later.known derivation ≡ Some text
     → IsVerdict files words (done text) → IsVerdict later later_words (done accepted_text)
 
 -- If `upgrade` is done with a text for a source, `judge` accepts it for the same source, and `upgrade` is done with the
 -- same text again.
 pub record UpgradedIsAccepted : Type 0 where
   pub judged : (files later : Files) (words later_words : List Text) (source derivation other text : Text) → command_of words ≡ Some (upgrade source derivation)
-      → command_of later_words ≡ Some (judge source other) → later.told source ≡ files.told source → later.told other ≡ Some text
+      → command_of later_words ≡ Some (judge source other) → later.known source ≡ files.known source → later.known other ≡ Some text
       → IsVerdict files words (done text) → IsVerdict later later_words (done accepted_text)
   pub again : (files later : Files) (words later_words : List Text) (source derivation other text : Text) → command_of words ≡ Some (upgrade source derivation)
-      → command_of later_words ≡ Some (upgrade source other) → later.told source ≡ files.told source → later.told other ≡ Some text
+      → command_of later_words ≡ Some (upgrade source other) → later.known source ≡ files.known source → later.known other ≡ Some text
       → IsVerdict files words (done text) → IsVerdict later later_words (done text)

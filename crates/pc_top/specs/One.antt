@@ -4,13 +4,13 @@ use Rattle.pc_lists.specs.Texts.{Text}
 use Rattle.pc_args.specs.Asked.{Asked, command_of}
 use Rattle.pc_top.specs.Asked.{IsVerdict}
 use Rattle.pc_top.specs.Commands.{files_of}
-use Rattle.pc_refusals.specs.Named.{AllTold, Files, NoneFailed}
+use Rattle.pc_refusals.specs.Named.{AllKnown, Files, NoneFailed}
 use Rattle.pc_refusals.specs.Verdict.{Verdict}
 
 -- The bytes of the files that the words name are known.
 abbrev pub TellsOf : (Text → Option Text) → Option Asked → Type 0
-TellsOf told None = Unit {0}
-TellsOf told (Some asked) = AllTold told (files_of asked)
+TellsOf known None = Unit {0}
+TellsOf known (Some asked) = AllKnown known (files_of asked)
 
 -- No reading of them failed.
 abbrev pub UnfailedOf : Files → Option Asked → Type 0
@@ -19,5 +19,5 @@ UnfailedOf files (Some asked) = NoneFailed files (files_of asked)
 
 -- Then any two verdicts are equal.
 abbrev pub VerdictIsOne : Type 0
-VerdictIsOne = (files : Files) (words : List Text) (v w : Verdict) → UnfailedOf files (command_of words) → TellsOf files.told (command_of words)
+VerdictIsOne = (files : Files) (words : List Text) (v w : Verdict) → UnfailedOf files (command_of words) → TellsOf files.known (command_of words)
     → IsVerdict files words v → IsVerdict files words w → v ≡ w

@@ -11,7 +11,7 @@ use Rattle.pc_top.specs.One.{UnfailedOf}
 -- command's files failed.
 pub record Answered (files : Files) (words : List Text) (asked : Asked) (source bytes : Text) (v : Verdict) : Type 0 where
   pub asks : command_of words ≡ Some asked
-  pub tells : files.told source ≡ Some bytes
+  pub tells : files.known source ≡ Some bytes
   pub unfailed : UnfailedOf files (Some asked)
   pub verdict : IsVerdict files words v
 
@@ -22,5 +22,5 @@ abbrev pub PlayedAsRun : Type 0
 PlayedAsRun =
     (chosen played ran : Files) (choosing playing running : List Text) (source bytes seed schedule line : Text) (v w : Verdict)
     → Answered chosen choosing (schedule_of source seed) source bytes (done line) → Answered played playing (play source seed) source bytes v
-    → Answered ran running (run source schedule) source bytes w → ran.told schedule ≡ Some line
+    → Answered ran running (run source schedule) source bytes w → ran.known schedule ≡ Some line
     → (v.status ≡ w.status) × (v.out ≡ w.out)

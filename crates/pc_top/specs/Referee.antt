@@ -22,6 +22,6 @@ IsNoJudge asked = (source derivation : Text) → asked ≡ Some (judge source de
 -- If the status of `judge` is 0, the referee was asked about each node of the source's core, in order, with its note in
 -- the derivation. Any other command leaves the list of what it was asked unchanged.
 abbrev pub Asks : (Text → Option Text) → Option Asked → (status : ℕ) → Option Pairs → Option Pairs → Type 0
-Asks told asked status before after =
-    ((source derivation : Text) → asked ≡ Some (judge source derivation) → status ≡ 0 → JudgedAll (told source) (told derivation) before after)
+Asks known asked status before after =
+    ((source derivation : Text) → asked ≡ Some (judge source derivation) → status ≡ 0 → JudgedAll (known source) (known derivation) before after)
     × (IsNoJudge asked → after ≡ before)

@@ -40,5 +40,5 @@ derived law a h =
       (text, record { version = version.One; slots = fits.0; notes = fits.1; within = small_notes a.source.core a.ann formed.1 s.1; same = refl }, refl, refl),
     )
 
-pub check_answers : CoresAreFormed → (source : Named) → ReadOn source_limit source → IsSome source.told → Answers (IsCheck source)
-check_answers law source on told = accepted_answers law Derived source on told (λ r a h. derived law a h)
+pub check_answers : CoresAreFormed → (source : Named) → ReadOn source_limit source → IsSome source.known → Answers (IsCheck source)
+check_answers law source on known = accepted_answers law Derived source on known (λ r a h. derived law a h)

@@ -27,15 +27,15 @@ use Rattle.pc_top.specs.Shapes.ByNumber.{no_number, spelled}
 use Rattle.pc_verdicts.specs.Free.{ElevenIsFree, IsAnswerOf}
 use Rattle.pc_verdicts.specs.There.{read_through}
 
-reading_moves : (limit : ℕ) (told : Option Text) (before now taken many : ℕ) → limit < many → now ≡ before → (r : Reading) → IsReading limit told before now taken r → IsReading limit told 0 0 many r
-reading_moves limit told before now taken many far same (whole bytes) h = h
-reading_moves limit told before now taken many far same longer h = (far, λ e. h.1 same)
+reading_moves : (limit : ℕ) (known : Option Text) (before now taken many : ℕ) → limit < many → now ≡ before → (r : Reading) → IsReading limit known before now taken r → IsReading limit known 0 0 many r
+reading_moves limit known before now taken many far same (whole bytes) h = h
+reading_moves limit known before now taken many far same longer h = (far, λ e. h.1 same)
 
-file_moves : {T : Type 0} → (name : Text) (told : Option Text) (before now taken many limit : ℕ) (Stages : Reading → Result T Verdict → Type 0) (One Other : T → Verdict → Type 0) (v : Verdict) → limit < many → now ≡ before
-    → ((x : T) → One x v → Other x v) → FromFile (record { name = name; told = told; before = before; now = now; taken = taken }) limit Stages One v
-    → FromFile (record { name = name; told = told; before = 0; now = 0; taken = many }) limit Stages Other v
-file_moves name told before now taken many limit Stages One Other v far same last (refuses r g h) = refuses r (reading_moves limit told before now taken many far same r g) h
-file_moves name told before now taken many limit Stages One Other v far same last (goes_on r x g h l) = goes_on r x (reading_moves limit told before now taken many far same r g) h (last x l)
+file_moves : {T : Type 0} → (name : Text) (known : Option Text) (before now taken many limit : ℕ) (Stages : Reading → Result T Verdict → Type 0) (One Other : T → Verdict → Type 0) (v : Verdict) → limit < many → now ≡ before
+    → ((x : T) → One x v → Other x v) → FromFile (record { name = name; known = known; before = before; now = now; taken = taken }) limit Stages One v
+    → FromFile (record { name = name; known = known; before = 0; now = 0; taken = many }) limit Stages Other v
+file_moves name known before now taken many limit Stages One Other v far same last (refuses r g h) = refuses r (reading_moves limit known before now taken many far same r g) h
+file_moves name known before now taken many limit Stages One Other v far same last (goes_on r x g h l) = goes_on r x (reading_moves limit known before now taken many far same r g) h (last x l)
 
 number_moves : (Is : ℕ → Type 0) (One Other : ℕ → Verdict → Type 0) (v : Verdict) → ((n : ℕ) → One n v → Other n v) → ByNumber Is One v → ByNumber Is Other v
 number_moves Is One Other v move (spelled n is h) = spelled n is (move n h)
@@ -43,31 +43,31 @@ number_moves Is One Other v move (no_number none is) = no_number none is
 
 module _ (files : Files) where
   abbrev read : Text → Named
-  read name = named (read_through files.told) name
+  read name = named (read_through files.known) name
 
   module _ (source : Text) (kept : files.now source ≡ files.before source) (v : Verdict) where
     abbrev source_moves : {T : Type 0} → (Stages : Reading → Result T Verdict → Type 0) (One Other : T → Verdict → Type 0) → ((x : T) → One x v → Other x v)
         → FromFile (named files source) source_limit Stages One v → FromFile (read source) source_limit Stages Other v
     source_moves Stages One Other last h =
-        file_moves source (files.told source) (files.before source) (files.now source) files.taken (derivation_limit + 1) source_limit Stages One Other v (omega arith) kept last h
+        file_moves source (files.known source) (files.before source) (files.now source) files.taken (derivation_limit + 1) source_limit Stages One Other v (omega arith) kept last h
 
     module _ (other : Text) (also : files.now other ≡ files.before other) where
       scheduled_moves : (Last : LastOfTurns) → OfScheduled Last (named files source) (named files other) v → OfScheduled Last (read source) (read other) v
       scheduled_moves Last h =
           source_moves (AcceptedStage source) _ _
-          (λ a k. file_moves other (files.told other) (files.before other) (files.now other) files.taken (derivation_limit + 1) schedule_limit _ _ _ v (omega arith) also (λ x l. l) k) h
+          (λ a k. file_moves other (files.known other) (files.before other) (files.now other) files.taken (derivation_limit + 1) schedule_limit _ _ _ v (omega arith) also (λ x l. l) k) h
 
       derivation_moves : (text : Ann → Text) → OfDerivation text (named files source) (named files other) v → OfDerivation text (read source) (read other) v
       derivation_moves text h =
           source_moves (SourceStage source) _ _
-          (λ s k. file_moves other (files.told other) (files.before other) (files.now other) files.taken (derivation_limit + 1) derivation_limit _ _ _ v (omega arith) also (λ x l. l) k) h
+          (λ s k. file_moves other (files.known other) (files.before other) (files.now other) files.taken (derivation_limit + 1) derivation_limit _ _ _ v (omega arith) also (λ x l. l) k) h
 
       parts_move : (text : Ann → Text) → OfDerivation text (named files source) (in_parts (named files other)) v → OfDerivation text (read source) (in_parts (read other)) v
       parts_move text h =
           source_moves (SourceStage source) _ _
-          (λ s k. file_moves other (files.told other) (files.before other) (files.now other) (derivation_limit + files.taken) (derivation_limit + (derivation_limit + 1)) derivation_limit _ _ _ v (omega arith) also (λ x l. l) k) h
+          (λ s k. file_moves other (files.known other) (files.before other) (files.now other) (derivation_limit + files.taken) (derivation_limit + (derivation_limit + 1)) derivation_limit _ _ _ v (omega arith) also (λ x l. l) k) h
 
-  moves : (asked : Option Asked) (v : Verdict) → UnfailedOf files asked → IsVerdictOf files asked v → IsVerdictOf (read_through files.told) asked v
+  moves : (asked : Option Asked) (v : Verdict) → UnfailedOf files asked → IsVerdictOf files asked v → IsVerdictOf (read_through files.known) asked v
   moves None v u h = h
   moves (Some (check source)) v u h = source_moves source u.0 v _ _ _ (λ x l. l) h
   moves (Some (judge source derivation)) v u h = parts_move source u.0 v derivation u.1.0 _ h
@@ -111,17 +111,17 @@ module _ (files : Files) where
 
 -- ---- it is the one verdict
 
-unfailed : (told : Text → Option Text) (names : List Text) → NoneFailed (read_through told) names
-unfailed told [] = tt
-unfailed told (n ∷ ns) = (refl, unfailed told ns)
+unfailed : (known : Text → Option Text) (names : List Text) → NoneFailed (read_through known) names
+unfailed known [] = tt
+unfailed known (n ∷ ns) = (refl, unfailed known ns)
 
-unfailed_of : (told : Text → Option Text) (asked : Option Asked) → UnfailedOf (read_through told) asked
-unfailed_of told None = tt
-unfailed_of told (Some asked) = unfailed told (files_of asked)
+unfailed_of : (known : Text → Option Text) (asked : Option Asked) → UnfailedOf (read_through known) asked
+unfailed_of known None = tt
+unfailed_of known (Some asked) = unfailed known (files_of asked)
 
-pub same_verdict : VerdictIsOne → (files : Files) (words : List Text) (v w : Verdict) → UnfailedOf files (command_of words) → TellsOf files.told (command_of words)
-    → IsVerdictOf files (command_of words) v → IsVerdictOf (read_through files.told) (command_of words) w → v ≡ w
-same_verdict one files words v w u t h k = one (read_through files.told) words v w (unfailed_of files.told (command_of words)) t (moves files (command_of words) v u h) k
+pub same_verdict : VerdictIsOne → (files : Files) (words : List Text) (v w : Verdict) → UnfailedOf files (command_of words) → TellsOf files.known (command_of words)
+    → IsVerdictOf files (command_of words) v → IsVerdictOf (read_through files.known) (command_of words) w → v ≡ w
+same_verdict one files words v w u t h k = one (read_through files.known) words v w (unfailed_of files.known (command_of words)) t (moves files (command_of words) v u h) k
 
 pub eleven_free : VerdictIsOne → ElevenIsFree
 eleven_free one files words out err status v u t so se completes is = elim (completes (λ name f. none_failed files (command_of words) name u f) so se) [

@@ -150,9 +150,9 @@ module _ (core : CoreData) (list : List ℕ) where
   by_end name formed safe (long n h) = (Err (refused 12 (too_long_line name n)), too_long n h)
   by_end name formed safe (many n h) = (Err (refused 8 (many_actors_line name n)), too_many n h)
 
-pub events_answers : CoresAreFormed → ValidIsSafe → (source schedule : Named) → ReadOn source_limit source → IsSome source.told → ReadOn schedule_limit schedule → IsSome schedule.told → Answers (IsEvents source schedule)
-events_answers law safe source schedule on told also too =
-    scheduled_answers law (λ name core list. EndsWith (EventsTelling name core list)) source schedule on told also too
+pub events_answers : CoresAreFormed → ValidIsSafe → (source schedule : Named) → ReadOn source_limit source → IsSome source.known → ReadOn schedule_limit schedule → IsSome schedule.known → Answers (IsEvents source schedule)
+events_answers law safe source schedule on known also too =
+    scheduled_answers law (λ name core list. EndsWith (EventsTelling name core list)) source schedule on known also too
     (λ r a h q turns g.
     let core = a.source.core in
     let is = accepted_core_safe law safe h in

@@ -56,9 +56,9 @@ module _ (law : CoresAreFormed) (never : AcceptedNeverLacks) where
   lacks_nothing : {name : Text} {r : Reading} {a : Accepted} → AcceptedStage name r (Ok a) → NeverLacks a.source.core
   lacks_nothing h = accepted_lacks_nothing law never h
 
-  pub run_answers : (source schedule : Named) → ReadOn source_limit source → IsSome source.told → ReadOn schedule_limit schedule → IsSome schedule.told → Answers (IsRun source schedule)
-  run_answers source schedule on told also too =
-      scheduled_answers law Ran source schedule on told also too (λ r a h q turns g. ran_answers schedule.name a.source.core (spread turns) (lacks_nothing h))
+  pub run_answers : (source schedule : Named) → ReadOn source_limit source → IsSome source.known → ReadOn schedule_limit schedule → IsSome schedule.known → Answers (IsRun source schedule)
+  run_answers source schedule on known also too =
+      scheduled_answers law Ran source schedule on known also too (λ r a h q turns g. ran_answers schedule.name a.source.core (spread turns) (lacks_nothing h))
 
   -- ---- a program that is made
 
@@ -84,16 +84,16 @@ module _ (law : CoresAreFormed) (never : AcceptedNeverLacks) where
 
   -- ---- the list of a seed
 
-  pub play_answers : (source : Named) (seed : Text) → ReadOn source_limit source → IsSome source.told → Answers (IsPlay source seed)
-  play_answers source seed on told =
+  pub play_answers : (source : Named) (seed : Text) → ReadOn source_limit source → IsSome source.known → Answers (IsPlay source seed)
+  play_answers source seed on known =
       number_answers (IsSeed seed) (λ n. OfAccepted (Played source.name n) source) (seed_read seed)
-      (λ n. accepted_answers law (Played source.name n) source on told
+      (λ n. accepted_answers law (Played source.name n) source on known
       (λ r a h.
       let one = lists_are_one a.source.core n in
       let w = ran_answers source.name a.source.core one.list (lacks_nothing h) in
       (w.0, (one.list, one.chosen, w.1))))
 
-  pub schedule_answers : (source : Named) (seed : Text) → ReadOn source_limit source → IsSome source.told → Answers (IsSchedule source seed)
-  schedule_answers source seed on told =
+  pub schedule_answers : (source : Named) (seed : Text) → ReadOn source_limit source → IsSome source.known → Answers (IsSchedule source seed)
+  schedule_answers source seed on known =
       number_answers (IsSeed seed) (λ n. OfAccepted (Scheduled n) source) (seed_read seed)
-      (λ n. accepted_answers law (Scheduled n) source on told (λ r a h. let line = chosen_line n a.source.core in (done line.0, (line.0, line.1, refl))))
+      (λ n. accepted_answers law (Scheduled n) source on known (λ r a h. let line = chosen_line n a.source.core in (done line.0, (line.0, line.1, refl))))

@@ -232,9 +232,9 @@ module _ (core : CoreData) (formed : Formed core) (ents : List (Option ℕ)) whe
         },
       )
 
-pub sends_answers : CoresAreFormed → (source : Named) → ReadOn source_limit source → IsSome source.told → Answers (IsSends source)
-sends_answers law source on told =
-    accepted_answers law Sent source on told
+pub sends_answers : CoresAreFormed → (source : Named) → ReadOn source_limit source → IsSome source.known → Answers (IsSends source)
+sends_answers law source on known =
+    accepted_answers law Sent source on known
     (λ r a h.
     let table = table_is_there a.source.core (source_formed law (accepted_source h).0).0 (noted_entities a.ann) in
     let text = table_text a.source.core table.0 in

@@ -66,35 +66,35 @@ module _ (law : CoresAreFormed) where
   accepted_ends : (name : Text) (r : Reading) → HasEnd (Length source_limit name r) → HasEnd (AcceptedStage name r)
   accepted_ends name r h = after_ends (SourceStage name r) (Typing name) (source_ends name r h) (λ s is. typing_ends name s (checked s.core (source_formed law is).0))
 
-  pub accepted_answers : (Last : Accepted → Verdict → Type 0) (file : Named) → ReadOn source_limit file → IsSome file.told
+  pub accepted_answers : (Last : Accepted → Verdict → Type 0) (file : Named) → ReadOn source_limit file → IsSome file.known
       → ((r : Reading) (a : Accepted) → AcceptedStage file.name r (Ok a) → Answers (Last a)) → Answers (OfAccepted Last file)
-  accepted_answers Last file on told last =
-      let r = read_file file source_limit on told in
+  accepted_answers Last file on known last =
+      let r = read_file file source_limit on known in
       file_answers file source_limit (AcceptedStage file.name) Last r.0 r.1 (accepted_ends file.name r.0 r.2) (last r.0)
 
-  turns_answers : (Last : LastOfTurns) (schedule : Named) (a : Accepted) → ReadOn schedule_limit schedule → IsSome schedule.told
+  turns_answers : (Last : LastOfTurns) (schedule : Named) (a : Accepted) → ReadOn schedule_limit schedule → IsSome schedule.known
       → ((r : Reading) (turns : List Turn) → ScheduleStage schedule.name r (Ok turns) → Answers (Last schedule.name a.source.core (spread turns))) → Answers (OfTurns Last schedule a)
-  turns_answers Last schedule a on told last =
-      let r = read_file schedule schedule_limit on told in
+  turns_answers Last schedule a on known last =
+      let r = read_file schedule schedule_limit on known in
       file_answers schedule schedule_limit (ScheduleStage schedule.name) (λ turns. Last schedule.name a.source.core (spread turns)) r.0 r.1 (schedule_ends schedule.name r.0 r.2) (last r.0)
 
-  pub scheduled_answers : (Last : LastOfTurns) (source schedule : Named) → ReadOn source_limit source → IsSome source.told → ReadOn schedule_limit schedule → IsSome schedule.told
+  pub scheduled_answers : (Last : LastOfTurns) (source schedule : Named) → ReadOn source_limit source → IsSome source.known → ReadOn schedule_limit schedule → IsSome schedule.known
       → ((r : Reading) (a : Accepted) → AcceptedStage source.name r (Ok a) → (q : Reading) (turns : List Turn) → ScheduleStage schedule.name q (Ok turns) → Answers (Last schedule.name a.source.core (spread turns)))
       → Answers (OfScheduled Last source schedule)
-  scheduled_answers Last source schedule on told also too last =
-      accepted_answers (OfTurns Last schedule) source on told (λ r a h. turns_answers Last schedule a also too (last r a h))
+  scheduled_answers Last source schedule on known also too last =
+      accepted_answers (OfTurns Last schedule) source on known (λ r a h. turns_answers Last schedule a also too (last r a h))
 
-  judged_answers : (text : Ann → Text) (source derivation : Named) (s : Source) (r : Reading) → SourceStage source.name r (Ok s) → ReadOn derivation_limit derivation → IsSome derivation.told
+  judged_answers : (text : Ann → Text) (source derivation : Named) (s : Source) (r : Reading) → SourceStage source.name r (Ok s) → ReadOn derivation_limit derivation → IsSome derivation.known
       → Answers (OfJudged text source derivation s)
-  judged_answers text source derivation s q h on told =
-      let r = read_file derivation derivation_limit on told in
+  judged_answers text source derivation s q h on known =
+      let r = read_file derivation derivation_limit on known in
       file_answers derivation derivation_limit (DerivationStage derivation.name) (λ ann. EndsAs (λ _. text ann) (Judging source.name derivation.name s ann)) r.0 r.1
       (derivation_ends derivation.name r.0 r.2)
       (λ ann is. ends_answer (λ _. text ann) (Judging source.name derivation.name s ann) (judging_ends source.name derivation.name s ann (source_formed law h).0))
 
-  pub derivation_answers : (text : Ann → Text) (source derivation : Named) → ReadOn source_limit source → IsSome source.told → ReadOn derivation_limit derivation → IsSome derivation.told
+  pub derivation_answers : (text : Ann → Text) (source derivation : Named) → ReadOn source_limit source → IsSome source.known → ReadOn derivation_limit derivation → IsSome derivation.known
       → Answers (OfDerivation text source derivation)
-  derivation_answers text source derivation on told also too =
-      let r = read_file source source_limit on told in
+  derivation_answers text source derivation on known also too =
+      let r = read_file source source_limit on known in
       file_answers source source_limit (SourceStage source.name) (OfJudged text source derivation) r.0 r.1 (source_ends source.name r.0 r.2)
       (λ s h. judged_answers text source derivation s r.0 h also too)

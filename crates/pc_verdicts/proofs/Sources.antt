@@ -31,9 +31,9 @@ use Rattle.pc_verdicts.proofs.Typed.{Checked, checked, fails, is_valid, left, st
 
 -- ---- `show`
 
-pub show_answers : (source : Named) → ReadOn source_limit source → IsSome source.told → Answers (IsShow source)
-show_answers source on told =
-    let r = read_file source source_limit on told in
+pub show_answers : (source : Named) → ReadOn source_limit source → IsSome source.known → Answers (IsShow source)
+show_answers source on known =
+    let r = read_file source source_limit on known in
     file_answers source source_limit (FileStage source.name) Shown r.0 r.1 (file_ends source.name r.0 r.2) (λ file h. (done (printed file), refl))
 
 -- ---- `places`
@@ -44,9 +44,9 @@ placed s h =
     let text = places_text s.bytes core.tokens s.core in
     (done text, (text, (core.tokens, core.lexed, refl), refl))
 
-pub places_answers : (source : Named) → ReadOn source_limit source → IsSome source.told → Answers (IsPlaces source)
-places_answers source on told =
-    let r = read_file source source_limit on told in
+pub places_answers : (source : Named) → ReadOn source_limit source → IsSome source.known → Answers (IsPlaces source)
+places_answers source on known =
+    let r = read_file source source_limit on known in
     file_answers source source_limit (SourceStage source.name) Placed r.0 r.1 (source_ends source.name r.0 r.2) (λ s h. placed s h)
 
 -- ---- `explain`
@@ -76,7 +76,7 @@ module _ (law : CoresAreFormed) where
       let end = tree_told name s.0 s.3 file core.0 s.2 s.4 s.5 core.1 in
       (end.0, subst (λ (q : Reading). ExplainedStage name q end.0) (sym s.1) (has_tree (subst (λ (q : Reading). FileStage name q (Ok file)) s.1 h) end.1))
 
-  pub explain_answers : (source : Named) → ReadOn source_limit source → IsSome source.told → Answers (IsExplain source)
-  explain_answers source on told =
-      let r = read_file source source_limit on told in
+  pub explain_answers : (source : Named) → ReadOn source_limit source → IsSome source.known → Answers (IsExplain source)
+  explain_answers source on known =
+      let r = read_file source source_limit on known in
       file_answers source source_limit (ExplainedStage source.name) Explained r.0 r.1 (explained_ends source.name r.0 (file_ends source.name r.0 r.2)) (λ text h. (done text, refl))

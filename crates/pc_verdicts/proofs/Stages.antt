@@ -34,10 +34,10 @@ ends_answer text Stage h = (ended text h.0, (h.0, h.1, refl))
 
 -- If the file is longer than its limit, its reading took more than that.
 abbrev pub ReadOn : (limit : ℕ) → Named → Type 0
-ReadOn limit file = IfSome file.told (λ bytes. limit < length bytes → limit < file.taken)
+ReadOn limit file = IfSome file.known (λ bytes. limit < length bytes → limit < file.taken)
 
-reads : (limit : ℕ) (name : Text) (told : Option Text) (before now taken : ℕ) → IfSome told (λ bytes. limit < length bytes → limit < taken) → IsSome told
-    → (r : Reading) × IsReading limit told before now taken r × HasEnd (Length limit name r)
+reads : (limit : ℕ) (name : Text) (known : Option Text) (before now taken : ℕ) → IfSome known (λ bytes. limit < length bytes → limit < taken) → IsSome known
+    → (r : Reading) × IsReading limit known before now taken r × HasEnd (Length limit name r)
 reads limit name None before now taken on h = absurd (false≢true h)
 reads limit name (Some b) before now taken on h = elim (cases_lt limit (length b)) [
   | inl long ↦ (longer, (on long, λ same. long), (Err (refused 8 (longer_line name limit)), is_longer))
@@ -45,14 +45,14 @@ reads limit name (Some b) before now taken on h = elim (cases_lt limit (length b
 ]
 
 -- A file whose bytes are known has a reading, and its length stage ends.
-pub read_file : (file : Named) (limit : ℕ) → ReadOn limit file → IsSome file.told → (r : Reading) × IsReadingOf file limit r × HasEnd (Length limit file.name r)
-read_file file limit on told = reads limit file.name file.told file.before file.now file.taken on told
+pub read_file : (file : Named) (limit : ℕ) → ReadOn limit file → IsSome file.known → (r : Reading) × IsReadingOf file limit r × HasEnd (Length limit file.name r)
+read_file file limit on known = reads limit file.name file.known file.before file.now file.taken on known
 
 -- one that was read far enough
 pub far_on : (limit : ℕ) (file : Named) → limit < file.taken → ReadOn limit file
-far_on limit file far = by file.told
+far_on limit file far = by file.known
   where
-    by : (told : Option Text) → IfSome told (λ bytes. limit < length bytes → limit < file.taken)
+    by : (known : Option Text) → IfSome known (λ bytes. limit < length bytes → limit < file.taken)
     by None = tt
     by (Some b) = λ long. far
 

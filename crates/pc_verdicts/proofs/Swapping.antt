@@ -124,9 +124,9 @@ module _ (name : Text) (core : CoreData) (safe : Safe core) (never : NeverLacks 
   ]
 
 module _ (law : CoresAreFormed) (never : AcceptedNeverLacks) (safe : ValidIsSafe) where
-  swap_at : (source schedule : Named) (place : ℕ) → 1 ≤ place → ReadOn source_limit source → IsSome source.told → ReadOn schedule_limit schedule → IsSome schedule.told → Answers (IsSwapAt source schedule place)
-  swap_at source schedule place first on told also too =
-      scheduled_answers law (λ name core list. EndsWith (Swapping name core list place)) source schedule on told also too
+  swap_at : (source schedule : Named) (place : ℕ) → 1 ≤ place → ReadOn source_limit source → IsSome source.known → ReadOn schedule_limit schedule → IsSome schedule.known → Answers (IsSwapAt source schedule place)
+  swap_at source schedule place first on known also too =
+      scheduled_answers law (λ name core list. EndsWith (Swapping name core list place)) source schedule on known also too
       (λ r a h q turns g.
       let says = schedule_says g in
       let count = few_turns g in
@@ -134,10 +134,10 @@ module _ (law : CoresAreFormed) (never : AcceptedNeverLacks) (safe : ValidIsSafe
       ends_answer (λ text. text) (Swapping schedule.name a.source.core (spread turns) place)
       (swapping_ends schedule.name a.source.core (accepted_core_safe law safe h) (accepted_lacks_nothing law never h) (spread turns) (small_list says.0 turns says.2) (omega (arith, count, all)) place first))
 
-  by_place : (source schedule : Named) (place : Text) → Read (IsPlace place) → ReadOn source_limit source → IsSome source.told → ReadOn schedule_limit schedule → IsSome schedule.told
+  by_place : (source schedule : Named) (place : Text) → Read (IsPlace place) → ReadOn source_limit source → IsSome source.known → ReadOn schedule_limit schedule → IsSome schedule.known
       → Answers (IsSwap source schedule place)
-  by_place source schedule place (inl n) on told also too = let v = swap_at source schedule n.0 n.1.1 on told also too in (v.0, placed n.0 n.1 v.1)
-  by_place source schedule place (inr refuted) on told also too = (refused 2 usage_line, no_number refuted refl)
+  by_place source schedule place (inl n) on known also too = let v = swap_at source schedule n.0 n.1.1 on known also too in (v.0, placed n.0 n.1 v.1)
+  by_place source schedule place (inr refuted) on known also too = (refused 2 usage_line, no_number refuted refl)
 
-  pub swap_answers : (source schedule : Named) (place : Text) → ReadOn source_limit source → IsSome source.told → ReadOn schedule_limit schedule → IsSome schedule.told → Answers (IsSwap source schedule place)
-  swap_answers source schedule place on told also too = by_place source schedule place (place_read place) on told also too
+  pub swap_answers : (source schedule : Named) (place : Text) → ReadOn source_limit source → IsSome source.known → ReadOn schedule_limit schedule → IsSome schedule.known → Answers (IsSwap source schedule place)
+  swap_answers source schedule place on known also too = by_place source schedule place (place_read place) on known also too

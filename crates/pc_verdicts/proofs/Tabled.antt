@@ -44,7 +44,7 @@ module _ (core : CoreData) where
     by_shown : (b : Bool) → list_any (λ e. shows_outcome e p) es ≡ b → Table (seed + 1)
     by_shown true any = inl (counted u.plays p es, with_shown core seed es u p is few any)
     by_shown false none = elim (cases_lt texts_limit (total_texts es + length p.text)) [
-      | inl long ↦ inr (seed, omega arith, inr (record { entries = es; told = u; play = p; is = is; within = few; new = none; passes = long }))
+      | inl long ↦ inr (seed, omega arith, inr (record { entries = es; table = u; play = p; is = is; within = few; new = none; passes = long }))
       | inr short ↦ inl (es ++ entry_of (length u.plays) p ∷ [], with_new core seed es u p is few none short)
     ]
 
@@ -52,7 +52,7 @@ module _ (core : CoreData) where
   more seed es u =
       let p = play_of seed in
       elim (cases_lt steps_limit (total_steps u.plays + p.0.steps)) [
-        | inl many ↦ inr (seed, omega arith, inl (record { entries = es; told = u; play = p.0; is = p.1; passes = many }))
+        | inl many ↦ inr (seed, omega arith, inl (record { entries = es; table = u; play = p.0; is = p.1; passes = many }))
         | inr few ↦ by_shown seed es u p.0 p.1 few (list_any (λ e. shows_outcome e p.0) es) refl
       ]
 
@@ -72,8 +72,8 @@ module _ (core : CoreData) where
     ]
   ]
 
-pub outcomes_answers : CoresAreFormed → (source : Named) (count : Text) → ReadOn source_limit source → IsSome source.told → Answers (IsOutcomes source count)
-outcomes_answers law source count on told =
+pub outcomes_answers : CoresAreFormed → (source : Named) (count : Text) → ReadOn source_limit source → IsSome source.known → Answers (IsOutcomes source count)
+outcomes_answers law source count on known =
     number_answers (IsCount count) (λ n. OfAccepted (Tabled source.name n) source) (count_read count)
-    (λ n. accepted_answers law (Tabled source.name n) source on told
+    (λ n. accepted_answers law (Tabled source.name n) source on known
     (λ r a h. ends_answer (λ text. text) (OutcomesTelling source.name a.source.core n) (telling_ends a.source.core source.name n)))

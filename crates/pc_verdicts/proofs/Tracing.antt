@@ -194,7 +194,7 @@ module _ (core : CoreData) (list : List ℕ) where
   tracing_ends : (name : Text) → Safe core → HasEnd (Tracing name core list)
   tracing_ends name safe = by_end name safe (run_end safe)
 
-pub trace_answers : CoresAreFormed → ValidIsSafe → (source schedule : Named) → ReadOn source_limit source → IsSome source.told → ReadOn schedule_limit schedule → IsSome schedule.told → Answers (IsTrace source schedule)
-trace_answers law safe source schedule on told also too =
-    scheduled_answers law (λ name core list. EndsWith (Tracing name core list)) source schedule on told also too
+pub trace_answers : CoresAreFormed → ValidIsSafe → (source schedule : Named) → ReadOn source_limit source → IsSome source.known → ReadOn schedule_limit schedule → IsSome schedule.known → Answers (IsTrace source schedule)
+trace_answers law safe source schedule on known also too =
+    scheduled_answers law (λ name core list. EndsWith (Tracing name core list)) source schedule on known also too
     (λ r a h q turns g. ends_answer (λ text. text) (Tracing schedule.name a.source.core (spread turns)) (tracing_ends a.source.core (spread turns) schedule.name (accepted_core_safe law safe h)))

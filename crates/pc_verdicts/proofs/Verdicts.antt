@@ -29,9 +29,9 @@ use Rattle.pc_verdicts.proofs.Tabled.{outcomes_answers}
 use Rattle.pc_verdicts.proofs.Tracing.{trace_answers}
 use Rattle.pc_verdicts.specs.There.{ThereIsAVerdict, read_through}
 
-module _ (law : CoresAreFormed) (never : AcceptedNeverLacks) (safe : ValidIsSafe) (told : Text → Option Text) where
+module _ (law : CoresAreFormed) (never : AcceptedNeverLacks) (safe : ValidIsSafe) (known : Text → Option Text) where
   abbrev file : Text → Named
-  file name = named (read_through told) name
+  file name = named (read_through known) name
 
   source_on : (name : Text) → ReadOn source_limit (file name)
   source_on name = far_on source_limit (file name) (omega arith)
@@ -45,7 +45,7 @@ module _ (law : CoresAreFormed) (never : AcceptedNeverLacks) (safe : ValidIsSafe
   parts_on : (name : Text) → ReadOn derivation_limit (in_parts (file name))
   parts_on name = far_on derivation_limit (in_parts (file name)) (omega arith)
 
-  answered : (asked : Option Asked) → TellsOf told asked → Answers (IsVerdictOf (read_through told) asked)
+  answered : (asked : Option Asked) → TellsOf known asked → Answers (IsVerdictOf (read_through known) asked)
   answered None h = (refused 2 usage_line, refl)
   answered (Some (check source)) h = check_answers law (file source) (source_on source) h.0
   answered (Some (judge source derivation)) h =
@@ -65,4 +65,4 @@ module _ (law : CoresAreFormed) (never : AcceptedNeverLacks) (safe : ValidIsSafe
   answered (Some (outcomes source count)) h = outcomes_answers law (file source) count (source_on source) h.0
 
 pub verdict_there : CoresAreFormed → AcceptedNeverLacks → ValidIsSafe → ThereIsAVerdict
-verdict_there law never safe told words h = answered law never safe told (command_of words) h
+verdict_there law never safe known words h = answered law never safe known (command_of words) h

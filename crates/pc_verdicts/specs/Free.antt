@@ -20,6 +20,6 @@ IsAnswerOf v out err status = (status ≡ v.status) × Appends out.before out.no
 -- words and on the bytes of the files.
 abbrev pub ElevenIsFree : Type 0
 ElevenIsFree =
-    (files : Files) (words : List Text) (out err : Change) (status : ℕ) (v : Verdict) → UnfailedOf files (command_of words) → TellsOf files.told (command_of words)
+    (files : Files) (words : List Text) (out err : Change) (status : ℕ) (v : Verdict) → UnfailedOf files (command_of words) → TellsOf files.known (command_of words)
     → (HasRisen out.faults_before out.faults_now → ⊥) → (HasRisen err.faults_before err.faults_now → ⊥) → Completes (IsVerdict files words) (FailedIn files words) out err status
-    → IsVerdict (read_through files.told) words v → (status ≡ 11) ⊎ IsAnswerOf v out err status
+    → IsVerdict (read_through files.known) words v → (status ≡ 11) ⊎ IsAnswerOf v out err status

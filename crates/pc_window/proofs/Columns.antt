@@ -3,9 +3,9 @@ use Rattle.std.proofs.Common.{◌≡◌, ◌≤◌, ◌-◌, ◌+◌, ℕ, List,
 use Rattle.std.specs.List.{prefix_len}
 use Rattle.std.proofs.lemmas.List.{length-reverse}
 use Rattle.std.proofs.lemmas.List.Sums.{prefix_len-le-length}
-use Rattle.pc_refusal_lines.specs.Place.{is_in_line, column_behind}
+use Rattle.pc_refusal_lines.specs.Place.{is_in_line, column_number}
 
-pub column_within : (front : List ℕ) → column_behind front - 1 ≤ length front
+pub column_within : (front : List ℕ) → column_number front - 1 ≤ length front
 column_within front =
     let within = prefix_len-le-length is_in_line (reverse front) in
     let same = length-reverse front in

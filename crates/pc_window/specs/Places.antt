@@ -2,11 +2,11 @@
 use Rattle.std.specs.Prelude.{ℕ, ◌∷◌, ◌++◌, take, drop, decimal}
 use Rattle.pc_caps.specs.declared.span.Span.{Span}
 use Rattle.pc_lists.specs.Texts.{Text}
-use Rattle.pc_refusal_lines.specs.Place.{line_behind, column_behind}
+use Rattle.pc_refusal_lines.specs.Place.{line_number, column_number}
 
 -- The line and the column of the byte at an offset, `L:C`.
 unfoldable pub line_and_column : Text → ℕ → Text
-line_and_column bytes at = decimal (line_behind (take at bytes)) ++ 58 ∷ decimal (column_behind (take at bytes))
+line_and_column bytes at = decimal (line_number (take at bytes)) ++ 58 ∷ decimal (column_number (take at bytes))
 
 -- The bytes of a span.
 unfoldable pub piece_of : Text → Span → Text

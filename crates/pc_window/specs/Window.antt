@@ -3,7 +3,7 @@ use Rattle.std.specs.Prelude.{ℕ, ◌+◌, ◌-◌, Bool, true, false, not, ◌
 use Rattle.std.specs.List.{prefix_len}
 use Rattle.pc_caps.specs.declared.span.Span.{Span}
 use Rattle.pc_lists.specs.Texts.{Text, line_end}
-use Rattle.pc_refusal_lines.specs.Place.{is_in_line, line_behind, column_behind}
+use Rattle.pc_refusal_lines.specs.Place.{is_in_line, line_number, column_number}
 use Rattle.pc_window.specs.Places.{line_and_column}
 use Rattle.pc_window.specs.Shown.{shown, goes_on}
 
@@ -22,7 +22,7 @@ width = 160
 
 -- How many bytes these bytes have in their last line, and where that line begins.
 abbrev pub before_of : Text → ℕ
-before_of front = column_behind front - 1
+before_of front = column_number front - 1
 
 abbrev pub line_start : Text → ℕ
 line_start front = length front - before_of front
@@ -107,11 +107,11 @@ source_line number line before = decimal number ++ (bar ++ (shown_line line befo
 -- What is written below the line of a span that begins after these bytes.
 abbrev pub under_line : Text → Span → (front : Text) → Text → Text
 under_line bytes span front line =
-    blanks (line_behind front)
+    blanks (line_number front)
     ++ (bar ++ (marks line (before_of front) (span.end - length front) ++ (further bytes (line_start front + length line) span.end ++ line_end)))
 
 abbrev pub window_in : Text → Span → (front : Text) → Text → Text
-window_in bytes span front line = source_line (line_behind front) line (before_of front) ++ under_line bytes span front line
+window_in bytes span front line = source_line (line_number front) line (before_of front) ++ under_line bytes span front line
 
 -- The line in which the span starts, and carets below the span.
 unfoldable pub window : Text → Span → Text

@@ -1,6 +1,6 @@
 //! Lines and columns.
 ghost use Rattle.std.specs.Prelude.{◌≡◌, ◌++◌, ◌<◌, ◌+◌, ◌^◌, OnOk, cond};
-ghost use Rattle.pc_refusal_lines.specs.Place.{is_line_end, line_behind, column_behind};
+ghost use Rattle.pc_refusal_lines.specs.Place.{is_line_end, line_number, column_number};
 ghost use Rattle.pc_window.specs.Places as spec;
 
 use crate::pieces::front_of;
@@ -17,8 +17,8 @@ pub(crate) struct Place {
 
 /// The place after these bytes.
 pub(crate) fn place_after(front: &[u8]) -> Place
-    ensures line { result.line ≡ line_behind front.now }
-    ensures column { result.column ≡ column_behind front.now }
+    ensures line { result.line ≡ line_number front.now }
+    ensures column { result.column ≡ column_number front.now }
 {
     let mut place = Place { line: 1, column: 1 };
     for byte in front {

@@ -25,7 +25,7 @@ check_room files source =
     let file = named files source in
     inferring files (check source) source refl refl
     (λ v is. inl (begins Derived file derived_late v is))
-    (λ laws unfailed told. accepted_one Derived file laws told.0 unfailed.0 one_derived)
+    (λ laws unfailed known. accepted_one Derived file laws known.0 unfailed.0 one_derived)
     (λ tells v out is e o. accepted_says Derived file (WritesDerivation out) v e
     (λ a of_bytes valid d.
     let grew : Appends out.before out.now d.0 = subst (λ (w : Verdict). Appends out.before out.now w.out) d.3 o in

@@ -68,7 +68,7 @@ wrote_by out v name core list source schedule e o by (inr h) =
     inr (c.0, subst (λ (t : Text). Appends out.before out.now t) c.1 o)
 
 wrote_on_out : (file schedule : Named) (v : Verdict) (out : Change) → IsEvents file schedule v → IsAccepting v.status → Appends out.before out.now v.out
-    → IfSome file.told (λ bytes. IfSome schedule.told (Wrote out v.status bytes))
+    → IfSome file.known (λ bytes. IfSome schedule.known (Wrote out v.status bytes))
 wrote_on_out file schedule v out is e o =
     scheduled_says Last file schedule (Wrote out v.status) v e
     (λ bytes text core turns of_bytes is_list l.
@@ -89,6 +89,6 @@ events_room files source schedule =
     let turns = named files schedule in
     inferring files (events source schedule) source refl refl
     (λ v is. inl (begins (OfTurns Last turns) file (turns_late Last file turns told_late) v is))
-    (λ laws unfailed told. scheduled_one Last file turns laws told.0 unfailed.0 told.1.0 unfailed.1.0
+    (λ laws unfailed known. scheduled_one Last file turns laws known.0 unfailed.0 known.1.0 unfailed.1.0
     (λ name core list. ends_one (λ text. text) (EventsTelling name core list) (one_telling core list name)))
-    (λ tells v out is e o. both_by (Wrote out v.status) (Grew out) file.told turns.told (λ x y. grew_by out v.status x y) (wrote_on_out file turns v out is e o))
+    (λ tells v out is e o. both_by (Wrote out v.status) (Grew out) file.known turns.known (λ x y. grew_by out v.status x y) (wrote_on_out file turns v out is e o))

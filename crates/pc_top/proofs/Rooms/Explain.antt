@@ -66,7 +66,7 @@ tree_of (has_tree {bytes = b} {file = f} a k) = (b, refl, f, a, k)
 whole_same : (a b : Text) → whole a ≡ whole b → a ≡ b
 whole_same a b e = cc e
 
-explained_on_out : (file : Named) (v : Verdict) (out : Change) → IsExplain file v → IsAccepting v.status → Appends out.before out.now v.out → IfSome file.told (WritesExplained out file.name)
+explained_on_out : (file : Named) (v : Verdict) (out : Change) → IsExplain file v → IsAccepting v.status → Appends out.before out.now v.out → IfSome file.known (WritesExplained out file.name)
 explained_on_out file v out is e o =
     let p = passed file source_limit (ExplainedStage file.name) Explained v (λ r h. other_refuses v.status (refusal_other file.name r v h) e) is in
     let grew : Appends out.before out.now p.1 = subst (λ (w : Verdict). Appends out.before out.now w.out) p.4 o in
@@ -75,7 +75,7 @@ explained_on_out file v out is e o =
     let same : tree.0 ≡ says.0 = whole_same tree.0 says.0 says.1 in
     let said : Explaining file.name says.0 tree.2 (Ok p.1) = subst (λ (b : Text). Explaining file.name b tree.2 (Ok p.1)) same tree.4 in
     let read : IsReadingOf file source_limit (whole says.0) = subst (λ (x : Reading). IsReadingOf file source_limit x) (tree.1 ∙ says.1) p.2 in
-    of_told (WritesExplained out file.name) file.told says.0 (says.3, says.4, tree.2, says.5, p.1, said, grew) read.1
+    of_told (WritesExplained out file.name) file.known says.0 (says.3, says.4, tree.2, says.5, p.1, said, grew) read.1
 
 no_make : (source seed size : Text) → explain source ≡ make seed size → ⊥
 no_make source seed size e = cc
@@ -84,10 +84,10 @@ pub explain_room : (files : Files) (source : Text) → Room files (explain sourc
 explain_room files source =
     let file = named files source in
     record {
-      one = λ laws unfailed told v w. one_from file source_limit (ExplainedStage source) Explained told.0 unfailed.0 (one_explained laws source) (λ r x h v w l m. l ∙ sym m) v w;
+      one = λ laws unfailed known v w. one_from file source_limit (ExplainedStage source) Explained known.0 unfailed.0 (one_explained laws source) (λ r x h v w l m. l ∙ sym m) v w;
       own = λ v is. statuses IsOwn other_own zero_own file v is;
       accepts = λ v is e. (tt, λ seed size same. absurd (no_make source seed size same));
       refuses = λ laws v is e. absurd (statuses NotOne other_not_one zero_not_one file v is e);
-      exact = λ sources laws other bytes of told unfailed has i v is u. absurd (looks_for_none (explain source) refl i);
+      exact = λ sources laws other bytes of known unfailed has i v is u. absurd (looks_for_none (explain source) refl i);
       writes = λ tells v out is e o. explained_on_out file v out is e o;
     }

@@ -29,7 +29,7 @@ use Rattle.pc_top.proofs.Room.{Room}
 pub judge_room : (files : Files) (source derivation : Text) → Room files (judge source derivation)
 judge_room files source derivation =
     derivation_room (λ ann. accepted_text) files (judge source derivation) source (named files source) (in_parts (named files derivation)) refl refl refl (λ v is. is)
-    (λ unfailed told. (told.0, unfailed.0, told.1.0, unfailed.1.0))
+    (λ unfailed known. (known.0, unfailed.0, known.1.0, unfailed.1.0))
     (λ v out e o d. subst (λ (w : Verdict). Appends out.before out.now w.out) d.done_with o)
 
 -- ---- what the referee was asked
@@ -45,9 +45,9 @@ source_not_done name file Sink h = tt
 source_not_done name file Memory h = tt
 
 -- the source that was read, and its derivation
-pub judged_all : (file : Named) (told later : Option Text) (s : Source) (before after : Option Pairs) → later ≡ told → PartGives source_limit (SourceStage file.name) file s → JudgedFile s.core later before after
-    → JudgedAll file.told told before after
-judged_all file told later s before after e g h =
+pub judged_all : (file : Named) (known later : Option Text) (s : Source) (before after : Option Pairs) → later ≡ known → PartGives source_limit (SourceStage file.name) file s → JudgedFile s.core later before after
+    → JudgedAll file.known known before after
+judged_all file known later s before after e g h =
     let judged = subst (λ (o : Option Text). JudgedFile s.core o before after) e h in
     record { bytes = s.bytes; of_file = (source_whole file g.0 s g.1 g.2).1; core = s.core; core_of = (source_says g.2).1; judged = judged }
 

@@ -102,10 +102,10 @@ made_same Holds seed size a b same h =
 
 pub make_room : (files : Files) (seed size : Text) → Room files (make seed size)
 make_room files seed size = record {
-  one = λ laws unfailed told v w a b. one_make laws seed size v w a b;
+  one = λ laws unfailed known v w a b. one_make laws seed size v w a b;
   own = λ v is. make_own seed size v is;
   accepts = λ v is e. (tt, λ a b same. made_same IsDerivable seed size a b same (make_accepts seed size v is e));
   refuses = λ laws v is e. (refl, (tt, λ a b same. made_same IsUnderivable seed size a b same (make_refuses laws seed size v is e)));
-  exact = λ sources laws other bytes of told unfailed has i v is u. absurd (none-some other of);
+  exact = λ sources laws other bytes of known unfailed has i v is u. absurd (none-some other of);
   writes = λ tells v out is e o. make_on_out seed size v out is e o;
 }

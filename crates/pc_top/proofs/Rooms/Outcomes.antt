@@ -79,7 +79,7 @@ table_by {v = v} e (inr h) = absurd (other_refuses v.status (refusal_other h) e)
 
 pub outcomes_room : (files : Files) (source count : Text) → Room files (outcomes source count)
 outcomes_room files source count =
-    numbered files (outcomes source count) source refl refl (λ told. told.0) (λ unfailed. unfailed.0) (IsCount count) (Tabled source) (λ v is. is) (λ has. has) (one_count count) (tabled_late source) (one_tabled source)
+    numbered files (outcomes source count) source refl refl (λ known. known.0) (λ unfailed. unfailed.0) (IsCount count) (Tabled source) (λ v is. is) (λ has. has) (one_count count) (tabled_late source) (one_tabled source)
     (λ v out n p is e o. accepted_says (Tabled source n) (named files source) (λ bytes. (m : ℕ) × IsCount count m × WritesOutcomes out m bytes) v e
     (λ a of_bytes valid l.
     let t = table_by e (ends_cases (λ (x : Text). x) (OutcomesTelling source a.source.core n) v l) in

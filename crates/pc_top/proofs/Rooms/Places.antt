@@ -47,7 +47,7 @@ statuses P other zero file =
 
 -- ---- what is on out
 
-places_on_out : (file : Named) (v : Verdict) (out : Change) → IsPlaces file v → IsAccepting v.status → Appends out.before out.now v.out → IfSome file.told (WritesPlaces out)
+places_on_out : (file : Named) (v : Verdict) (out : Change) → IsPlaces file v → IsAccepting v.status → Appends out.before out.now v.out → IfSome file.known (WritesPlaces out)
 places_on_out file v out is e o =
     let p = passed file source_limit (SourceStage file.name) Placed v (λ r h. other_refuses v.status (source_other h) e) is in
     let s = p.1 in
@@ -61,10 +61,10 @@ pub places_room : (files : Files) (source : Text) → Room files (places source)
 places_room files source =
     let file = named files source in
     record {
-      one = λ laws unfailed told v w. one_from file source_limit (SourceStage source) Placed told.0 unfailed.0 (one_source laws.source source) (λ r s h. one_placed laws.source.list s) v w;
+      one = λ laws unfailed known v w. one_from file source_limit (SourceStage source) Placed known.0 unfailed.0 (one_source laws.source source) (λ r s h. one_placed laws.source.list s) v w;
       own = λ v is. statuses IsOwn other_own zero_own file v is;
       accepts = λ v is e. (tt, λ seed size same. absurd (no_make source seed size same));
       refuses = λ laws v is e. absurd (statuses NotOne other_not_one zero_not_one file v is e);
-      exact = λ sources laws other bytes of told unfailed has i v is u. absurd (looks_for_none (places source) refl i);
+      exact = λ sources laws other bytes of known unfailed has i v is u. absurd (looks_for_none (places source) refl i);
       writes = λ tells v out is e o. places_on_out file v out is e o;
     }

@@ -33,7 +33,7 @@ one_played name laws n a v w p q =
 
 pub play_room : (files : Files) (source seed : Text) → Room files (play source seed)
 play_room files source seed =
-    numbered files (play source seed) source refl refl (λ told. told.0) (λ unfailed. unfailed.0) (IsSeed seed) (Played source) (λ v is. is) (λ has. has) (one_seed seed) (played_late source) (one_played source)
+    numbered files (play source seed) source refl refl (λ known. known.0) (λ unfailed. unfailed.0) (IsSeed seed) (Played source) (λ v is. is) (λ has. has) (one_seed seed) (played_late source) (one_played source)
     (λ v out n p is e o. accepted_says (Played source n) (named files source) (λ bytes. (m : ℕ) × IsSeed seed m × WritesPlay out m bytes) v e
     (λ a of_bytes valid r.
     let grew : Appends out.before out.now (run_text a.source.core r.0) = subst (λ (t : Text). Appends out.before out.now t) (ran_says r.2) o in

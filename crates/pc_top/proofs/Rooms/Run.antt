@@ -43,7 +43,7 @@ run_room files source schedule =
     let turns = named files schedule in
     inferring files (run source schedule) source refl refl
     (λ v is. inl (begins (OfTurns Ran turns) file (turns_late Ran file turns ran_late) v is))
-    (λ laws unfailed told. scheduled_one Ran file turns laws told.0 unfailed.0 told.1.0 unfailed.1.0 one_ran)
+    (λ laws unfailed known. scheduled_one Ran file turns laws known.0 unfailed.0 known.1.0 unfailed.1.0 one_ran)
     (λ tells v out is e o. scheduled_says Ran file turns (WritesRun out) v e
     (λ bytes text core list of_bytes is_list ran.
     let grew : Appends out.before out.now (run_text core (spread list)) = subst (λ (x : Text). Appends out.before out.now x) (ran_says ran) o in

@@ -38,7 +38,7 @@ one_scheduled laws n a v w s t = s.2 ∙ ap done (one_line laws.chosen laws.line
 
 pub schedule_room : (files : Files) (source seed : Text) → Room files (schedule_of source seed)
 schedule_room files source seed =
-    numbered files (schedule_of source seed) source refl refl (λ told. told.0) (λ unfailed. unfailed.0) (IsSeed seed) Scheduled (λ v is. is) (λ has. has) (one_seed seed) scheduled_late one_scheduled
+    numbered files (schedule_of source seed) source refl refl (λ known. known.0) (λ unfailed. unfailed.0) (IsSeed seed) Scheduled (λ v is. is) (λ has. has) (one_seed seed) scheduled_late one_scheduled
     (λ v out n p is e o. accepted_says (Scheduled n) (named files source) (λ bytes. (m : ℕ) × IsSeed seed m × WritesSchedule out m bytes) v e
     (λ a of_bytes valid s.
     let grew : Appends out.before out.now s.0 = subst (λ (w : Verdict). Appends out.before out.now w.out) s.2 o in

@@ -23,7 +23,7 @@ sends_room files source =
     let file = named files source in
     inferring files (sends source) source refl refl
     (λ v is. inl (begins Sent file sent_late v is))
-    (λ laws unfailed told. accepted_one Sent file laws told.0 unfailed.0 one_sent)
+    (λ laws unfailed known. accepted_one Sent file laws known.0 unfailed.0 one_sent)
     (λ tells v out is e o. accepted_says Sent file (WritesSends out) v e
     (λ a of_bytes valid s.
     let core = a.source.core in

@@ -43,9 +43,9 @@ goes files source schedule place v (no_number none is) = inr (ap (λ (x : Verdic
 
 -- ---- one verdict
 
-module _ (laws : Laws) (file schedule : Named) (told : IsSome file.told) (unfailed : file.now ≡ file.before) (also : IsSome schedule.told) (too : schedule.now ≡ schedule.before) where
+module _ (laws : Laws) (file schedule : Named) (known : IsSome file.known) (unfailed : file.now ≡ file.before) (also : IsSome schedule.known) (too : schedule.now ≡ schedule.before) where
   one_at : (place : ℕ) (v w : Verdict) → IsSwapAt file schedule place v → IsSwapAt file schedule place w → v ≡ w
-  one_at place = scheduled_one (Last place) file schedule laws told unfailed also too (λ name core list. ends_one (λ text. text) (Swapping name core list place) (one_swapping laws.kept laws.line name core list place))
+  one_at place = scheduled_one (Last place) file schedule laws known unfailed also too (λ name core list. ends_one (λ text. text) (Swapping name core list place) (one_swapping laws.kept laws.line name core list place))
 
   one_swap : (place : Text) (v w : Verdict) → IsSwap file schedule place v → IsSwap file schedule place w → v ≡ w
   one_swap place v w (placed n p a) (placed m q b) = one_at n v w a (subst (λ (k : ℕ). IsSwapAt file schedule k w) (one_place place m n q p) b)
@@ -82,11 +82,11 @@ wrote_by out place v name core list source schedule e o by (inr h) =
     inr (c.0, subst (λ (t : Text). Appends out.before out.now t) c.1 o)
 
 at_on_out : (file schedule : Named) (place : ℕ) (v : Verdict) (out : Change) → IsSwapAt file schedule place v → IsAccepting v.status → Appends out.before out.now v.out
-    → IfSome file.told (λ bytes. IfSome schedule.told (Wrote out v.status place bytes))
+    → IfSome file.known (λ bytes. IfSome schedule.known (Wrote out v.status place bytes))
 at_on_out file schedule place v out is e o =
     scheduled_says (Last place) file schedule (Wrote out v.status place) v e
     (λ bytes text core turns of_bytes is_list l.
-    wrote_by out place v schedule.name core (spread turns) bytes text e o (λ t a told h g. (core, of_bytes, turns, is_list, t, a, told, h, g))
+    wrote_by out place v schedule.name core (spread turns) bytes text e o (λ t a known h g. (core, of_bytes, turns, is_list, t, a, known, h, g))
     (ends_cases (λ (x : Text). x) (Swapping schedule.name core (spread turns) place) v l)) is
 
 -- what `swap` wrote, or nothing
@@ -98,9 +98,9 @@ grew_by out place status n source schedule p (inl w) = (n, p, inl w)
 grew_by out place status n source schedule p (inr w) = (n, p, inr w.1)
 
 swap_on_out : (file schedule : Named) (place : Text) (v : Verdict) (out : Change) → IsSwap file schedule place v → IsAccepting v.status → Appends out.before out.now v.out
-    → IfSome file.told (λ bytes. IfSome schedule.told (Grew out place bytes))
+    → IfSome file.known (λ bytes. IfSome schedule.known (Grew out place bytes))
 swap_on_out file schedule place v out (placed n p is) e o =
-    both_by (Wrote out v.status n) (Grew out place) file.told schedule.told (λ x y. grew_by out place v.status n x y p) (at_on_out file schedule n v out is e o)
+    both_by (Wrote out v.status n) (Grew out place) file.known schedule.known (λ x y. grew_by out place v.status n x y p) (at_on_out file schedule n v out is e o)
 swap_on_out file schedule place v out (no_number none is) e o = absurd (two_refuses v.status (ap (λ (x : Verdict). x.status) is) e)
 
 -- the same if it is done
@@ -112,13 +112,13 @@ done_by out place status n source schedule zero p (inl w) = (n, p, w)
 done_by out place status n source schedule zero p (inr w) = let twelve = w.0 in absurd (omega (arith, zero, twelve))
 
 pub swap_done : (file schedule : Named) (place : Text) (v : Verdict) (out : Change) → IsSwap file schedule place v → v.status ≡ 0 → Appends out.before out.now v.out
-    → IfSome file.told (λ bytes. IfSome schedule.told (Done out place bytes))
+    → IfSome file.known (λ bytes. IfSome schedule.known (Done out place bytes))
 swap_done file schedule place v out (placed n p is) e o =
-    both_by (Wrote out v.status n) (Done out place) file.told schedule.told (λ x y. done_by out place v.status n x y e p) (at_on_out file schedule n v out is (inl e) o)
+    both_by (Wrote out v.status n) (Done out place) file.known schedule.known (λ x y. done_by out place v.status n x y e p) (at_on_out file schedule n v out is (inl e) o)
 swap_done file schedule place v out (no_number none is) e o = absurd (two_refuses v.status (ap (λ (x : Verdict). x.status) is) (inl e))
 
 pub swap_room : (files : Files) (source schedule place : Text) → Room files (swap source schedule place)
 swap_room files source schedule place =
     inferring files (swap source schedule place) source refl refl (goes files source schedule place)
-    (λ laws unfailed told. one_swap laws (named files source) (named files schedule) told.0 unfailed.0 told.1.0 unfailed.1.0 place)
+    (λ laws unfailed known. one_swap laws (named files source) (named files schedule) known.0 unfailed.0 known.1.0 unfailed.1.0 place)
     (λ tells v out is e o. swap_on_out (named files source) (named files schedule) place v out is e o)

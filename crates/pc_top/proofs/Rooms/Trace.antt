@@ -66,7 +66,7 @@ wrote_by out v name core list source schedule e o by (inr h) =
     inr (c.0, subst (λ (t : Text). Appends out.before out.now t) c.1 o)
 
 wrote_on_out : (file schedule : Named) (v : Verdict) (out : Change) → IsTrace file schedule v → IsAccepting v.status → Appends out.before out.now v.out
-    → IfSome file.told (λ bytes. IfSome schedule.told (Wrote out v.status bytes))
+    → IfSome file.known (λ bytes. IfSome schedule.known (Wrote out v.status bytes))
 wrote_on_out file schedule v out is e o =
     scheduled_says Last file schedule (Wrote out v.status) v e
     (λ bytes text core turns of_bytes is_list l.
@@ -87,9 +87,9 @@ done_by out status source schedule zero (inl w) = w
 done_by out status source schedule zero (inr w) = let twelve = w.0 in absurd (omega (arith, zero, twelve))
 
 pub trace_done : (file schedule : Named) (v : Verdict) (out : Change) → IsTrace file schedule v → v.status ≡ 0 → Appends out.before out.now v.out
-    → IfSome file.told (λ bytes. IfSome schedule.told (WritesTrace out bytes))
+    → IfSome file.known (λ bytes. IfSome schedule.known (WritesTrace out bytes))
 trace_done file schedule v out is e o =
-    both_by (Wrote out v.status) (WritesTrace out) file.told schedule.told (λ x y. done_by out v.status x y e) (wrote_on_out file schedule v out is (inl e) o)
+    both_by (Wrote out v.status) (WritesTrace out) file.known schedule.known (λ x y. done_by out v.status x y e) (wrote_on_out file schedule v out is (inl e) o)
 
 pub trace_room : (files : Files) (source schedule : Text) → Room files (trace source schedule)
 trace_room files source schedule =
@@ -97,6 +97,6 @@ trace_room files source schedule =
     let turns = named files schedule in
     inferring files (trace source schedule) source refl refl
     (λ v is. inl (begins (OfTurns Last turns) file (turns_late Last file turns traced_late) v is))
-    (λ laws unfailed told. scheduled_one Last file turns laws told.0 unfailed.0 told.1.0 unfailed.1.0
+    (λ laws unfailed known. scheduled_one Last file turns laws known.0 unfailed.0 known.1.0 unfailed.1.0
     (λ name core list. ends_one (λ text. text) (Tracing name core list) (one_tracing core list name)))
-    (λ tells v out is e o. both_by (Wrote out v.status) (Grew out) file.told turns.told (λ x y. grew_by out v.status x y) (wrote_on_out file turns v out is e o))
+    (λ tells v out is e o. both_by (Wrote out v.status) (Grew out) file.known turns.known (λ x y. grew_by out v.status x y) (wrote_on_out file turns v out is e o))

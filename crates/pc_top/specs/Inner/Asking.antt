@@ -13,6 +13,6 @@ JudgeAsks source derivation before after (Err s) = NotDone s
 
 -- No command but `judge` asks the referee.
 abbrev pub AsksSo : (Text → Option Text) → Option Asked → Option Pairs → Option Pairs → Result (Unit {0}) Stop → Type 0
-AsksSo told asked before after result =
-    ((source derivation : Text) → asked ≡ Some (judge source derivation) → JudgeAsks (told source) (told derivation) before after result)
+AsksSo known asked before after result =
+    ((source derivation : Text) → asked ≡ Some (judge source derivation) → JudgeAsks (known source) (known derivation) before after result)
     × (IsNoJudge asked → after ≡ before)

@@ -24,12 +24,12 @@ returns-in-Judge-clause-ends g c =
 
 pub returns-in-Judge-clause-asks : goal.returns-in-Judge-clause-asks
 returns-in-Judge-clause-asks g c =
-    let told = g.F.Files.bytes c.args.files.now in
+    let known = g.F.Files.bytes c.args.files.now in
     let before = g.R.Referee.asked c.args.referee.now in
     let after = g.R.Referee.asked c.judge_source.new.referee in
     let out = change (g.O.Sink.written c.args.out.now) (g.O.Sink.written c.put_answer-in-Judge.new.out) (g.O.Sink.faults c.args.out.now) (g.O.Sink.faults c.put_answer-in-Judge.new.out) in
-    asks_judge told (asked_by c.args.command) c.in-Judge.source.now c.in-Judge.derivation.now before after c.put_answer-in-Judge.result (ap asked_by c.in-Judge.is)
-    (asks_put (told c.in-Judge.source.now) (told c.in-Judge.derivation.now) before after out c.judge_source.result c.put_answer-in-Judge.result c.judge_source.ensures.asks c.put_answer-in-Judge.ensures.puts)
+    asks_judge known (asked_by c.args.command) c.in-Judge.source.now c.in-Judge.derivation.now before after c.put_answer-in-Judge.result (ap asked_by c.in-Judge.is)
+    (asks_put (known c.in-Judge.source.now) (known c.in-Judge.derivation.now) before after out c.judge_source.result c.put_answer-in-Judge.result c.judge_source.ensures.asks c.put_answer-in-Judge.ensures.puts)
 
 pub returns-in-Show-clause-ends : goal.returns-in-Show-clause-ends
 returns-in-Show-clause-ends g c =
