@@ -33,7 +33,7 @@ use Rattle.pc_explain.specs.Declarations.{declaration_lines}
 use Rattle.pc_explain.specs.Known.{known_slots}
 use Rattle.pc_explain.specs.RuleLines.{rule_lines}
 use Rattle.pc_explain.specs.Setting.{unset_lines}
-use Rattle.pc_explain.specs.declared.rule_lines.Told.{Told}
+use Rattle.pc_explain.specs.declared.rule_lines.Reported.{Reported}
 
 -- What an explanation looks at: the source, its core, and the notes of the first nodes, with the types that follow from them.
 unfoldable pub scene_of : Text → List Token → CoreData → List Note → SceneData
@@ -72,8 +72,8 @@ declaration_text name s f = head name s.bytes (decl_span s.core f) (decl_text f)
 -- ---- a node at which no rule holds
 
 -- The rule, the sentence of its condition that does not hold, and what to do about it.
-unfoldable pub told : StopData → Reason → Told
-told stop r = record { rule = r.rule; sentence = sentence stop r; hint = hint stop r }
+unfoldable pub reported : StopData → Reason → Reported
+reported stop r = record { rule = r.rule; sentence = sentence stop r; hint = hint stop r }
 
 abbrev pub is_own_rule : Rule → Bool
 is_own_rule rule.GetOwn = true
@@ -103,7 +103,7 @@ stop_at s n x m = record { scene = s; number = n; at = x; live = m.0; set = m.1 
 unfoldable pub node_explanation : Text → StopData → List Reason → Text
 node_explanation name stop rs =
     head name stop.scene.bytes stop.at.span (codes "no rule")
-    ++ (node_line stop.scene stop.at ++ (part_lines stop.scene stop.at (looks_at_own_rules rs) ++ rule_lines (map (told stop) rs)))
+    ++ (node_line stop.scene stop.at ++ (part_lines stop.scene stop.at (looks_at_own_rules rs) ++ rule_lines (map (reported stop) rs)))
 
 -- ---- a constructor that leaves a field unset
 

@@ -5,7 +5,7 @@ use Rattle.std.specs.Str.{bytes_eq}
 use Rattle.pc_ann.specs.declared.annotation.Rule.{Rule}
 use Rattle.pc_ann.specs.declared.annotation.Rule.TheVariants as rule
 use Rattle.pc_lists.specs.Texts.{Text, line_end}
-use Rattle.pc_explain.specs.declared.rule_lines.Told.{Told}
+use Rattle.pc_explain.specs.declared.rule_lines.Reported.{Reported}
 
 abbrev pub rule_word : Rule → Text
 rule_word rule.Number = codes "number"
@@ -41,18 +41,18 @@ rule_word rule.Recover = codes "recover"
 rule_word rule.Body = codes "body"
 
 -- The rule fails with this sentence.
-abbrev pub has_sentence : Text → Told → Bool
+abbrev pub has_sentence : Text → Reported → Bool
 has_sentence sentence t = bytes_eq t.sentence sentence
 
 -- The name of a later rule, if it fails with this sentence too.
-unfoldable pub more_name : Text → Told → Text
+unfoldable pub more_name : Text → Reported → Text
 more_name sentence t = if has_sentence sentence t then codes ", " ++ rule_word t.rule else []
 
 abbrev pub number_word : (several : Bool) → Text
 number_word several = if several then codes "rules " else codes "rule "
 
 -- The rules that fail with the sentence of the first of these.
-unfoldable pub names_of : Told → List Told → Text
+unfoldable pub names_of : Reported → List Reported → Text
 names_of t later = number_word (list_any (has_sentence t.sentence) later) ++ (rule_word t.rule ++ flat_map (more_name t.sentence) later)
 
 unfoldable pub hint_line : Text → Text
@@ -60,17 +60,17 @@ hint_line [] = []
 hint_line (b ∷ bs) = codes "hint: " ++ ((b ∷ bs) ++ line_end)
 
 -- The line about the first of these, and its hint.
-unfoldable pub rule_line : Told → List Told → Text
+unfoldable pub rule_line : Reported → List Reported → Text
 rule_line t later = names_of t later ++ (codes ": " ++ (t.sentence ++ (line_end ++ hint_line t.hint)))
 
 -- A rule has a line unless an earlier one has its sentence: rules that fail with the same sentence share a line.
-abbrev pub line_after : (earlier : List Told) → Told → (later : List Told) → Text
+abbrev pub line_after : (earlier : List Reported) → Reported → (later : List Reported) → Text
 line_after earlier t later = if list_any (has_sentence t.sentence) earlier then [] else rule_line t later
 
-abbrev pub lines_after : (earlier : List Told) → List Told → Text
+abbrev pub lines_after : (earlier : List Reported) → List Reported → Text
 lines_after earlier [] = []
 lines_after earlier (t ∷ ts) = line_after earlier t ts ++ lines_after (earlier ++ t ∷ []) ts
 
 -- The lines about the rules, in order.
-unfoldable pub rule_lines : List Told → Text
+unfoldable pub rule_lines : List Reported → Text
 rule_lines ts = lines_after [] ts

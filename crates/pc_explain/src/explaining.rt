@@ -10,7 +10,7 @@ ghost use Rattle.pc_explain.specs.RuleLines.{rule_lines};
 
 use crate::declarations::push_declaration_lines;
 use crate::known::{known_slots, with_node};
-use crate::rule_lines::{Told, push_rule_lines};
+use crate::rule_lines::{Reported, push_rule_lines};
 use crate::setting::push_unset_lines;
 use pc_ann::{Ann, Note, Rule};
 use pc_caps::{Cap, List, Span};
@@ -247,15 +247,15 @@ fn is_own(reasons: &[Reason]) -> bool
 }
 
 // The words for a reason.
-#[tactic(auto, unfolding(crate::specs::Explanation::told))]
-fn told(alloc: Global, stop: &Stop, reason: Reason) -> Result<Told, AllocError>
-    ensures { IfOk result (λ one. one ≡ spec.told stop.now reason) }
+#[tactic(auto, unfolding(crate::specs::Explanation::reported))]
+fn reported(alloc: Global, stop: &Stop, reason: Reason) -> Result<Reported, AllocError>
+    ensures { IfOk result (λ one. one ≡ spec.reported stop.now reason) }
 {
     let mut sentence = Vec::new(alloc);
     push_sentence(alloc, &mut sentence, stop, reason)?;
     let mut hint = Vec::new(alloc);
     push_hint(alloc, &mut hint, stop, reason)?;
-    Ok(Told {
+    Ok(Reported {
         rule: reason.rule,
         sentence: List::from_vec(sentence),
         hint: List::from_vec(hint),
@@ -263,12 +263,12 @@ fn told(alloc: Global, stop: &Stop, reason: Reason) -> Result<Told, AllocError>
 }
 
 // The words for all reasons.
-fn all_told(alloc: Global, stop: &Stop, reasons: &[Reason]) -> Result<List<Told>, AllocError>
-    ensures { IfOk result (λ all. all ≡ map (spec.told stop.now) reasons.now) }
+fn all_reported(alloc: Global, stop: &Stop, reasons: &[Reason]) -> Result<List<Reported>, AllocError>
+    ensures { IfOk result (λ all. all ≡ map (spec.reported stop.now) reasons.now) }
 {
     let mut all = List::new(alloc);
     for reason in reasons {
-        all.push(told(alloc, stop, *reason)?)?;
+        all.push(reported(alloc, stop, *reason)?)?;
     }
     Ok(all)
 }
@@ -280,9 +280,9 @@ fn push_reasons(
     stop: &Stop,
     reasons: &[Reason],
 ) -> Result<(), AllocError>
-    ensures { OnOk result (out.new.items ≡ out.old.items ++ rule_lines (map (spec.told stop.now) reasons.now)) }
+    ensures { OnOk result (out.new.items ≡ out.old.items ++ rule_lines (map (spec.reported stop.now) reasons.now)) }
 {
-    let all = all_told(alloc, stop, reasons)?;
+    let all = all_reported(alloc, stop, reasons)?;
     push_rule_lines(out, all.as_slice())
 }
 

@@ -17,4 +17,4 @@ mod setting;
 
 pub use explaining::explain_core;
 pub use laws::{accepted_has_none, explanations_are_one};
-pub use rule_lines::Told;
+pub use rule_lines::Reported;

@@ -11,7 +11,7 @@ use std::alloc::AllocError;
 /// A rule that is looked at and does not hold: the sentence of its condition that fails, and what to do about it, if
 /// anything.
 #[derive(Drop)]
-pub struct Told {
+pub struct Reported {
     pub rule: Rule,
     pub sentence: List<u8>,
     pub hint: List<u8>,
@@ -57,37 +57,37 @@ fn rule_word(rule: Rule) -> &'static [u8]
 }
 
 // Whether the rule fails with this sentence.
-fn says(sentence: &[u8], told: &Told) -> bool
-    ensures { result ≡ spec.has_sentence sentence.now told.now }
+fn says(sentence: &[u8], reported: &Reported) -> bool
+    ensures { result ≡ spec.has_sentence sentence.now reported.now }
 {
-    told.sentence.as_slice() == sentence
+    reported.sentence.as_slice() == sentence
 }
 
 // Whether one of the rules does.
-fn one_says(sentence: &[u8], told: &[Told]) -> bool
-    ensures { result ≡ list_any (spec.has_sentence sentence.now) told.now }
+fn one_says(sentence: &[u8], reported: &[Reported]) -> bool
+    ensures { result ≡ list_any (spec.has_sentence sentence.now) reported.now }
 {
-    told.iter().any(|one| says(sentence, one))
+    reported.iter().any(|one| says(sentence, one))
 }
 
 // Appends the name of a later rule, if it fails with this sentence.
 #[tactic(auto, unfolding(crate::specs::RuleLines::more_name))]
-fn push_more_name(out: &mut Vec<u8>, sentence: &[u8], told: &Told) -> Result<(), AllocError>
-    ensures { OnOk result (out.new.items ≡ out.old.items ++ spec.more_name sentence.now told.now) }
+fn push_more_name(out: &mut Vec<u8>, sentence: &[u8], reported: &Reported) -> Result<(), AllocError>
+    ensures { OnOk result (out.new.items ≡ out.old.items ++ spec.more_name sentence.now reported.now) }
 {
-    if says(sentence, told) {
+    if says(sentence, reported) {
         push_bytes(out, b", ")?;
-        push_bytes(out, rule_word(told.rule))?;
+        push_bytes(out, rule_word(reported.rule))?;
     }
     Ok(())
 }
 
 // Appends the names of the later rules that fail with this sentence.
-fn push_more_names(out: &mut Vec<u8>, sentence: &[u8], later: &[Told]) -> Result<(), AllocError>
+fn push_more_names(out: &mut Vec<u8>, sentence: &[u8], later: &[Reported]) -> Result<(), AllocError>
     ensures { OnOk result (out.new.items ≡ out.old.items ++ flat_map (spec.more_name sentence.now) later.now) }
 {
-    'later: for told in later {
-        push_more_name(out, sentence, told)?;
+    'later: for reported in later {
+        push_more_name(out, sentence, reported)?;
     }
     Ok(())
 }
@@ -101,12 +101,12 @@ fn number_word(several: bool) -> &'static [u8]
 
 // Appends the names of the rules that fail with the sentence of the first.
 #[tactic(auto, unfolding(crate::specs::RuleLines::names_of))]
-fn push_names(out: &mut Vec<u8>, told: &Told, later: &[Told]) -> Result<(), AllocError>
-    ensures { OnOk result (out.new.items ≡ out.old.items ++ spec.names_of told.now later.now) }
+fn push_names(out: &mut Vec<u8>, reported: &Reported, later: &[Reported]) -> Result<(), AllocError>
+    ensures { OnOk result (out.new.items ≡ out.old.items ++ spec.names_of reported.now later.now) }
 {
-    let sentence = told.sentence.as_slice();
+    let sentence = reported.sentence.as_slice();
     push_bytes(out, number_word(one_says(sentence, later)))?;
-    push_bytes(out, rule_word(told.rule))?;
+    push_bytes(out, rule_word(reported.rule))?;
     push_more_names(out, sentence, later)
 }
 
@@ -127,38 +127,38 @@ fn push_hint_line(out: &mut Vec<u8>, hint: &[u8]) -> Result<(), AllocError>
 
 // Appends the line about the first of these rules, and its hint.
 #[tactic(auto, unfolding(crate::specs::RuleLines::rule_line))]
-fn push_rule_line(out: &mut Vec<u8>, told: &Told, later: &[Told]) -> Result<(), AllocError>
-    ensures { OnOk result (out.new.items ≡ out.old.items ++ spec.rule_line told.now later.now) }
+fn push_rule_line(out: &mut Vec<u8>, reported: &Reported, later: &[Reported]) -> Result<(), AllocError>
+    ensures { OnOk result (out.new.items ≡ out.old.items ++ spec.rule_line reported.now later.now) }
 {
-    push_names(out, told, later)?;
+    push_names(out, reported, later)?;
     push_bytes(out, b": ")?;
-    push_bytes(out, told.sentence.as_slice())?;
+    push_bytes(out, reported.sentence.as_slice())?;
     push_bytes(out, b"\n")?;
-    push_hint_line(out, told.hint.as_slice())
+    push_hint_line(out, reported.hint.as_slice())
 }
 
 // Appends the line about a rule, unless an earlier one has its sentence.
 fn push_line(
     out: &mut Vec<u8>,
-    earlier: &[Told],
-    told: &Told,
-    later: &[Told],
+    earlier: &[Reported],
+    reported: &Reported,
+    later: &[Reported],
 ) -> Result<(), AllocError>
-    ensures { OnOk result (out.new.items ≡ out.old.items ++ spec.line_after earlier.now told.now later.now) }
+    ensures { OnOk result (out.new.items ≡ out.old.items ++ spec.line_after earlier.now reported.now later.now) }
 {
-    if one_says(told.sentence.as_slice(), earlier) {
+    if one_says(reported.sentence.as_slice(), earlier) {
         return Ok(());
     }
-    push_rule_line(out, told, later)
+    push_rule_line(out, reported, later)
 }
 
 /// Appends the lines about the rules, in order. Rules that fail with the same sentence share a line.
 #[tactic(auto, unfolding(crate::specs::RuleLines::rule_lines))]
-pub(crate) fn push_rule_lines(out: &mut Vec<u8>, told: &[Told]) -> Result<(), AllocError>
-    ensures { OnOk result (out.new.items ≡ out.old.items ++ spec.rule_lines told.now) }
+pub(crate) fn push_rule_lines(out: &mut Vec<u8>, reported: &[Reported]) -> Result<(), AllocError>
+    ensures { OnOk result (out.new.items ≡ out.old.items ++ spec.rule_lines reported.now) }
 {
-    for at in 0..told.len() {
-        push_line(out, &told[..at], &told[at], &told[at + 1..])?;
+    for at in 0..reported.len() {
+        push_line(out, &reported[..at], &reported[at], &reported[at + 1..])?;
     }
     Ok(())
 }

@@ -5,3 +5,4 @@ pub mod Turns
 pub mod Kept
 pub mod Names
 pub mod Lines
+pub mod TouchLines

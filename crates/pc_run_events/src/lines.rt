@@ -32,8 +32,8 @@ fn push_more(text: &mut Vec<u8>, numbers: &[u64]) -> Result<(), AllocError>
     Ok(())
 }
 
-// Appends the numbers of a clock, with a comma between any two.
-fn push_clock(text: &mut Vec<u8>, clock: &[u64]) -> Result<(), AllocError>
+/// Appends the numbers of a clock, with a comma between any two.
+pub(crate) fn push_clock(text: &mut Vec<u8>, clock: &[u64]) -> Result<(), AllocError>
     ensures { OnOk result (text.new.items ≡ text.old.items ++ spec.clock_text clock.now) }
 {
     match clock {
@@ -45,8 +45,8 @@ fn push_clock(text: &mut Vec<u8>, clock: &[u64]) -> Result<(), AllocError>
     }
 }
 
-// What an access does.
-fn kind_of(write: bool) -> &'static str
+/// What an access does.
+pub(crate) fn kind_of(write: bool) -> &'static str
     ensures { result.now ≡ spec.access_word write }
 {
     if write { "write" } else { "read" }

@@ -4,7 +4,7 @@ use Rattle.std.proofs.lemmas.Option.{same_Some, none-some}
 use Rattle.pc_semantics.specs.declared.frames.Task.{Task}
 use Rattle.pc_semantics.specs.declared.frames.Task.TheVariants as task
 use Rattle.pc_semantics.specs.declared.tasks.Entry.{Entry}
-use Rattle.pc_semantics.specs.Pending.{all_tasks, as_items, behind_tasks, entry_tasks, single}
+use Rattle.pc_semantics.specs.Pending.{all_tasks, as_items, tasks_after, entry_tasks, single}
 use Rattle.pc_semantics.specs.Evaluation.{item_tasks}
 
 -- The first task is that of the first entry.
@@ -22,10 +22,10 @@ none_goes [] is = refl
 none_goes (x ∷ es) is = absurd (none-some x (sym is))
 
 -- An entry that nothing follows goes with its task.
-pub goes_alone : (es : List Entry) (e : Entry) → slice_get es 0 ≡ Some e → behind_tasks e.behind ≡ [] → all_tasks (drop 1 es) ≡ drop 1 (all_tasks es)
+pub goes_alone : (es : List Entry) (e : Entry) → slice_get es 0 ≡ Some e → tasks_after e.after ≡ [] → all_tasks (drop 1 es) ≡ drop 1 (all_tasks es)
 goes_alone [] e is none = absurd (none-some e is)
 goes_alone (x ∷ es) e is none =
-    let rest : behind_tasks x.behind ≡ [] = ap (λ z. behind_tasks z.behind) (same_Some x e is) ∙ none in
+    let rest : tasks_after x.after ≡ [] = ap (λ z. tasks_after z.after) (same_Some x e is) ∙ none in
     ap (λ z. z ++ all_tasks es) (sym rest)
 
 -- The items of a sequence are the evaluation of the first and then the others, each after a drop.
@@ -41,17 +41,17 @@ items_from (x ∷ cs) shared c is same =
     ∙ ap (λ z. item_tasks (z ∷ cs)) (sym (same_Some x c (sym is)))
 
 -- The second entry goes on after its first task.
-pub second_goes_on : (es : List Entry) (x a n e : Entry) → slice_get (x ∷ es) 1 ≡ Some e → entry_tasks n ≡ behind_tasks e.behind → all_tasks (set (set (x ∷ es) 1 a) 1 n) ≡ entry_tasks x ++ drop 1 (all_tasks es)
+pub second_goes_on : (es : List Entry) (x a n e : Entry) → slice_get (x ∷ es) 1 ≡ Some e → entry_tasks n ≡ tasks_after e.after → all_tasks (set (set (x ∷ es) 1 a) 1 n) ≡ entry_tasks x ++ drop 1 (all_tasks es)
 second_goes_on [] x a n e is same = absurd (none-some e is)
 second_goes_on (y ∷ ys) x a n e is same =
-    let rest : entry_tasks n ≡ behind_tasks y.behind = same ∙ ap (λ z. behind_tasks z.behind) (sym (same_Some y e is)) in
+    let rest : entry_tasks n ≡ tasks_after y.after = same ∙ ap (λ z. tasks_after z.after) (sym (same_Some y e is)) in
     ap (λ z. entry_tasks x ++ (z ++ all_tasks ys)) rest
 
 -- The second entry goes, of which nothing follows its first task.
-pub second_ends : (es : List Entry) (x a e : Entry) → slice_get (x ∷ es) 1 ≡ Some e → behind_tasks e.behind ≡ [] → all_tasks (take 1 (set (x ∷ es) 1 a) ++ drop 2 (set (x ∷ es) 1 a)) ≡ entry_tasks x ++ drop 1 (all_tasks es)
+pub second_ends : (es : List Entry) (x a e : Entry) → slice_get (x ∷ es) 1 ≡ Some e → tasks_after e.after ≡ [] → all_tasks (take 1 (set (x ∷ es) 1 a) ++ drop 2 (set (x ∷ es) 1 a)) ≡ entry_tasks x ++ drop 1 (all_tasks es)
 second_ends [] x a e is none = absurd (none-some e is)
 second_ends (y ∷ ys) x a e is none =
-    let rest : behind_tasks y.behind ≡ [] = ap (λ z. behind_tasks z.behind) (same_Some y e is) ∙ none in
+    let rest : tasks_after y.after ≡ [] = ap (λ z. tasks_after z.after) (same_Some y e is) ∙ none in
     ap (λ z. entry_tasks x ++ (z ++ all_tasks ys)) (sym rest)
 
 -- Entries of one task each represent these tasks.

@@ -2,7 +2,7 @@
 ghost use Rattle.std.specs.Prelude.{◌≡◌, ◌<◌, ◌∷◌, ◌++◌, [], length, take, drop, slice_get, Some, true, MatchOption, OnOk, OnErr};
 ghost use Rattle.pc_semantics.specs.Children.{evaluations};
 ghost use Rattle.pc_semantics.specs.Evaluation.{item_tasks};
-ghost use Rattle.pc_semantics.specs.Pending.{all_tasks, as_items, behind_tasks, entry_tasks, single};
+ghost use Rattle.pc_semantics.specs.Pending.{all_tasks, as_items, tasks_after, entry_tasks, single};
 
 use crate::frames::Task;
 use crate::stack::Stack;
@@ -23,12 +23,12 @@ pub struct Tasks {
 #[derive(Debug, Drop)]
 struct Entry {
     task: Task,
-    behind: Behind,
+    after: After,
 }
 
 // What follows a task: the children of a node from a place on.
 #[derive(Debug, Drop)]
-enum Behind {
+enum After {
     Nothing,
     // Each child is evaluated.
     Evaluations(Children, usize),
@@ -125,7 +125,7 @@ impl Tasks {
         };
         let entry = Entry {
             task: Task::Eval(*first),
-            behind: Behind::Evaluations(children.share()?, 1),
+            after: After::Evaluations(children.share()?, 1),
         };
         self.entries.push(entry)?;
         Ok(())
@@ -144,7 +144,7 @@ impl Tasks {
         };
         let entry = Entry {
             task: Task::Eval(*first),
-            behind: Behind::Items(children.share()?, 1),
+            after: After::Items(children.share()?, 1),
         };
         replace_first(&mut self.entries, entry)?;
         Ok(())
@@ -157,7 +157,7 @@ fn alone(task: Task) -> Entry
 {
     Entry {
         task,
-        behind: Behind::Nothing,
+        after: After::Nothing,
     }
 }
 
@@ -168,7 +168,7 @@ fn evaluation_at(children: Children, place: usize) -> Option<Entry>
     let child = *children.as_slice().get(place)?;
     Some(Entry {
         task: Task::Eval(child),
-        behind: Behind::Evaluations(children, place + 1),
+        after: After::Evaluations(children, place + 1),
     })
 }
 
@@ -179,7 +179,7 @@ fn item_at(children: Children, place: usize) -> Option<Entry>
     let _ = children.as_slice().get(place)?;
     Some(Entry {
         task: Task::Discard,
-        behind: Behind::Dropped(children, place),
+        after: After::Dropped(children, place),
     })
 }
 
@@ -190,29 +190,29 @@ fn dropped_at(children: Children, place: usize) -> Option<Entry>
     let child = *children.as_slice().get(place)?;
     Some(Entry {
         task: Task::Eval(child),
-        behind: Behind::Items(children, place + 1),
+        after: After::Items(children, place + 1),
     })
 }
 
 // What follows a task, as an entry. `None` iff nothing follows.
-fn following(behind: Behind) -> Option<Entry>
-    ensures { MatchOption result (behind_tasks behind ≡ []) (λ e. entry_tasks e ≡ behind_tasks behind) }
+fn following(after: After) -> Option<Entry>
+    ensures { MatchOption result (tasks_after after ≡ []) (λ e. entry_tasks e ≡ tasks_after after) }
 {
-    match behind {
-        Behind::Nothing => None,
-        Behind::Evaluations(children, place) => evaluation_at(children, place),
-        Behind::Items(children, place) => item_at(children, place),
-        Behind::Dropped(children, place) => dropped_at(children, place),
+    match after {
+        After::Nothing => None,
+        After::Evaluations(children, place) => evaluation_at(children, place),
+        After::Items(children, place) => item_at(children, place),
+        After::Dropped(children, place) => dropped_at(children, place),
     }
 }
 
 // Whether nothing follows a task before the entry below.
 fn is_alone(entry: &Entry) -> bool
-    ensures { result ≡ true → behind_tasks entry.now.behind ≡ [] }
+    ensures { result ≡ true → tasks_after entry.now.after ≡ [] }
 {
-    match entry.behind {
-        Behind::Nothing => true,
-        Behind::Evaluations(..) | Behind::Items(..) | Behind::Dropped(..) => false,
+    match entry.after {
+        After::Nothing => true,
+        After::Evaluations(..) | After::Items(..) | After::Dropped(..) => false,
     }
 }
 
@@ -228,8 +228,8 @@ fn advance(entries: &mut Stack<Entry>)
         entries.discard(1);
         return;
     }
-    let Entry { behind, .. } = entries.replace_top(alone(Task::Discard));
-    match following(behind) {
+    let Entry { after, .. } = entries.replace_top(alone(Task::Discard));
+    match following(after) {
         Some(next) => {
             let _ = entries.replace_top(next);
         }
@@ -256,8 +256,8 @@ fn replace_first(entries: &mut Stack<Entry>, entry: Entry) -> Result<(), AllocEr
     ensures err { OnErr result (entries.new ≡ entries.old) }
 {
     entries.push(entry)?;
-    let Entry { behind, .. } = entries.replace(1, alone(Task::Discard));
-    match following(behind) {
+    let Entry { after, .. } = entries.replace(1, alone(Task::Discard));
+    match following(after) {
         Some(next) => {
             let _ = entries.replace(1, next);
         }

@@ -23,7 +23,6 @@ mod sent_lines;
 mod show;
 mod swap;
 mod trace;
-mod traced_lines;
 mod upgrade;
 
 use check::check_source;

@@ -35,7 +35,8 @@ use Rattle.pc_refusal_lines.specs.Lines.{many_actors_line, too_long_line}
 use Rattle.pc_refusals.specs.Named.{Named}
 use Rattle.pc_refusals.specs.Source.{source_limit}
 use Rattle.pc_refusals.specs.Verdict.{EndsWith, refused}
-use Rattle.pc_top.specs.Commands.Trace.{IsTrace, Tracing, trace_text}
+use Rattle.pc_run_events.specs.TouchLines.{trace_text}
+use Rattle.pc_top.specs.Commands.Trace.{IsTrace, Tracing}
 use Rattle.pc_top.specs.Commands.Trace.Tracing.{tells, too_long, too_many}
 use Rattle.pc_top.specs.CoresFormed.{CoresAreFormed}
 use Rattle.pc_top.proofs.Deriving.{accepted_core_safe}

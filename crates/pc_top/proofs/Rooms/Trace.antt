@@ -12,7 +12,8 @@ use Rattle.pc_refusals.specs.Named.{Files, Named, named}
 use Rattle.pc_refusals.specs.Verdict.{EndsWith, Verdict, IsAccepting, done}
 use Rattle.pc_refusals.proofs.LastStages.{ends_cases, ends_one, ends_status}
 use Rattle.pc_refusals.proofs.Statuses.{IsLate}
-use Rattle.pc_top.specs.Commands.Trace.{IsTrace, Traced, Tracing, WritesTrace, trace_text}
+use Rattle.pc_run_events.specs.TouchLines.{trace_text}
+use Rattle.pc_top.specs.Commands.Trace.{IsTrace, Traced, Tracing, WritesTrace}
 use Rattle.pc_top.specs.Commands.Trace.Tracing.{tells, too_long, too_many}
 use Rattle.pc_top.specs.Shapes.{LastOfTurns, OfTurns}
 use Rattle.pc_top.proofs.Accepted.{both_by}

@@ -1,5 +1,5 @@
 -- `trace SRC SCHED`.
-use Rattle.std.specs.Prelude.{ℕ, ◌≡◌, List, [], ◌∷◌, ◌++◌, length, Result, Ok, Err, codes, decimal}
+use Rattle.std.specs.Prelude.{ℕ, ◌≡◌, List, Result, Ok, Err}
 use Rattle.std.specs.Io.KnownBytes.{Appends}
 use Rattle.pc_io.specs.Change.{Change}
 use Rattle.pc_core.specs.CoreData.{CoreData}
@@ -9,39 +9,13 @@ use Rattle.pc_sched.specs.declared.turns.Turn.{Turn}
 use Rattle.pc_trace.specs.Traces.{AllTouches, RanOn, TooLongAt, TooManyAt, VerdictIs}
 use Rattle.pc_trace.specs.declared.touch.Touch.{Touch}
 use Rattle.pc_trace.specs.declared.touch.Verdict.TheVariants.{Ordered}
-use Rattle.pc_lists.specs.Texts.{Text, line_end}
+use Rattle.pc_lists.specs.Texts.{Text}
 use Rattle.pc_refusal_lines.specs.Lines.{many_actors_line, too_long_line}
 use Rattle.pc_refusals.specs.Named.{Named}
 use Rattle.pc_refusals.specs.Verdict.{EndsWith, Verdict, refused}
 use Rattle.pc_top.specs.CoreOf.{CoreOf}
-use Rattle.pc_run_events.specs.Lines.{access_word, clock_text}
+use Rattle.pc_run_events.specs.TouchLines.{trace_text}
 use Rattle.pc_top.specs.Shapes.{OfScheduled}
-
--- ---- lines
-
--- `PLACE ACTOR read M.S F clock `, or the same with `write`.
-abbrev pub touch_text : Touch → Text
-touch_text t =
-    decimal t.place ++ (codes " " ++ (decimal t.actor ++ (codes " " ++ (access_word t.write ++ (codes " " ++ (decimal t.address.maker ++ (codes "." ++ (decimal t.address.serial ++ (codes " " ++ (decimal t.field
-    ++ codes " clock "))))))))))
-
--- An access and its clock.
-abbrev pub touch_line : Touch → Text
-touch_line t = touch_text t ++ (clock_text t.clock ++ line_end)
-
-abbrev pub touches_text : List Touch → Text
-touches_text [] = []
-touches_text (t ∷ ts) = touch_line t ++ touches_text ts
-
--- `accesses N ordered`
-abbrev pub access_count_line : ℕ → Text
-access_count_line n = codes "accesses " ++ (decimal n ++ (codes " ordered" ++ line_end))
-
--- The accesses, a line each, followed by their number.
-abbrev pub trace_text : List Touch → Text
-trace_text touches = touches_text touches ++ access_count_line (length touches)
-
--- ---- the verdict
 
 -- These are all accesses of a run, in order and with their clocks; no step ended the run. Of any two events of
 -- different actors that touch the same field, where one of them writes it, the earlier comes before the later.

@@ -11,7 +11,6 @@ ghost use Rattle.pc_refusals.specs.Named.{files_change, named};
 ghost use Rattle.pc_top.specs.Commands.Trace.{IsTrace, Tracing};
 ghost use Rattle.pc_top.specs.Shapes.{UnreadScheduled};
 
-use super::traced_lines::write_trace;
 use crate::laws::cores_of_sources_are_formed;
 use crate::scheduled::read_scheduled;
 use pc_caps::List;
@@ -19,6 +18,7 @@ use pc_core::Core;
 use pc_io::Files;
 use pc_refusals::{Stop, make_many_actors_line, make_too_long_line};
 use pc_regions::valid_is_safe;
+use pc_run_events::write_trace;
 use pc_sched::Turn;
 use pc_sched_lines::steps_of;
 use pc_trace::{AcceptedFault, accepted_trace};

@@ -10,8 +10,8 @@ use Rattle.pc_explain.proofs.setting.push_field_lines.Goals as goal
 pub returns : goal.returns
 unfolding field_lines
 returns c =
-    let told = ap (λ (core : CoreData). set_hint core c.first_unset.result) c.core.ensures ∙ ap (λ (field : Option FieldInfo). set_hint c.args.scene.now.core field) c.first_unset.ensures in
+    let reported = ap (λ (core : CoreData). set_hint core c.first_unset.result) c.core.ensures ∙ ap (λ (field : Option FieldInfo). set_hint c.args.scene.now.core field) c.first_unset.ensures in
     ok_three _ _ _ _ _ _ _ _
     c.in_ok-push_unset_parts.ensures
     c.in_ok-push_bytes.ensures
-    (on_ok_weaker c.push_set_hint.result (λ e. e ∙ ap (λ (hint : List ℕ). c.push_bytes.new.out.items ++ hint) told) c.push_set_hint.ensures)
+    (on_ok_weaker c.push_set_hint.result (λ e. e ∙ ap (λ (hint : List ℕ). c.push_bytes.new.out.items ++ hint) reported) c.push_set_hint.ensures)

@@ -16,7 +16,8 @@ use Rattle.pc_trace.specs.declared.touch.Touch.{Touch}
 use Rattle.pc_lists.specs.Texts.{Text}
 use Rattle.pc_refusals.specs.After.{HasOneEnd}
 use Rattle.pc_refusal_lines.specs.Lines.{many_actors_line, too_long_line}
-use Rattle.pc_top.specs.Commands.Trace.{Tracing, trace_text}
+use Rattle.pc_run_events.specs.TouchLines.{trace_text}
+use Rattle.pc_top.specs.Commands.Trace.{Tracing}
 use Rattle.pc_top.specs.Commands.Trace.Tracing.{tells, too_long, too_many}
 use Rattle.pc_refusals.specs.Verdict.{refused}
 use Rattle.pc_top.proofs.Rooms.Trace.Crowding.{crowded, one_crowd}

@@ -1,53 +1,13 @@
 //! The accesses of a run, as lines.
-ghost use Rattle.std.specs.Prelude.{◌≡◌, ◌++◌, IfOk, OnOk, decimal};
-ghost use Rattle.pc_run_events.specs.Lines as events;
-ghost use Rattle.pc_top.specs.Commands.Trace as spec;
+ghost use Rattle.std.specs.Prelude.{◌≡◌, ◌++◌, IfOk, OnOk};
+ghost use Rattle.pc_run_events.specs.TouchLines as spec;
 
-use itoa::Buffer;
+use crate::lines::{kind_of, push_clock};
 use pc_caps::List;
 use pc_trace::Touch;
 use std::alloc::{AllocError, Global};
 
-// Appends a number to a text.
-fn push_number(text: &mut Vec<u8>, number: u64) -> Result<(), AllocError>
-    ensures { OnOk result (text.new.items ≡ text.old.items ++ decimal number) }
-{
-    let mut buffer = Buffer::new();
-    text.extend_from_slice(buffer.format(number).as_bytes())
-}
-
-// Appends numbers to a text, each after a comma.
-fn push_behind(text: &mut Vec<u8>, numbers: &[u64]) -> Result<(), AllocError>
-    ensures { OnOk result (text.new.items ≡ text.old.items ++ events.more_text numbers.now) }
-{
-    for number in numbers {
-        text.push(b',')?;
-        push_number(text, *number)?;
-    }
-    Ok(())
-}
-
-// Appends the numbers of a clock to a text, with a comma between any two.
-fn push_clock(text: &mut Vec<u8>, clock: &[u64]) -> Result<(), AllocError>
-    ensures { OnOk result (text.new.items ≡ text.old.items ++ events.clock_text clock.now) }
-{
-    match clock {
-        [] => Ok(()),
-        [first, rest @ ..] => {
-            push_number(text, *first)?;
-            push_behind(text, rest)
-        }
-    }
-}
-
-// What an access does.
-fn kind_of(write: bool) -> &'static str
-    ensures { result.now ≡ events.access_word write }
-{
-    if write { "write" } else { "read" }
-}
-
-// Appends an access to a text, up to its clock.
+// Appends an access, up to its clock.
 fn push_access(alloc: Global, text: &mut Vec<u8>, touch: &Touch) -> Result<(), AllocError>
     ensures { OnOk result (text.new.items ≡ text.old.items ++ spec.touch_text touch.now) }
 {
@@ -60,7 +20,7 @@ fn push_access(alloc: Global, text: &mut Vec<u8>, touch: &Touch) -> Result<(), A
     Ok(())
 }
 
-// Appends the line of an access to a text.
+// Appends the line of an access.
 fn push_touch(alloc: Global, text: &mut Vec<u8>, touch: &Touch) -> Result<(), AllocError>
     ensures { OnOk result (text.new.items ≡ text.old.items ++ spec.touch_line touch.now) }
 {
@@ -70,7 +30,7 @@ fn push_touch(alloc: Global, text: &mut Vec<u8>, touch: &Touch) -> Result<(), Al
     Ok(())
 }
 
-// Appends the lines of accesses to a text.
+// Appends the lines of accesses.
 fn push_touches(alloc: Global, text: &mut Vec<u8>, touches: &[Touch]) -> Result<(), AllocError>
     ensures { OnOk result (text.new.items ≡ text.old.items ++ spec.touches_text touches.now) }
 {
@@ -80,7 +40,7 @@ fn push_touches(alloc: Global, text: &mut Vec<u8>, touches: &[Touch]) -> Result<
     Ok(())
 }
 
-// Appends the number of accesses to a text.
+// Appends the number of accesses.
 fn push_count(alloc: Global, text: &mut Vec<u8>, count: usize) -> Result<(), AllocError>
     ensures { OnOk result (text.new.items ≡ text.old.items ++ spec.access_count_line count) }
 {
@@ -89,8 +49,8 @@ fn push_count(alloc: Global, text: &mut Vec<u8>, count: usize) -> Result<(), All
     Ok(())
 }
 
-/// The lines of a run: `PLACE ACTOR read M.S F clock CLOCK` for each access, with `write` for a write, and then
-/// `accesses N ordered`.
+/// The lines of the accesses of a run: `PLACE ACTOR read M.S F clock CLOCK` for each access, with `write` for a write,
+/// and then `accesses N ordered`.
 pub fn write_trace(alloc: Global, touches: &[Touch]) -> Result<List<u8>, AllocError>
     ensures { IfOk result (λ text. text ≡ spec.trace_text touches.now) }
 {

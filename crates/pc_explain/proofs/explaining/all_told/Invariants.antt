@@ -1,6 +1,0 @@
-use Rattle.std.proofs.Common.{◌≡◌, map, take}
-use Rattle.pc_explain.specs.Explanation.{told}
-use Rattle.pc_explain.proofs.explaining.all_told.Given as goal
-
-abbrev pub invariant-loop-reason : goal.invariant-loop-reason
-invariant-loop-reason l = l.all ≡ map (told l.stop) (take l.reason-index l.reasons)
