@@ -263,7 +263,11 @@ fn reported(alloc: Global, stop: &Stop, reason: Reason) -> Result<Reported, Allo
 }
 
 // The words for all reasons.
-fn all_reported(alloc: Global, stop: &Stop, reasons: &[Reason]) -> Result<List<Reported>, AllocError>
+fn all_reported(
+    alloc: Global,
+    stop: &Stop,
+    reasons: &[Reason],
+) -> Result<List<Reported>, AllocError>
     ensures { IfOk result (λ all. all ≡ map (spec.reported stop.now) reasons.now) }
 {
     let mut all = List::new(alloc);

@@ -127,7 +127,11 @@ fn push_hint_line(out: &mut Vec<u8>, hint: &[u8]) -> Result<(), AllocError>
 
 // Appends the line about the first of these rules, and its hint.
 #[tactic(auto, unfolding(crate::specs::RuleLines::rule_line))]
-fn push_rule_line(out: &mut Vec<u8>, reported: &Reported, later: &[Reported]) -> Result<(), AllocError>
+fn push_rule_line(
+    out: &mut Vec<u8>,
+    reported: &Reported,
+    later: &[Reported],
+) -> Result<(), AllocError>
     ensures { OnOk result (out.new.items ≡ out.old.items ++ spec.rule_line reported.now later.now) }
 {
     push_names(out, reported, later)?;
