@@ -98,7 +98,7 @@ fn are_written(alloc: Global, count: u32, entries: &[Entry], text: &[u8]) -> Res
 }
 
 // Checks that a table for a count has these entries, and this text if one is given.
-fn are_told(
+fn are_reported(
     alloc: Global,
     count: u32,
     entries: &[Entry],
@@ -126,7 +126,7 @@ fn core_has(
         return Err(Other::NoTable(Wrong::NotAccepted));
     }
     let entries = outcomes(alloc, core, count)?;
-    are_told(alloc, count, entries.as_slice(), wanted, text)
+    are_reported(alloc, count, entries.as_slice(), wanted, text)
 }
 
 // The same of a program.

@@ -21,9 +21,9 @@ type Row = (u32, Option<bool>);
 // The first of these entities of which the table of a core says something else, and what it says.
 fn other_row(core: &Core, rows: &[Row]) -> Option<Row> {
     for (entity, known) in rows {
-        let told = core.known_to_conform(*entity, SHAPE);
-        if told != *known {
-            return Some((*entity, told));
+        let found = core.known_to_conform(*entity, SHAPE);
+        if found != *known {
+            return Some((*entity, found));
         }
     }
     None

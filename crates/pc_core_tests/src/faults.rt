@@ -59,41 +59,41 @@ fn fault_of(answer: Answer) -> Option<BodyFault> {
 
 /// Why nothing is reported of a text.
 #[derive(Clone, Copy, Debug, PartialEq, Eq)]
-enum Untold {
+enum Unchecked {
     /// It is no body.
     NoBody,
     /// Memory ran out.
     OutOfMemory,
 }
 
-impl From<AllocError> for Untold {
-    fn from(_: AllocError) -> Untold {
-        Untold::OutOfMemory
+impl From<AllocError> for Unchecked {
+    fn from(_: AllocError) -> Unchecked {
+        Unchecked::OutOfMemory
     }
 }
 
 /// The fault of a body, if it has one.
-type Told = Result<Option<BodyFault>, Untold>;
+type Checked = Result<Option<BodyFault>, Unchecked>;
 
-fn fault_in(alloc: Global, program: &Program) -> Told {
+fn fault_in(alloc: Global, program: &Program) -> Checked {
     if program.method.body.is_none() {
-        return Err(Untold::NoBody);
+        return Err(Unchecked::NoBody);
     }
-    let told = check(
+    let found = check(
         alloc,
         &program.context,
         program.fields.as_slice(),
         &program.method,
     );
-    Ok(told.err())
+    Ok(found.err())
 }
 
 // What is reported of a body.
-fn told_of(alloc: Global, of: &Written, text: &[u8]) -> Told {
+fn check_text(alloc: Global, of: &Written, text: &[u8]) -> Checked {
     let program = program_of(alloc, &ENTITIES, of, text)?;
-    let told = fault_in(alloc, &program);
+    let found = fault_in(alloc, &program);
     drop(program);
-    told
+    found
 }
 
 // A text after this many blanks.
@@ -110,17 +110,17 @@ fn placed(alloc: Global, place: u32, text: &[u8]) -> Result<Vec<u8>, AllocError>
 type Row = (&'static [u8], Answer);
 
 // What is reported of a body at a place.
-fn told_at(alloc: Global, place: u32, body: &[u8]) -> Told {
+fn check_at(alloc: Global, place: u32, body: &[u8]) -> Checked {
     let text = placed(alloc, place, body)?;
-    told_of(alloc, &CREATE, &text)
+    check_text(alloc, &CREATE, &text)
 }
 
 // The first row with another answer if its body is at a place, and what is reported of it.
-fn wrong_row(alloc: Global, place: u32, rows: &[Row]) -> Option<(usize, Told)> {
+fn wrong_row(alloc: Global, place: u32, rows: &[Row]) -> Option<(usize, Checked)> {
     for at in 0..rows.len() {
-        let told = told_at(alloc, place, rows[at].0);
-        if told != Ok(fault_of(rows[at].1)) {
-            return Some((at, told));
+        let found = check_at(alloc, place, rows[at].0);
+        if found != Ok(fault_of(rows[at].1)) {
+            return Some((at, found));
         }
     }
     None
@@ -159,18 +159,18 @@ fn put_literal(text: &mut Vec<u8>, count: u32) -> Result<(), AllocError> {
 }
 
 // What is reported of a literal with this many bytes at byte 20.
-fn told_of_literal(alloc: Global, count: u32) -> Told {
+fn check_literal(alloc: Global, count: u32) -> Checked {
     let mut text = placed(alloc, 20, b"")?;
     put_literal(&mut text, count)?;
-    told_of(alloc, &CREATE, &text)
+    check_text(alloc, &CREATE, &text)
 }
 
 #[test]
 fn expressions_have_these_faults(rt: HostRuntime) {
     assert_eq!(rt; wrong_row(rt.alloc(), 20, &EXPRESSIONS), None);
-    assert_eq!(rt; told_of_literal(rt.alloc(), 4_096), Ok(None));
+    assert_eq!(rt; check_literal(rt.alloc(), 4_096), Ok(None));
     let fault = fault_of(Answer::LongText(20, 4_119));
-    assert_eq!(rt; told_of_literal(rt.alloc(), 4_097), Ok(fault));
+    assert_eq!(rt; check_literal(rt.alloc(), 4_097), Ok(fault));
 }
 
 // Each is at byte 16, and so the name of the local is at byte 20.
@@ -211,19 +211,19 @@ fn the_left_side_comes_first(rt: HostRuntime) {
 #[test]
 fn no_parameter_is_visible_in_an_initial_value(rt: HostRuntime) {
     let fault = fault_of(Answer::Unknown(10, 11));
-    assert_eq!(rt; told_of(rt.alloc(), &WITH_INITIAL, b"p"), Ok(fault));
+    assert_eq!(rt; check_text(rt.alloc(), &WITH_INITIAL, b"p"), Ok(fault));
 }
 
 // What is reported of an added `create`.
-fn told_of_added(alloc: Global, of: &Written) -> Result<Option<BodyFault>, AllocError> {
+fn check_added_to(alloc: Global, of: &Written) -> Result<Option<BodyFault>, AllocError> {
     let program = program_of(alloc, &ENTITIES, of, b"")?;
-    let told = check_added(alloc, &program.context, program.fields.as_slice());
+    let found = check_added(alloc, &program.context, program.fields.as_slice());
     drop(program);
-    Ok(told.err())
+    Ok(found.err())
 }
 
 #[test]
 fn an_added_constructor_has_the_initial_values(rt: HostRuntime) {
     let fault = fault_of(Answer::Unknown(10, 11));
-    assert_eq!(rt; told_of_added(rt.alloc(), &WITH_INITIAL), Ok(fault));
+    assert_eq!(rt; check_added_to(rt.alloc(), &WITH_INITIAL), Ok(fault));
 }

@@ -144,7 +144,7 @@ fn file(alloc: Global, rows: &[Row]) -> Result<File, AllocError> {
 }
 
 // What is reported of the names of a file.
-fn told(alloc: Global, rows: &[Row]) -> Result<Option<NameFault>, AllocError> {
+fn fault_of_rows(alloc: Global, rows: &[Row]) -> Result<Option<NameFault>, AllocError> {
     let file = file(alloc, rows)?;
     Ok(fault_in(alloc, &file))
 }
@@ -163,8 +163,11 @@ fn with_fields(count: u32) -> [Row; 2] {
 #[test]
 fn fields_at_their_limit(rt: HostRuntime) {
     let fault = NameFault::TooMany(Which::Fields, numbered_span(64));
-    assert_eq!(rt; told(rt.alloc(), &with_fields(64)), Ok(None));
-    assert_eq!(rt; told(rt.alloc(), &with_fields(65)), Ok(Some(fault)));
+    assert_eq!(rt; fault_of_rows(rt.alloc(), &with_fields(64)), Ok(None));
+    assert_eq!(rt;
+        fault_of_rows(rt.alloc(), &with_fields(65)),
+        Ok(Some(fault))
+    );
 }
 
 /// `Main` with one method; a trait with a thousand; one that takes them over; a class with an added constructor; and a
@@ -194,8 +197,11 @@ fn with_methods(count: u32) -> [Row; 5] {
 #[test]
 fn methods_at_their_limit(rt: HostRuntime) {
     let fault = NameFault::TooMany(Which::Methods, span(66, 67));
-    assert_eq!(rt; told(rt.alloc(), &with_methods(7_998)), Ok(None));
-    assert_eq!(rt; told(rt.alloc(), &with_methods(7_999)), Ok(Some(fault)));
+    assert_eq!(rt; fault_of_rows(rt.alloc(), &with_methods(7_998)), Ok(None));
+    assert_eq!(rt;
+        fault_of_rows(rt.alloc(), &with_methods(7_999)),
+        Ok(Some(fault))
+    );
 }
 
 /// `Main` with one method, a primitive with this many, a trait with a thousand bodies, and a class that takes them
@@ -221,8 +227,11 @@ fn with_bodies(count: u32) -> [Row; 4] {
 #[test]
 fn methods_taken_over_at_their_limit(rt: HostRuntime) {
     let fault = NameFault::TooMany(Which::Methods, span(46, 47));
-    assert_eq!(rt; told(rt.alloc(), &with_bodies(7_998)), Ok(None));
-    assert_eq!(rt; told(rt.alloc(), &with_bodies(7_999)), Ok(Some(fault)));
+    assert_eq!(rt; fault_of_rows(rt.alloc(), &with_bodies(7_998)), Ok(None));
+    assert_eq!(rt;
+        fault_of_rows(rt.alloc(), &with_bodies(7_999)),
+        Ok(Some(fault))
+    );
 }
 
 /// Two classes with names of these lengths in bytes, and `Main`.
@@ -244,11 +253,11 @@ fn with_long_names(one: u32, other: u32) -> [Row; 3] {
 fn long_names(rt: HostRuntime) {
     let fault = NameFault::Double(span(0, 200_000));
     assert_eq!(rt;
-        told(rt.alloc(), &with_long_names(200_000, 199_999)),
+        fault_of_rows(rt.alloc(), &with_long_names(200_000, 199_999)),
         Ok(None)
     );
     assert_eq!(rt;
-        told(rt.alloc(), &with_long_names(200_000, 200_000)),
+        fault_of_rows(rt.alloc(), &with_long_names(200_000, 200_000)),
         Ok(Some(fault))
     );
 }
@@ -295,7 +304,7 @@ fn chain_file(alloc: Global, chain: Chain) -> Result<File, AllocError> {
 }
 
 // What is reported of the names of a chain.
-fn told_of_chain(alloc: Global, chain: Chain) -> Result<Option<NameFault>, AllocError> {
+fn fault_of_chain(alloc: Global, chain: Chain) -> Result<Option<NameFault>, AllocError> {
     let file = chain_file(alloc, chain)?;
     Ok(fault_in(alloc, &file))
 }
@@ -366,13 +375,13 @@ fn entities_at_their_limit(rt: HostRuntime) {
     let cycle = NameFault::Cycle(numbered_span(0));
     assert_eq!(rt; seen_in_chain(rt.alloc(), (999, false, 0)), Ok(WHOLE_CHAIN));
     assert_eq!(rt;
-        told_of_chain(rt.alloc(), (1_000, false, 0)),
+        fault_of_chain(rt.alloc(), (1_000, false, 0)),
         Ok(Some(fault))
     );
-    assert_eq!(rt; told_of_chain(rt.alloc(), (999, true, 0)), Ok(Some(cycle)));
+    assert_eq!(rt; fault_of_chain(rt.alloc(), (999, true, 0)), Ok(Some(cycle)));
 }
 
 #[test]
 fn methods_along_a_chain(rt: HostRuntime) {
-    assert_eq!(rt; told_of_chain(rt.alloc(), (200, false, 10)), Ok(None));
+    assert_eq!(rt; fault_of_chain(rt.alloc(), (200, false, 10)), Ok(None));
 }

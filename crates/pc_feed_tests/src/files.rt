@@ -17,41 +17,41 @@ fn files_with(alloc: Global, fail: &[u32], text: &[u8]) -> Result<MemFiles, Allo
 }
 
 /// What is reported of a derivation in a file.
-type Told = Result<(), DerivationFault>;
+type Answer = Result<(), DerivationFault>;
 
 // What is reported of the program's derivation in a file.
-fn judged(alloc: Global, files: &mut MemFiles, name: &str) -> Result<Told, Wrong> {
+fn judged(alloc: Global, files: &mut MemFiles, name: &str) -> Result<Answer, Wrong> {
     let core = program(alloc)?;
     Ok(judge_file(alloc, files, name, &core, &mut Rules))
 }
 
-fn judge_asking(alloc: Global, files: &mut MemFiles, core: &Core) -> (Told, Asked) {
+fn judge_asking(alloc: Global, files: &mut MemFiles, core: &Core) -> (Answer, Asked) {
     let mut referee = ListReferee::new(alloc);
-    let told = judge_file(alloc, files, "a.der", core, &mut referee);
-    (told, asked_of(&referee))
+    let found = judge_file(alloc, files, "a.der", core, &mut referee);
+    (found, asked_of(&referee))
 }
 
 // What is reported of the program's derivation in `a.der`, and what is asked about it.
-fn judged_asking(alloc: Global, files: &mut MemFiles) -> Result<(Told, Asked), Wrong> {
+fn judged_asking(alloc: Global, files: &mut MemFiles) -> Result<(Answer, Asked), Wrong> {
     let core = program(alloc)?;
     Ok(judge_asking(alloc, files, &core))
 }
 
-const FAILED: Told = Err(DerivationFault::Failed);
+const FAILED: Answer = Err(DerivationFault::Failed);
 
 // The second reading of all is of no file, the third fails, and the fourth does not.
-const READINGS: [(&str, Told); 3] = [("gone.der", FAILED), ("a.der", FAILED), ("a.der", Ok(()))];
+const READINGS: [(&str, Answer); 3] = [("gone.der", FAILED), ("a.der", FAILED), ("a.der", Ok(()))];
 
 // The first of these readings with another result, and that result.
 fn wrong_reading(
     alloc: Global,
     files: &mut MemFiles,
-    readings: &[(&str, Told)],
-) -> Option<(usize, Result<Told, Wrong>)> {
+    readings: &[(&str, Answer)],
+) -> Option<(usize, Result<Answer, Wrong>)> {
     for at in 0..readings.len() {
-        let told = judged(alloc, files, readings[at].0);
-        if told != Ok(readings[at].1) {
-            return Some((at, told));
+        let found = judged(alloc, files, readings[at].0);
+        if found != Ok(readings[at].1) {
+            return Some((at, found));
         }
     }
     None
@@ -93,7 +93,7 @@ fn long_text(alloc: Global) -> Result<Vec<u8>, AllocError> {
 }
 
 // What is reported of the long text if these calls fail.
-fn judged_long(alloc: Global, fail: &[u32]) -> Result<Told, Wrong> {
+fn judged_long(alloc: Global, fail: &[u32]) -> Result<Answer, Wrong> {
     let text = long_text(alloc)?;
     let mut files = files_with(alloc, fail, &text)?;
     judged(alloc, &mut files, "a.der")

@@ -169,7 +169,7 @@ const MANY_FIELDS: [Act; 5] = [
 ];
 
 #[test]
-fn behind_the_last_of_many_fields_there_is_none(rt: HostRuntime) {
+fn there_is_no_field_after_the_last_of_many(rt: HostRuntime) {
     assert_eq!(rt; wrong_in_heap(rt.alloc(), &MANY_FIELDS), None);
 }
 

@@ -42,9 +42,9 @@ impl From<Wrong> for Unended {
 
 // What is observed of a frame: how many values it has, its first task, and how many of its slots, of which there are at
 // most 64, hold something.
-type Told = (usize, Option<Task>, usize);
+type State = (usize, Option<Task>, usize);
 
-fn told_of(frame: &Frame) -> Told {
+fn state_of(frame: &Frame) -> State {
     let held = (0..64)
         .filter(|slot| frame.slots.get(*slot).is_some())
         .count();
@@ -61,11 +61,11 @@ fn step(
     if !is_inside(frame) {
         return Err(Unended::NoMain(Wrong::NotThere));
     }
-    let before = told_of(frame);
+    let before = state_of(frame);
     if let Ok(outcome) = run_inside(alloc, core, heap, frame) {
         return Ok(outcome);
     }
-    if told_of(frame) == before {
+    if state_of(frame) == before {
         run_inside(alloc, core, heap, frame).or(Err(Unended::OutOfMemory))
     } else {
         Err(Unended::Changed)

@@ -1,5 +1,5 @@
 //! Programs run step by step. The numbers of steps are counted by hand, from the tasks of each node.
-use crate::turns::{Turn, Unlike, seen_behind};
+use crate::turns::{Turn, Unlike, seen_after};
 use pc_heap::Address;
 use pc_machine::{Access, Lack, Outcome};
 use pc_test_inputs::programs::HELLO;
@@ -7,7 +7,7 @@ use std::alloc::Global;
 
 // Checks that a program takes these turns and prints these texts.
 fn runs(alloc: Global, text: &[u8], turns: &[Turn], printed: &[&[u8]]) -> Result<(), Unlike> {
-    let seen = seen_behind(alloc, text, turns, printed, 0)?;
+    let seen = seen_after(alloc, text, turns, printed, 0)?;
     if seen.is_printed {
         Ok(())
     } else {
@@ -22,7 +22,7 @@ fn end_of(
     turns: &[Turn],
     actor: u32,
 ) -> Result<Option<Outcome>, Unlike> {
-    let seen = seen_behind(alloc, text, turns, &[], actor)?;
+    let seen = seen_after(alloc, text, turns, &[], actor)?;
     Ok(seen.outcome)
 }
 
@@ -132,15 +132,15 @@ const TOUCHED: [(&[Turn], Option<Access>); 3] = [
 /// What Main is about to touch after turns, if they have their results.
 type Touching = Result<Option<Access>, Unlike>;
 
-fn touched_behind(alloc: Global, turns: &[Turn]) -> Touching {
-    let seen = seen_behind(alloc, MAKE, turns, &[], 1)?;
+fn touched_after(alloc: Global, turns: &[Turn]) -> Touching {
+    let seen = seen_after(alloc, MAKE, turns, &[], 1)?;
     Ok(seen.access)
 }
 
 // The place of the first of these rows after which Main is about to touch something else, and what.
 fn wrong_touch(alloc: Global, rows: &[(&[Turn], Option<Access>)]) -> Option<(usize, Touching)> {
     for at in 0..rows.len() {
-        let touched = touched_behind(alloc, rows[at].0);
+        let touched = touched_after(alloc, rows[at].0);
         if touched != Ok(rows[at].1) {
             return Some((at, touched));
         }

@@ -81,9 +81,9 @@ fn moved(machine: &mut Machine<'_>, actor: u32, steps: u32) -> u32 {
 // Checks that these turns have the results that they state, one after another.
 fn all_go(machine: &mut Machine<'_>, turns: &[Turn]) -> Result<(), Unlike> {
     for at in 0..turns.len() {
-        let (actor, steps, wanted, behind) = turns[at];
+        let (actor, steps, wanted, after) = turns[at];
         let moves = moved(machine, actor, steps);
-        if moves != wanted || counts(machine) != behind {
+        if moves != wanted || counts(machine) != after {
             return Err(Unlike::Turn(at, moves, counts(machine)));
         }
     }
@@ -134,7 +134,7 @@ fn seen_in_core(
 
 /// What is seen of the machine of a program and of an actor, after these turns, if each of them has its result, and the
 /// machine begins with two actors, three objects and a waiting message.
-pub fn seen_behind(
+pub fn seen_after(
     alloc: Global,
     text: &[u8],
     turns: &[Turn],

@@ -12,11 +12,11 @@ fn tells_once(alloc: Global, program: &[u8], lines: &[u8]) -> Result<(), Wrong> 
 
 /// The same, tried once more if memory ran out.
 fn tells(alloc: Global, program: &[u8], lines: &[u8]) -> Result<(), Wrong> {
-    let told = tells_once(alloc, program, lines);
-    if told == Err(Wrong::OutOfMemory) {
+    let ended = tells_once(alloc, program, lines);
+    if ended == Err(Wrong::OutOfMemory) {
         tells_once(alloc, program, lines)
     } else {
-        told
+        ended
     }
 }
 

@@ -193,7 +193,7 @@ fn reads_as(alloc: Global, bytes: &[u8], wanted: Option<DerivFault>) -> bool {
     }
 }
 
-fn is_told(alloc: Global, lines: &[&[u8]], variant: Variant) -> bool {
+fn is_found(alloc: Global, lines: &[&[u8]], variant: Variant) -> bool {
     let (number, line, wanted) = variant;
     match variant_of(alloc, lines, number, line) {
         Ok(text) => reads_as(alloc, &text, wanted),
@@ -204,7 +204,7 @@ fn is_told(alloc: Global, lines: &[&[u8]], variant: Variant) -> bool {
 // The place of the first of these variants with another result.
 fn wrong_variant(alloc: Global, lines: &[&[u8]], variants: &[Variant]) -> Option<usize> {
     for at in 0..variants.len() {
-        if !is_told(alloc, lines, variants[at]) {
+        if !is_found(alloc, lines, variants[at]) {
             return Some(at);
         }
     }

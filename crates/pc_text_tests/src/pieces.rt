@@ -178,7 +178,7 @@ fn other_cut(bytes: &[u8], wanted: Option<DerivFault>) -> Option<usize> {
 }
 
 // Whether a variant has its result wherever it is cut.
-fn is_told(alloc: Global, lines: &[&[u8]], variant: Variant) -> bool {
+fn is_found(alloc: Global, lines: &[&[u8]], variant: Variant) -> bool {
     let (number, line, wanted) = variant;
     match variant_of(alloc, lines, number, line) {
         Ok(text) => other_cut(&text, wanted).is_none(),
@@ -189,7 +189,7 @@ fn is_told(alloc: Global, lines: &[&[u8]], variant: Variant) -> bool {
 // The place of the first of these variants that has another result in pieces.
 fn wrong_variant(alloc: Global, lines: &[&[u8]], variants: &[Variant]) -> Option<usize> {
     for at in 0..variants.len() {
-        if !is_told(alloc, lines, variants[at]) {
+        if !is_found(alloc, lines, variants[at]) {
             return Some(at);
         }
     }

@@ -79,7 +79,7 @@ fn wrong_never_failing(alloc: Global) -> Result<Option<usize>, AllocError> {
 }
 
 #[test]
-fn files_in_memory_fail_as_they_are_told(rt: HostRuntime) {
+fn files_in_memory_fail_as_asked(rt: HostRuntime) {
     assert_eq!(rt; wrong_in_memory(rt.alloc()), Ok(None));
     assert_eq!(rt; wrong_never_failing(rt.alloc()), Ok(None));
 }

@@ -51,7 +51,7 @@ fn other_never_failing(alloc: Global) -> Other {
 }
 
 #[test]
-fn sinks_in_memory_fail_as_they_are_told(rt: HostRuntime) {
+fn sinks_in_memory_fail_as_asked(rt: HostRuntime) {
     assert_eq!(rt; other_in_memory(rt.alloc()), Ok((None, None)));
     assert_eq!(rt; other_never_failing(rt.alloc()), (None, None));
 }

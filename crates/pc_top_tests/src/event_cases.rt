@@ -1,6 +1,8 @@
 //! `events` on whole programs: what a run takes, sends, makes, reads and writes, each with its clock.
 
-use crate::rows::{Failure, NONE, Refused, Told, USAGE, all_fail, all_refused, all_told, refuses};
+use crate::rows::{
+    Answered, Failure, NONE, Refused, USAGE, all_answered, all_fail, all_refused, refuses,
+};
 use pc_test_inputs::programs::{DOUBLES, HELLO};
 
 const EVENTS: &[&str] = &["events", "a.pony", "a.sched"];
@@ -56,7 +58,7 @@ actor Main
     while true do A end
 ";
 
-const RUNS: &[Told<'_>] = &[
+const RUNS: &[Answered<'_>] = &[
     (KEEPER, b"1*40 2*40", KEEPER_TOLD),
     (HELLO, b"1*10 0", HELLO_TOLD),
     // Steps that are skipped have no line, and count in no clock.
@@ -71,8 +73,8 @@ const RUNS: &[Told<'_>] = &[
 ];
 
 #[test]
-fn events_are_told_with_their_clocks(rt: HostRuntime) {
-    all_told(&rt, rt.alloc(), EVENTS, RUNS);
+fn events_are_reported_with_their_clocks(rt: HostRuntime) {
+    all_answered(&rt, rt.alloc(), EVENTS, RUNS);
 }
 
 const REFUSED: &[Refused<'_>] = &[

@@ -66,8 +66,8 @@ fn with_definition(alloc: Global, derivation: &[u8]) -> Result<Vec<u8>, AllocErr
         .unwrap_or("")
         .split_once("assign")
     {
-        Some((before, behind)) => {
-            joined(alloc, &[before.as_bytes(), b"define", behind.as_bytes()])
+        Some((before, after)) => {
+            joined(alloc, &[before.as_bytes(), b"define", after.as_bytes()])
         }
         None => Ok(Vec::new(alloc)),
     }

@@ -36,10 +36,10 @@ fn add_entity(
     source: &mut Vec<u8>,
     head: &[u8],
     methods: usize,
-    behind: &[u8],
+    after: &[u8],
 ) -> Result<(), AllocError> {
     source.extend_from_slice(head)?;
-    add_numbered(alloc, source, b"  fun m", methods, behind)
+    add_numbered(alloc, source, b"  fun m", methods, after)
 }
 
 // Adds a class of 99 methods and the constructor that is added.

@@ -100,7 +100,7 @@ n body 4 0 121 127 11
 ";
 
 #[test]
-fn places_are_told(rt: HostRuntime) {
+fn places_are_reported(rt: HostRuntime) {
     let alloc = rt.alloc();
     assert_eq!(rt; tells(alloc, PLACES, CELL, b"", CELL_PLACES), Ok(()));
     // Names are those of the trait's text, even if they come after a comment.

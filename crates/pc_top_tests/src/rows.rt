@@ -30,7 +30,7 @@ pub(crate) type Ending<'a> = (&'a [u8], u8, &'a [u8]);
 pub(crate) type Spoken<'a> = (&'a [&'a str], u8, &'a [u8]);
 
 /// A source, the contents of the other files, and what is on out after a command that is done.
-pub(crate) type Told<'a> = (&'a [u8], &'a [u8], &'a [u8]);
+pub(crate) type Answered<'a> = (&'a [u8], &'a [u8], &'a [u8]);
 
 /// A source, the contents of the other files, and the status and the line on err with which a command is refused that
 /// writes nothing on out.
@@ -177,7 +177,7 @@ pub(crate) fn all_words_end(rt: &impl Abort, alloc: Global, source: &[u8], rows:
 }
 
 /// A command writes what is stated for each of these texts.
-pub(crate) fn all_told(rt: &impl Abort, alloc: Global, words: &[&str], rows: &[Told<'_>]) {
+pub(crate) fn all_answered(rt: &impl Abort, alloc: Global, words: &[&str], rows: &[Answered<'_>]) {
     for at in 0..rows.len() {
         let (source, other, out) = rows[at];
         assert_eq!(rt; tells(alloc, words, source, other, out), Ok(()), "row {at}");

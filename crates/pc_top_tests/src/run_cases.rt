@@ -2,8 +2,8 @@
 
 use crate::programs::NUMBERS;
 use crate::rows::{
-    Failure, NONE, RUN, Refused, Told, all_fail, all_refused, all_told, answers, refuses_made,
-    tells,
+    Answered, Failure, NONE, RUN, Refused, all_answered, all_fail, all_refused, answers,
+    refuses_made, tells,
 };
 use crate::running::{Differs, Wanted};
 use crate::texts::spaces;
@@ -30,7 +30,7 @@ actor Main
     env.out.print(P(1).string())
 ";
 
-const RUNS: &[Told<'_>] = &[
+const RUNS: &[Answered<'_>] = &[
     (
         HELLO,
         b"1*10 0",
@@ -81,7 +81,7 @@ const RUNS: &[Told<'_>] = &[
 
 #[test]
 fn runs_write_their_text(rt: HostRuntime) {
-    all_told(&rt, rt.alloc(), RUN, RUNS);
+    all_answered(&rt, rt.alloc(), RUN, RUNS);
 }
 
 const NUMBER: &[u8] =

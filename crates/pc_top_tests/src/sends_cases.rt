@@ -1,7 +1,8 @@
 //! `sends` on whole programs: who sends what, and what is never sent.
 
 use crate::rows::{
-    Failure, NONE, Refused, Spoken, Told, USAGE, all_fail, all_refused, all_told, all_words_end,
+    Answered, Failure, NONE, Refused, Spoken, USAGE, all_answered, all_fail, all_refused,
+    all_words_end,
 };
 use pc_test_inputs::programs::{BANK, HELLO};
 
@@ -65,7 +66,7 @@ actor Main
     A().beat()
 ";
 
-const SENT: &[Told<'_>] = &[
+const SENT: &[Answered<'_>] = &[
     (
         BANK,
         b"",
@@ -98,7 +99,7 @@ never B.create\nnever B.beat\n",
 
 #[test]
 fn who_sends_what(rt: HostRuntime) {
-    all_told(&rt, rt.alloc(), SENDS, SENT);
+    all_answered(&rt, rt.alloc(), SENDS, SENT);
 }
 
 const UNSENDABLE: &[u8] =

@@ -1,6 +1,6 @@
 //! `show`: what is printed for which source, and what is refused.
 
-use crate::rows::{Failure, NONE, Refused, Told, all_fail, all_refused, all_told, tells};
+use crate::rows::{Answered, Failure, NONE, Refused, all_answered, all_fail, all_refused, tells};
 use pc_test_inputs::programs::{BANK, CHAIN};
 
 const SHOW: &[&str] = &["show", "a.pony"];
@@ -101,7 +101,7 @@ actor Main
     bob.report()
 ";
 
-const SHOWN: &[Told<'_>] = &[
+const SHOWN: &[Answered<'_>] = &[
     (CHAIN, b"", CHAIN_SHOWN),
     (CHAIN_SHOWN, b"", CHAIN_SHOWN),
     (BANK, b"", BANK_SHOWN),
@@ -110,7 +110,7 @@ const SHOWN: &[Told<'_>] = &[
 
 #[test]
 fn sources_are_shown_in_one_layout_and_again(rt: HostRuntime) {
-    all_told(&rt, rt.alloc(), SHOW, SHOWN);
+    all_answered(&rt, rt.alloc(), SHOW, SHOWN);
 }
 
 const FAILURES: &[Failure<'_>] = &[

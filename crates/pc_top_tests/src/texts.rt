@@ -31,11 +31,11 @@ pub(crate) fn add_repeated(
     before: &[u8],
     part: &[u8],
     times: usize,
-    behind: &[u8],
+    after: &[u8],
 ) -> Result<(), AllocError> {
     text.extend_from_slice(before)?;
     add_times(text, part, times)?;
-    text.extend_from_slice(behind)
+    text.extend_from_slice(after)
 }
 
 /// The same text this many times, between the given beginning and end.
@@ -44,10 +44,10 @@ pub(crate) fn repeated(
     before: &[u8],
     part: &[u8],
     times: usize,
-    behind: &[u8],
+    after: &[u8],
 ) -> Result<Vec<u8>, AllocError> {
     let mut text: Vec<u8> = Vec::new(alloc);
-    add_repeated(&mut text, before, part, times, behind)?;
+    add_repeated(&mut text, before, part, times, after)?;
     Ok(text)
 }
 
@@ -62,12 +62,12 @@ pub(crate) fn add_numbered(
     text: &mut Vec<u8>,
     before: &[u8],
     count: usize,
-    behind: &[u8],
+    after: &[u8],
 ) -> Result<(), AllocError> {
     for number in 0..count {
         text.extend_from_slice(before)?;
         add_number(alloc, text, number)?;
-        text.extend_from_slice(behind)?;
+        text.extend_from_slice(after)?;
     }
     Ok(())
 }

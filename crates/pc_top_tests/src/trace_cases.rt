@@ -1,6 +1,8 @@
 //! `trace` on whole programs: the accesses of a run, each with its clock.
 
-use crate::rows::{Failure, NONE, Refused, Told, USAGE, all_fail, all_refused, all_told, refuses};
+use crate::rows::{
+    Answered, Failure, NONE, Refused, USAGE, all_answered, all_fail, all_refused, refuses,
+};
 use pc_test_inputs::programs::{DOUBLES, HELLO};
 
 const TRACE: &[&str] = &["trace", "a.pony", "a.sched"];
@@ -41,7 +43,7 @@ actor Main
 const WRITES_TOLD: &[u8] = b"13 1 write 1.1 0 clock 0,13\n18 1 write 1.1 1 clock 0,18\n\
 26 1 read 1.1 1 clock 0,26\n30 1 read 0.1 0 clock 0,30\naccesses 4 ordered\n";
 
-const TRACED: &[Told<'_>] = &[
+const TRACED: &[Answered<'_>] = &[
     (
         HELLO,
         b"1*10 0",
@@ -59,8 +61,8 @@ const TRACED: &[Told<'_>] = &[
 ];
 
 #[test]
-fn accesses_are_told_with_their_clocks(rt: HostRuntime) {
-    all_told(&rt, rt.alloc(), TRACE, TRACED);
+fn accesses_are_reported_with_their_clocks(rt: HostRuntime) {
+    all_answered(&rt, rt.alloc(), TRACE, TRACED);
 }
 
 const REFUSED: &[Refused<'_>] = &[

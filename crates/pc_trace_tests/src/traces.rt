@@ -139,7 +139,7 @@ fn accepted_of(alloc: Global, program: &[u8], actors: &[u32]) -> Result<List<Tou
     touches_of(alloc, &core, actors)
 }
 
-fn is_told(touch: &Touch, row: &Row) -> bool {
+fn is_reported(touch: &Touch, row: &Row) -> bool {
     let (place, actor, maker, serial, write, clock) = *row;
     let address = touch.address;
     touch.place == place
@@ -152,10 +152,10 @@ fn is_told(touch: &Touch, row: &Row) -> bool {
 }
 
 // Checks that these are the accesses, and there are no others.
-fn are_told(touches: &[Touch], rows: &[Row]) -> Result<(), Untraced> {
+fn are_reported(touches: &[Touch], rows: &[Row]) -> Result<(), Untraced> {
     for at in 0..rows.len() {
         match touches.get(at) {
-            Some(touch) if is_told(touch, &rows[at]) => {}
+            Some(touch) if is_reported(touch, &rows[at]) => {}
             _ => return Err(Untraced::Access(at)),
         }
     }
@@ -173,7 +173,7 @@ fn verdict_on(
     rows: &[Row],
 ) -> Result<Verdict, Untraced> {
     let trace = trace_of(alloc, program, actors)?;
-    are_told(trace.touches.as_slice(), rows).and(Ok(trace.verdict))
+    are_reported(trace.touches.as_slice(), rows).and(Ok(trace.verdict))
 }
 
 /// The verdict on a program's run, if its trace has exactly these accesses.
@@ -209,7 +209,7 @@ fn accepted_on(
     rows: &[Row],
 ) -> Result<(), Untraced> {
     let touches = accepted_of(alloc, program, actors)?;
-    are_told(touches.as_slice(), rows)
+    are_reported(touches.as_slice(), rows)
 }
 
 /// The same over these turns.

@@ -226,7 +226,7 @@ fn wrong_with_end(alloc: Global, text: &[u8], start: u32) -> Option<Wrong> {
 
 // A text that is a file, and a token after its end.
 #[test]
-fn behind_the_end(rt: HostRuntime) {
+fn after_the_end(rt: HostRuntime) {
     assert_eq!(rt; wrong_with_end(rt.alloc(), b"class C", 9), unexpected_at(9));
     assert_eq!(rt; wrong_with_end(rt.alloc(), b"class", 9), unexpected_at(5));
 }
