@@ -19,14 +19,14 @@ use Rattle.pc_judge.specs.Faults.{FirstAnnotationFault}
 use Rattle.pc_judge.proofs.Exact.{before_all}
 use Rattle.pc_feed.specs.Waiting.{BeginsAnnotation}
 use Rattle.pc_feed.specs.declared.judging.Judging.{Judging}
-use Rattle.pc_feed.specs.Streams.{StandsForLines, no_line, behind_head, NothingWrong, JudgedBy, JudgedSoFar}
+use Rattle.pc_feed.specs.Streams.{StandsForLines, no_line, after_head, NothingWrong, JudgedBy, JudgedSoFar}
 use Rattle.pc_feed.proofs.Beginnings.{no_lines, head_of, notes_begin}
 
 -- Among an annotation's lines, the slots and the nodes are all of them.
 all_stand : (core : CoreData) (v : Version) (ann : Ann) (slots : List (ℕ × Cap)) (notes : List Note) → StandsForLines core (lines_of v ann) slots notes
     → (ann.slots ≡ slots) × (ann.notes ≡ notes) × (length slots ≡ length core.slots) × (length notes ≡ length core.nodes)
 all_stand core v ann slots notes (no_line p q r) = absurd (no_lines v ann p)
-all_stand core v ann slots notes (behind_head w p l k o) =
+all_stand core v ann slots notes (after_head w p l k o) =
     let h = head_of v ann w (length core.slots) (length core.nodes) (map line_of_slot slots ++ map line.Node notes) p in
     let left = length-append (map line_of_slot ann.slots) (map line.Node ann.notes) in
     let right = length-append (map line_of_slot slots) (map line.Node notes) in

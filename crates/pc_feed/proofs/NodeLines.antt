@@ -25,8 +25,8 @@ use Rattle.pc_feed.proofs.Noted.{waiting_tells}
 use Rattle.pc_feed.specs.declared.judging.Judging.{Judging}
 use Rattle.pc_feed.specs.Lines.{notes_in, so_far}
 use Rattle.pc_feed.specs.Asked.{OpeningFits, IsFoundRight}
-use Rattle.pc_feed.specs.Streams.{behind_head, NothingWrong, FoundRightUpTo, Wrong, JudgedBy, JudgedSoFar}
-use Rattle.pc_feed.specs.Steps.{last_of, waits_behind, OneFound}
+use Rattle.pc_feed.specs.Streams.{after_head, NothingWrong, FoundRightUpTo, Wrong, JudgedBy, JudgedSoFar}
+use Rattle.pc_feed.specs.Steps.{last_of, waits_after, OneFound}
 use Rattle.pc_feed.proofs.Sayings.{map_push, count_push, notes_behind, slots_behind}
 use Rattle.pc_feed.proofs.Beginnings.{head_of, notes_begin}
 use Rattle.pc_feed.proofs.Places.{NodeAt}
@@ -230,7 +230,7 @@ module _ (core : CoreData) (formed : Formed core) (ls : List Line) (j : Judging)
       passes_here : (ann : Ann) → BeginsAnnotation ann j.slots notes → NodePasses core ann n
       passes_here ann b = passes core ann n x formed is_here (meets ann b) (unset_in ann b ∙ all_set)
 
-      pub node_right : (r : ℕ) → r ≡ j.right + 1 → NothingWrong core (ls ++ line.Node own ∷ []) (record { slots = j.slots; waiting = waits_behind j.waiting x own; right = r; fault = j.fault })
+      pub node_right : (r : ℕ) → r ≡ j.right + 1 → NothingWrong core (ls ++ line.Node own ∷ []) (record { slots = j.slots; waiting = waits_after j.waiting x own; right = r; fault = j.fault })
       node_right r e =
           let count = so.count in
           let below = at.below in
@@ -239,7 +239,7 @@ module _ (core : CoreData) (formed : Formed core) (ls : List Line) (j : Judging)
           let b = behind core formed so.notes j.waiting so.numbers own x so.waits so.waiting is_here in
           record {
             notes = notes;
-            lines = behind_head at.version longer (omega (arith, full)) (omega (arith, pushed, below)) (inr full);
+            lines = after_head at.version longer (omega (arith, full)) (omega (arith, pushed, below)) (inr full);
             count = omega (arith, e, count, pushed);
             numbers = b.numbers;
             waits = b.waits;
@@ -253,11 +253,11 @@ module _ (core : CoreData) (formed : Formed core) (ls : List Line) (j : Judging)
 
       -- How keeping its note ended.
       pub node_kept : {E : Type 0} → j.fault ≡ None → (old new : Judging) (r : Result (Unit {0}) E) → old ≡ record { slots = j.slots; waiting = j.waiting; right = j.right + 1; fault = j.fault }
-          → OnOk r (new ≡ record old { waiting = waits_behind old.waiting x own }) → OnErr r (new.right ≡ old.right) → OneFound core ls own j new r
+          → OnOk r (new ≡ record old { waiting = waits_after old.waiting x own }) → OnErr r (new.right ≡ old.right) → OneFound core ls own j new r
       node_kept none old new (Ok u) e ok err =
-          let after_all : Judging = record { slots = j.slots; waiting = waits_behind j.waiting x own; right = j.right + 1; fault = j.fault } in
+          let after_all : Judging = record { slots = j.slots; waiting = waits_after j.waiting x own; right = j.right + 1; fault = j.fault } in
           let judged : JudgedSoFar core (ls ++ line.Node own ∷ []) after_all = subst (λ o. JudgedBy core (ls ++ line.Node own ∷ []) after_all o) (sym none) (node_right (j.right + 1) refl) in
-          let same : new ≡ after_all = ok ∙ ap (λ (q : Judging). record q { waiting = waits_behind q.waiting x own }) e in
+          let same : new ≡ after_all = ok ∙ ap (λ (q : Judging). record q { waiting = waits_after q.waiting x own }) e in
           (subst (JudgedSoFar core (ls ++ line.Node own ∷ [])) (sym same) judged, ap (λ (q : Judging). q.right) same)
       node_kept none old new (Err f) e ok err =
           let count : new.right ≡ j.right + 1 = err ∙ ap (λ (q : Judging). q.right) e in

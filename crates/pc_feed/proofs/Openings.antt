@@ -16,7 +16,7 @@ use Rattle.pc_judge.specs.declared.faults.JudgeFault.TheVariants as fault
 use Rattle.pc_judge.specs.Faults.{KeepsType, HasShape}
 use Rattle.pc_feed.specs.declared.judging.Judging.{Judging}
 use Rattle.pc_feed.specs.Lines.{slots_in, so_far}
-use Rattle.pc_feed.specs.Streams.{behind_head, NothingWrong, FoundRightUpTo, Wrong, JudgedBy, JudgedSoFar}
+use Rattle.pc_feed.specs.Streams.{after_head, NothingWrong, FoundRightUpTo, Wrong, JudgedBy, JudgedSoFar}
 use Rattle.pc_feed.specs.Steps.{MayFollow, MayHave, SameFound}
 use Rattle.pc_feed.proofs.Sayings.{map_push, count_push, slots_app}
 use Rattle.pc_feed.proofs.Beginnings.{head_of, slots_begin}
@@ -42,7 +42,7 @@ module _ (core : CoreData) (ls : List Line) (j : Judging) (so : NothingWrong cor
       ∙ ap (λ (ts : List Note). line.Head v (length core.slots) (length core.nodes) ∷ map line.Node ts) h.2 in
       record {
         notes = so.notes;
-        lines = behind_head v (left ∙ ap (λ x. line.Head v x b ∷ []) p ∙ ap (λ x. line.Head v (length core.slots) x ∷ []) q ∙ sym right)
+        lines = after_head v (left ∙ ap (λ x. line.Head v x b ∷ []) p ∙ ap (λ x. line.Head v (length core.slots) x ∷ []) q ∙ sym right)
             (omega (arith, slots)) (omega (arith, notes)) (inl h.2);
         count = so.count;
         numbers = so.numbers;
@@ -101,7 +101,7 @@ module _ (core : CoreData) (ls : List Line) (j : Judging) (so : NothingWrong cor
       let none : length so.notes ≡ 0 = ap (λ (ts : List Note). length ts) at.none in
       record {
         notes = so.notes;
-        lines = behind_head at.version (longer ∙ ap (λ x. top ∷ x) (sym (append-nil (map line_of_slot slots)) ∙ ap (λ (ts : List Note). map line_of_slot slots ++ map line.Node ts) (sym at.none)))
+        lines = after_head at.version (longer ∙ ap (λ x. top ∷ x) (sym (append-nil (map line_of_slot slots)) ∙ ap (λ (ts : List Note). map line_of_slot slots ++ map line.Node ts) (sym at.none)))
             (omega (arith, size, less)) (omega (arith, none)) (inl at.none);
         count = so.count;
         numbers = so.numbers;

@@ -10,7 +10,7 @@ use Rattle.pc_deriv.specs.Lines.{line_of_slot}
 use Rattle.pc_judge.specs.declared.faults.JudgeFault.{JudgeFault}
 use Rattle.pc_feed.specs.declared.judging.Judging.{Judging}
 use Rattle.pc_feed.specs.Lines.{notes_in}
-use Rattle.pc_feed.specs.Streams.{StandsForLines, no_line, behind_head, NothingWrong, JudgedBy}
+use Rattle.pc_feed.specs.Streams.{StandsForLines, no_line, after_head, NothingWrong, JudgedBy}
 use Rattle.pc_feed.specs.Steps.{LineFits, Counted, MayFollow, HasRoom}
 use Rattle.pc_feed.proofs.Sayings.{notes_of_nodes, notes_of_slots}
 use Rattle.pc_feed.proofs.Counting.{counted_behind}
@@ -20,7 +20,7 @@ use Rattle.pc_feed.proofs.Counting.{counted_behind}
 pub notes_stand : (core : CoreData) (ls : List Line) (slots : List (ℕ × Cap)) (notes : List Note) → StandsForLines core ls slots notes
     → notes_in ls ≡ notes
 notes_stand core ls slots notes (no_line p q r) = ap notes_in p ∙ sym r
-notes_stand core ls slots notes (behind_head v p l k o) = ap notes_in p ∙ notes_of_slots slots (map line.Node notes) ∙ notes_of_nodes notes
+notes_stand core ls slots notes (after_head v p l k o) = ap notes_in p ∙ notes_of_slots slots (map line.Node notes) ∙ notes_of_nodes notes
 
 pub notes_are : (core : CoreData) (ls : List Line) (j : Judging) (so : NothingWrong core ls j) → notes_in ls ≡ so.notes
 notes_are core ls j so = notes_stand core ls j.slots so.notes so.lines
@@ -37,7 +37,7 @@ right_within core ls j (Some f) so = so.found.few
 
 head_stands : (core : CoreData) (ls : List Line) (slots : List (ℕ × Cap)) (notes : List Note) (n a b : ℕ) → StandsForLines core ls slots notes → MayFollow ls (line.Head n a b) → (ls ≡ []) × (slots ≡ []) × (notes ≡ [])
 head_stands core ls slots notes n a b (no_line p q r) c = (p, q, r)
-head_stands core ls slots notes n a b (behind_head v p l k o) c =
+head_stands core ls slots notes n a b (after_head v p l k o) c =
     let h = counted_behind v (length core.slots) (length core.nodes) c.counts c.ended slots notes (subst (λ x. Counted None 0 x c.counts c.ended) p c.counted) in
     absurd (subst (λ x. LineFits x c.ended (line.Head n a b)) (sym h.0) c.fits)
 
@@ -61,7 +61,7 @@ slot_stands : (core : CoreData) (ls : List Line) (slots : List (ℕ × Cap)) (no
     → (v : ℕ) × (ls ≡ line.Head v (length core.slots) (length core.nodes) ∷ map line_of_slot slots) × (notes ≡ [])
     × (length slots < length core.slots)
 slot_stands core ls slots notes e k (no_line p q r) c = absurd (nothing_comes ls (line.Slot e k) c p)
-slot_stands core ls slots notes e k (behind_head v p l m o) c =
+slot_stands core ls slots notes e k (after_head v p l m o) c =
     let h = counted_behind v (length core.slots) (length core.nodes) c.counts c.ended slots notes (subst (λ x. Counted None 0 x c.counts c.ended) p c.counted) in
     let fits : c.ended ≤ length core.slots = subst (λ x. LineFits x c.ended (line.Slot e k)) (sym h.0) c.fits in
     let number = h.1 in
@@ -84,7 +84,7 @@ pub record NodeAt (core : CoreData) (ls : List Line) (j : Judging) (so : Nothing
 node_stands : (core : CoreData) (ls : List Line) (slots : List (ℕ × Cap)) (notes : List Note) (t : Note) → StandsForLines core ls slots notes → MayFollow ls (line.Node t)
     → (v : ℕ) × (ls ≡ line.Head v (length core.slots) (length core.nodes) ∷ (map line_of_slot slots ++ map line.Node notes)) × (length slots ≡ length core.slots) × (length notes < length core.nodes)
 node_stands core ls slots notes t (no_line p q r) c = absurd (nothing_comes ls (line.Node t) c p)
-node_stands core ls slots notes t (behind_head v p l m o) c =
+node_stands core ls slots notes t (after_head v p l m o) c =
     let h = counted_behind v (length core.slots) (length core.nodes) c.counts c.ended slots notes (subst (λ x. Counted None 0 x c.counts c.ended) p c.counted) in
     let fits : (length core.slots < c.ended) × (c.ended ≤ length core.slots + length core.nodes) = subst (λ x. LineFits x c.ended (line.Node t)) (sym h.0) c.fits in
     let number = h.1 in

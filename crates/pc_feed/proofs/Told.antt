@@ -16,7 +16,7 @@ use Rattle.pc_feed.specs.declared.judging.Judging.{Judging}
 use Rattle.pc_feed.specs.Lines.{counts_in, notes_in, so_far}
 use Rattle.pc_feed.specs.Asked.{IsFoundRight, IsAsked, Grew, GrewPart}
 use Rattle.pc_feed.specs.Numbered.{numbered_notes}
-use Rattle.pc_feed.specs.Streams.{StandsForLines, no_line, behind_head, NothingWrong, FoundRightUpTo, JudgedBy, JudgedSoFar}
+use Rattle.pc_feed.specs.Streams.{StandsForLines, no_line, after_head, NothingWrong, FoundRightUpTo, JudgedBy, JudgedSoFar}
 use Rattle.pc_feed.specs.Steps.{GrewBy, first_nodes}
 use Rattle.pc_feed.proofs.Sayings.{notes_app, first_nodes_more}
 use Rattle.pc_feed.proofs.Places.{notes_are, right_within}
@@ -34,7 +34,7 @@ full_of core slots notes k l (inr e) = e
 
 all_found : (core : CoreData) (ls : List Line) (j : Judging) (so : NothingWrong core ls j) → StandsForLines core ls j.slots so.notes → (k : ℕ) → k < length so.notes → IsFoundRight core ls k
 all_found core ls j so (no_line p q r) k l = let none : length so.notes ≡ 0 = ap (λ (ts : List Note). length ts) r in absurd (omega (arith, l, none))
-all_found core ls j so (behind_head v p m n o) k l =
+all_found core ls j so (after_head v p m n o) k l =
     let f = first_of so.notes k l in
     let whole : lines_with core v j.slots so.notes ++ [] ≡ ls = append-nil (lines_with core v j.slots so.notes) ∙ sym p in
     let b : BeginsAnnotation (so_far ls) j.slots so.notes =

@@ -15,7 +15,7 @@ use Rattle.pc_rules.specs.Parts.{notes_of}
 use Rattle.pc_feed.specs.Waiting.{WaitingNodes, next, body}
 use Rattle.pc_feed.proofs.PostOrder.{children_wait_last}
 use Rattle.pc_feed.proofs.Noted.{noted_more, noted_cut}
-use Rattle.pc_feed.specs.Steps.{last_of, all_but_last, put_behind, waits_behind}
+use Rattle.pc_feed.specs.Steps.{last_of, all_but_last, put_after, waits_after}
 use Rattle.pc_feed.proofs.Sayings.{count_push}
 
 -- ---- cuts
@@ -113,9 +113,9 @@ module _ (core : CoreData) (formed : Formed core) (notes waiting : List Note) (n
         kept = ap Some (nothing ∙ sym is_front);
       }
 
-  behind_by : (k : NodeKind) → x.kind ≡ k → Behind core notes (put_behind front k own) own
+  behind_by : (k : NodeKind) → x.kind ≡ k → Behind core notes (put_after front k own) own
   behind_by node.Body e = waits_body e
   behind_by k e = waits_other (λ q. let bad : k ≡ node.Body = sym e ∙ q in cc)
 
-  pub behind : Behind core notes (waits_behind waiting x own) own
+  pub behind : Behind core notes (waits_after waiting x own) own
   behind = behind_by x.kind refl

@@ -115,12 +115,12 @@ abbrev pub all_but_last : List Note → ℕ → List Note
 all_but_last waiting count = take (length waiting - count) waiting
 
 -- a node's note appended, unless it is a body
-abbrev pub put_behind : List Note → NodeKind → Note → List Note
-put_behind front node.Body own = front
-put_behind front k own = front ++ own ∷ []
+abbrev pub put_after : List Note → NodeKind → Note → List Note
+put_after front node.Body own = front
+put_after front k own = front ++ own ∷ []
 
-abbrev pub waits_behind : List Note → Node → Note → List Note
-waits_behind waiting x own = put_behind (all_but_last waiting (length x.children)) x.kind own
+abbrev pub waits_after : List Note → Node → Note → List Note
+waits_after waiting x own = put_after (all_but_last waiting (length x.children)) x.kind own
 
 -- no line has come, and no byte
 abbrev pub nothing_judged : Judging

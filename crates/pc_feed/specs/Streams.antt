@@ -27,7 +27,7 @@ pub record StreamData : Type 0 where
 -- The lines are those of these slots and nodes: none yet, or the version and the counts, followed by slots and nodes.
 pub data StandsForLines (core : CoreData) (ls : List Line) (slots : Slots) (notes : List Note) : Type 0 where
   no_line : ls ≡ [] → slots ≡ [] → notes ≡ [] → StandsForLines core ls slots notes
-  behind_head : (version : ℕ) → ls ≡ line.Head version (length core.slots) (length core.nodes) ∷ (map line_of_slot slots ++ map line.Node notes)
+  after_head : (version : ℕ) → ls ≡ line.Head version (length core.slots) (length core.nodes) ∷ (map line_of_slot slots ++ map line.Node notes)
       → length slots ≤ length core.slots → length notes ≤ length core.nodes
       → (notes ≡ []) ⊎ (length slots ≡ length core.slots) → StandsForLines core ls slots notes
 

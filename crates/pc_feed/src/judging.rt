@@ -8,7 +8,7 @@ ghost use Rattle.pc_deriv.specs.Lines.{line_of_slot, lines_of};
 ghost use Rattle.pc_deriv.specs.declared.version.Version.{Version as VersionIs};
 ghost use Rattle.pc_deriv.specs.declared.line.Line.{Line as LineIs};
 ghost use Rattle.pc_deriv.specs.declared.line.Line.TheVariants as line;
-ghost use Rattle.pc_feed.specs.Steps.{MayFollow, HasRoom, JudgedSo, LineTaken, OneFound, SameFound, last_of, nothing_judged, waits_behind};
+ghost use Rattle.pc_feed.specs.Steps.{MayFollow, HasRoom, JudgedSo, LineTaken, OneFound, SameFound, last_of, nothing_judged, waits_after};
 ghost use Rattle.pc_feed.specs.Streams.{JudgedSoFar};
 
 use crate::fault::StreamFault;
@@ -105,7 +105,7 @@ impl Judging {
 
     // The next node's note takes the place of its children's. After a body no notes are left.
     fn keep(&mut self, node: &Node, own: Note) -> Result<(), AllocError>
-        ensures ok { OnOk result (self.new ≡ record self.old { waiting = waits_behind self.old.waiting node.now own }) }
+        ensures ok { OnOk result (self.new ≡ record self.old { waiting = waits_after self.old.waiting node.now own }) }
         ensures err { OnErr result (self.new.right ≡ self.old.right) }
     {
         let from = self.waiting.len().saturating_sub(node.children.len());

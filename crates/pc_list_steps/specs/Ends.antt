@@ -9,18 +9,18 @@ use Rattle.pc_list_steps.specs.declared.fault.StepsFault.{StepsFault}
 use Rattle.pc_list_steps.specs.declared.fault.StepsFault.TheVariants.{TooLong, Memory}
 
 -- The machine of the core after all steps of the list.
-abbrev pub IsBehind : CoreData → List ℕ → MachineData → Type 0
-IsBehind core list machine = (machine.core ≡ core) × (machine.configuration ≡ after core list)
+abbrev pub IsMachineAfter : CoreData → List ℕ → MachineData → Type 0
+IsMachineAfter core list machine = (machine.core ≡ core) × (machine.configuration ≡ after core list)
 
 -- The step at this place is the first one of the list that is too long, and the machine is the one before it; or memory
 -- ran out.
 abbrev pub RunStops : CoreData → List ℕ → StepsFault → Type 0
-RunStops core list (TooLong step machine) = (end_of (outcomes core list) ≡ Some (step, outcome.TooLong)) × IsBehind core list machine
+RunStops core list (TooLong step machine) = (end_of (outcomes core list) ≡ Some (step, outcome.TooLong)) × IsMachineAfter core list machine
 RunStops core list Memory = Unit {0}
 
 -- No step of the list ended the run, and the machine is the one after it; or the run stopped.
 abbrev pub RunEnds : CoreData → List ℕ → Result MachineData StepsFault → Type 0
-RunEnds core list result = MatchResult result (λ machine. (end_of (outcomes core list) ≡ None) × IsBehind core list machine) (RunStops core list)
+RunEnds core list result = MatchResult result (λ machine. (end_of (outcomes core list) ≡ None) × IsMachineAfter core list machine) (RunStops core list)
 
 -- A step that is too long is one of the first n.
 abbrev pub StopsWithin : ℕ → StepsFault → Type 0

@@ -16,11 +16,11 @@ pub fn place_of(bytes: &[u8], offset: usize) -> Place
     ensures line { result.line ≡ line_number (take offset bytes.now) }
     ensures column { result.column ≡ column_number (take offset bytes.now) }
 {
-    place_behind(&bytes[..offset.min(bytes.len())])
+    place_after(&bytes[..offset.min(bytes.len())])
 }
 
 // The place after these bytes.
-fn place_behind(front: &[u8]) -> Place
+fn place_after(front: &[u8]) -> Place
     ensures line { result.line ≡ line_number front.now }
     ensures column { result.column ≡ column_number front.now }
 {

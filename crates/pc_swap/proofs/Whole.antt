@@ -7,7 +7,7 @@ use Rattle.pc_semantics.specs.Configurations.{Configuration}
 use Rattle.pc_semantics.specs.Runs.{after, outcomes}
 use Rattle.pc_semantics.specs.Safety.{Safe}
 use Rattle.pc_semantics.specs.Text.{end_of}
-use Rattle.pc_list_steps.specs.Ends.{IsBehind}
+use Rattle.pc_list_steps.specs.Ends.{IsMachineAfter}
 use Rattle.pc_swap.specs.Apart.{Apart}
 use Rattle.pc_swap.specs.Kept.{IsKept}
 use Rattle.pc_swap.specs.Swapping.{SwapEnds}
@@ -20,7 +20,7 @@ module _ (core : CoreData) (list front rest : List ℕ) (i j place : ℕ) (is : 
   front_is : f ≡ front
   front_is = cut ∙ taken list front rest i j place is at
 
-  module _ (m : MachineData) (goes_on : end_of (outcomes core f) ≡ None) (behind : IsBehind core f m) (a b : ℕ) (first : a ≡ get_or list (place - 1) 0) (second : b ≡ get_or list place 0) where
+  module _ (m : MachineData) (goes_on : end_of (outcomes core f) ≡ None) (behind : IsMachineAfter core f m) (a b : ℕ) (first : a ≡ get_or list (place - 1) 0) (second : b ≡ get_or list place 0) where
     -- What holds in the machine of these two actors holds after the front.
     there : (P : CoreData → Configuration → ℕ → ℕ → Type 0) → P m.core m.configuration a b → P core (after core front) i j
     there P h =

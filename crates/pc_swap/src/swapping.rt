@@ -4,7 +4,7 @@ ghost use Rattle.pc_semantics.specs.Runs.{outcomes};
 ghost use Rattle.pc_semantics.specs.Safety.{Safe};
 ghost use Rattle.pc_semantics.specs.Text.{end_of};
 ghost use Rattle.pc_machine.specs.Limits.{list_limit};
-ghost use Rattle.pc_list_steps.specs.Ends.{IsBehind};
+ghost use Rattle.pc_list_steps.specs.Ends.{IsMachineAfter};
 ghost use Rattle.pc_swap.specs.Swapping.{FrontStops, SwapEnds};
 
 use crate::kept::SwapFault;
@@ -16,11 +16,11 @@ use pc_machine::{Machine, start};
 use std::alloc::{AllocError, Global};
 
 // The machine after the turns before a place.
-fn behind<'p>(alloc: Global, core: &'p Core, front: &[u32]) -> Result<Machine<'p>, SwapFault>
+fn machine_after<'p>(alloc: Global, core: &'p Core, front: &[u32]) -> Result<Machine<'p>, SwapFault>
     requires safe { Safe core.now }
     requires few { length front.now ≤ list_limit }
     ensures { MatchResult result
-        (λ machine. (end_of (outcomes core.now front.now) ≡ None) × IsBehind core.now front.now machine)
+        (λ machine. (end_of (outcomes core.now front.now) ≡ None) × IsMachineAfter core.now front.now machine)
         (FrontStops core.now front.now) }
 {
     let machine = start(alloc, core)?;
@@ -58,7 +58,7 @@ pub fn swap(alloc: Global, core: &Core, list: &[u32], place: u32) -> Result<List
     ensures { (front rest : Sequence ℕ) (i j : ℕ) → list.now ≡ front ++ i ∷ j ∷ rest → place ≡ length front + 1 → SwapEnds core.now front i j rest result }
 {
     let place = place as usize;
-    let machine = behind(alloc, core, &list[..place - 1])?;
+    let machine = machine_after(alloc, core, &list[..place - 1])?;
     match apart(&machine, list[place - 1], list[place]) {
         Ok(()) => {}
         Err(kept) => return Err(SwapFault::Kept(kept)),

@@ -1,4 +1,4 @@
-use Rattle.pc_safe.proofs.Behind.{ends_apart}
+use Rattle.pc_safe.proofs.After.{ends_apart}
 use Rattle.pc_safe.proofs.safe.accepted_is_safe.Goals as goal
 
 pub returns-clause-safe : goal.returns-clause-safe

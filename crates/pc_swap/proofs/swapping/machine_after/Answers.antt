@@ -2,7 +2,7 @@ use Rattle.std.proofs.Common.{List, ℕ, sym, subst}
 use Rattle.pc_core.specs.CoreData.{CoreData}
 use Rattle.pc_semantics.specs.Runs.{after}
 use Rattle.pc_semantics.specs.Safety.{LacksNothing}
-use Rattle.pc_swap.proofs.swapping.behind.Goals as goal
+use Rattle.pc_swap.proofs.swapping.machine_after.Goals as goal
 
 pub take_steps-requires-clause-never_lacks : goal.take_steps-requires-clause-never_lacks
 take_steps-requires-clause-never_lacks c =
