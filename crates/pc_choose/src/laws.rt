@@ -47,7 +47,8 @@ pub fn few_change()
     ensures { FewChange }
 {}
 
-/// The list of a seed ends when no actor is able, at a step that does not move, or at one of its two limits.
+/// The list of a seed ends when no actor is able, or at a step that does not move, or it has 1,000,000 steps, or at
+/// least 95,000.
 #[tactic(auto, using(crate::proofs::Ending::lists_end))]
 pub fn lists_end()
     ensures { ListsEnd }

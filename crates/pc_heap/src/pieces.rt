@@ -53,7 +53,7 @@ pub fn collected(alloc: Global, pieces: &[SharedList<u8>]) -> Result<Vec<u8>, Al
     }
 }
 
-/// Whether two adjacent pieces are to be merged into one.
+/// Whether two adjacent pieces are to be merged into one. No contract depends on the answer.
 pub fn is_small(left: &SharedList<u8>, right: &SharedList<u8>) -> bool {
     left.as_slice().len() + right.as_slice().len() <= PIECE
 }

@@ -4,7 +4,7 @@ ghost use Rattle.pc_isolation.specs.ValidLaws as law;
 
 use pc_semantics::only_moves_change;
 
-/// A program with a valid annotation is isolated in depth: over every schedule, no step touches what is inside a
+/// A formed core with a valid annotation is isolated in depth: over every schedule, no step touches what is inside a
 /// waiting `iso` argument, or an object that leads there; none writes what is seen from a waiting `iso` or `val`
 /// argument; and what is inside one argument is neither inside nor seen from any other.
 pub fn valid_is_isolated()
@@ -12,8 +12,8 @@ pub fn valid_is_isolated()
 {}
 
 /// What a message carries is passed as a whole. Whatever steps are made until it is taken, the same objects are inside
-/// each of its arguments and seen from it, with the same contents; and the step that takes it puts each argument into
-/// the slot of its parameter, and changes no object.
+/// each of its arguments and seen from it, with the same contents; and the step that takes it puts each argument
+/// that is an object into the slot of its parameter, and changes no object.
 pub fn valid_is_passed_whole()
     ensures { law.ValidIsPassedWhole }
 {

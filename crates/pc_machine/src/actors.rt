@@ -96,8 +96,8 @@ impl Actors {
         self.waiting -= 1;
     }
 
-    /// Does the first task of an actor's running frame, if it concerns that frame and the objects alone. An `Err` changes
-    /// nothing.
+    /// Does the first task of an actor's running frame, if it concerns that frame and the objects alone. An `Err`
+    /// changes nothing.
     pub fn run_frame(
         &mut self,
         alloc: Global,

@@ -54,8 +54,8 @@ pub fn start<'p>(alloc: Global, core: &'p Core) -> Result<Machine<'p>, AllocErro
 }
 
 impl<'p> Machine<'p> {
-    /// One step of an actor: its first task, or its oldest message if it is idle. An `Err` leaves the configuration as it
-    /// was, as every outcome but `Moved` does.
+    /// One step of an actor: its first task, or its oldest message if it is idle. An `Err` leaves the configuration as
+    /// it was, as every outcome but `Moved` does.
     pub fn step(&mut self, actor: u32) -> Result<Outcome, AllocError>
         requires objects { len self.old.configuration.objects < object_limit }
         requires messages { text.waiting self.old.configuration < message_limit }
@@ -66,7 +66,8 @@ impl<'p> Machine<'p> {
         advance(self.alloc, self.core, &mut self.state, actor)
     }
 
-    /// The field of an object that an actor's next task reads or writes. `None` iff it touches none. It does not allocate.
+    /// The field of an object that an actor's next task reads or writes. `None` iff it touches none. It does not
+    /// allocate.
     pub fn access(&self, actor: u32) -> Option<Access>
         ensures { result ≡ safety.access self.now.core self.now.configuration actor }
     {
@@ -80,7 +81,8 @@ impl<'p> Machine<'p> {
         ahead_of(self.core, &self.state, actor)
     }
 
-    /// The messages that wait for an actor, and what it is doing. `None` iff there is no such actor. It does not allocate.
+    /// The messages that wait for an actor, and what it is doing. `None` iff there is no such actor. It does not
+    /// allocate.
     pub fn actor(&self, actor: u32) -> Option<&Actor>
         ensures { option_copied result ≡ slice_get self.now.configuration.actors actor }
     {

@@ -22,7 +22,8 @@ pub enum Plan {
     Lacks(Lack),
     /// Only the frames of the actor change.
     Changes(Change),
-    /// An object of an entity is made, with this number of fields, and its constructor's frame begins. The object becomes `this`.
+    /// An object of an entity is made, with this number of fields, and its constructor's frame begins. The object
+    /// becomes `this`.
     Makes {
         count: usize,
         entity: u32,

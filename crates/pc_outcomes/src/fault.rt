@@ -9,7 +9,7 @@ use std::alloc::{AllocError, AllocFailed};
 pub enum OutcomesFault {
     /// The plays of the seeds up to this one have more than 100,000,000 steps.
     Steps(u32),
-    /// The different texts of the seeds up to this one have more than 67,108,864 bytes.
+    /// The texts of the different outcomes of the seeds up to this one have more than 67,108,864 bytes.
     Texts(u32),
     /// Out of memory.
     Memory,

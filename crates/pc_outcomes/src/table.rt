@@ -95,8 +95,8 @@ fn add(
 /// # Errors
 /// - `Steps(seed)` if the plays of the seeds up to this one have more than 100,000,000 steps, and those below it do
 ///   not.
-/// - `Texts(seed)` if the different texts of the seeds up to this one have more than 67,108,864 bytes, and those below
-///   it do not.
+/// - `Texts(seed)` if the texts of the different outcomes of the seeds up to this one have more than 67,108,864 bytes,
+///   and those below it do not.
 /// - `Memory` if memory ran out.
 pub fn outcomes(alloc: Global, core: &Core, count: u32) -> Result<List<Entry>, OutcomesFault>
     requires few { count < 2 ^ 31 }

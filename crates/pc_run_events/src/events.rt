@@ -4,10 +4,12 @@ use pc_caps::List;
 use pc_heap::Address;
 use pc_semantics::Access;
 
-/// What an event does, if it is more than a plain step of its actor. Methods and entities are named by their numbers in the core.
+/// What an event does, if it is more than a plain step of its actor. Methods and entities are named by their numbers in
+/// the core.
 #[derive(Clone, Copy, Debug, PartialEq, Eq)]
 pub enum Deed {
-    /// It takes a message of this method, which the event at the place `sent` sent. Places are counted from 1; 0 if no event did.
+    /// It takes a message of this method, which the event at the place `sent` sent. Places are counted from 1; 0 if no
+    /// event did.
     Take { method: u32, sent: u64 },
     /// It sends this actor a message of this method.
     Send { receiver: u32, method: u32 },

@@ -1,4 +1,4 @@
-//! What an event does to the clocks and to the places that are kept for the messages that wait.
+//! What an event does to the clocks that are kept.
 ghost use Rattle.std.specs.Prelude.{OnOk};
 ghost use Rattle.pc_semantics.specs.declared.ahead.Ahead.TheVariants as kind;
 ghost use Rattle.pc_trace.specs.Turns.{FollowsEvent, Ready};

@@ -6,8 +6,8 @@
 //! `pc_events`. A message that is taken is the one that the event at its place put into the mailbox. The method of a
 //! message is that of the message in the mailbox, and an object that is made is at an address that had none before. The
 //! accesses among the events are those of `pc_trace`, and those that conflict are ordered. `write_events` writes their
-//! lines, byte for byte, and `write_trace` those of the accesses of `pc_trace`; `push_entity` and `push_method` append the
-//! names that these lines have.
+//! lines, byte for byte, and `write_trace` those of the accesses of `pc_trace`; `push_entity` and `push_method` append
+//! the names that these lines have.
 //!
 //! How the code is to be read is in `CONTRIBUTING.md` (How to read the code).
 #![tactic(auto)]

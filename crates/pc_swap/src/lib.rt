@@ -4,8 +4,8 @@
 //!
 //! Proved: in a safe program, steps that are apart may be swapped (`steps_swap`, `lists_swap`). `apart` succeeds iff
 //! the next steps of two actors of a machine are apart; otherwise it names the first part that fails
-//! (`kept_are_not_apart`). It does not allocate. `swap` exchanges two turns of a list iff their steps are apart, and
-//! then both lists lead to the same configuration.
+//! (`kept_are_not_apart`). It does not allocate. `swap` exchanges two turns of a list iff no step before them makes too
+//! long a text and their steps are apart, and then both lists lead to the same configuration.
 //!
 //! How the code is to be read is in `CONTRIBUTING.md` (How to read the code).
 #![tactic(auto)]

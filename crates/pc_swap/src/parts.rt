@@ -85,7 +85,8 @@ fn apart_others(machine: &Machine<'_>, actor: u32, other_actor: u32) -> Result<(
     Ok(())
 }
 
-/// Whether the next steps of two actors of a machine are apart, and so may be swapped. It does not allocate.
+/// Whether the next steps of two actors of a machine are apart. In a safe program they may then be swapped
+/// (`steps_swap`). It does not allocate.
 ///
 /// # Errors
 /// The first part of being apart that fails, in the order of `Kept`.

@@ -47,7 +47,8 @@ fn exchanged(alloc: Global, list: &[u32], place: usize) -> Result<List<u32>, All
 /// safe. The list has at most 4,000,000 turns.
 ///
 /// # Errors
-/// - `Kept` iff the two steps are not apart after the turns before them, with the answer of `apart`.
+/// - `Kept` iff no step before them makes too long a text and the two are not apart after these, with the answer of
+///   `apart`.
 /// - `TooLong(n)` iff the n-th step of the list, counted from 1, is before them and would make too long a text.
 /// - `Memory` if memory ran out.
 pub fn swap(alloc: Global, core: &Core, list: &[u32], place: u32) -> Result<List<u32>, SwapFault>

@@ -45,7 +45,8 @@ pub fn cores_of_sources_are_formed()
     cores_are_formed();
 }
 
-/// There is at most one verdict for the words and the known bytes of the files.
+/// There is at most one verdict on words and files, if the bytes of the command's files are known and no reading of
+/// them failed.
 pub fn verdict_is_one()
     ensures { VerdictIsOne }
 {
@@ -75,8 +76,9 @@ pub fn verdict_is_one()
     accepted_has_none();
 }
 
-/// The status of `check` is 0 iff the source has a core with a derivation, and the status of a command that looks for a
-/// derivation is 1 iff the source has a core without one.
+/// Let the bytes of a source be known, and no reading of it have failed. Then the verdict of `check` has status 0 iff
+/// the source has a core with a derivation; and that of a command that looks for a derivation has status 1 iff the
+/// source, or the program of `make`, has a core without one, if the words spell the numbers that the command takes.
 pub fn statuses_are_exact()
     ensures { StatusesAreExact }
 {
@@ -91,8 +93,8 @@ pub fn statuses_are_exact()
     nothing_is_derivable_with_a_declaration_that_fails();
 }
 
-/// The status of `judge` and of `upgrade` is 0 iff the derivation is the text of a valid annotation of the source's
-/// core.
+/// Let the bytes of both files be known, and no reading of them have failed. Then the status of `judge` and of `upgrade`
+/// is 0 iff the derivation is the text of a valid annotation of the source's core.
 pub fn judged_statuses_are_exact()
     ensures { JudgedAreExact }
 {
@@ -165,7 +167,8 @@ pub fn tables_tell_of_every_run()
 }
 
 /// If `schedule` is done with a line for a source and a seed, then `play` of that source and that seed, and `run` of
-/// that source by a file with this line, have the same status and write the same text on out.
+/// that source by a file with this line, have the same status and write the same text on out. The bytes of these files
+/// are known, and no reading of them failed.
 pub fn plays_are_runs()
     ensures { PlayedAsRun }
 {

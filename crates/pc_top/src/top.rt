@@ -37,7 +37,8 @@ use std::alloc::Global;
 /// tree, the core with its places, each printed text of a run or a play and its numbers, the first line of a generated
 /// program, the report on two turns, all accesses or all events of a run with their clocks, the whole table of who
 /// sends what, a schedule that a seed chooses, and a table of outcomes. The line on err is one call too; after a failed
-/// call on out, nothing more is written. `judge` asks the referee about each node of the derivation.
+/// call on out, nothing more is written. `judge` asks the referee about the nodes of the derivation, in order, up to
+/// the first fault other than that of a declaration.
 pub fn rcap<F: Files, O: Sink, E: Sink, R: Referee>(
     alloc: Global,
     words: &[&str],
@@ -52,15 +53,16 @@ pub fn rcap<F: Files, O: Sink, E: Sink, R: Referee>(
     ensures out_later { O.faults out.old ≤ O.faults out.new }
     ensures err_later { E.faults err.old ≤ E.faults err.new }
 
-    // The status, the text on out and the line on err are those of the verdict, or the answer is a fault with its
-    // cause, or memory ran out.
+    // The status, the text on out and the line on err are those of a verdict on the words and the files, or the answer
+    // is a fault with its cause, or memory ran out.
     ensures answers { let files = files_change (F.bytes files.old) (F.faults files.old) (F.faults files.new) (F.taken files.new) in
         Answer (IsVerdict files (texts words.now)) (FailedIn files (texts words.now))
         (change (O.written out.old) (O.written out.new) (O.faults out.old) (O.faults out.new))
         (change (E.written err.old) (E.written err.new) (E.faults err.old) (E.faults err.new)) result }
 
-    // The source that is accepted, or the program that is generated, has a core, and the core has a derivation. A
-    // source that is only shown need not have one.
+    // This clause and those up to `traces` speak of files whose bytes are known. The source that is accepted, or the
+    // program that is generated, has a core, and the core has a derivation. A source that is only shown, explained or
+    // listed with its places need not have one.
     ensures accepted { IsAccepting result → Accepts (F.bytes files.old) (texts words.now) }
 
     // What the program is for. This core is safe: after every list of actors, of any length, no two actors' next steps
@@ -88,8 +90,8 @@ pub fn rcap<F: Files, O: Sink, E: Sink, R: Referee>(
     ensures writes { IsAccepting result → OnOut (F.bytes files.old) (texts words.now)
         (change (O.written out.old) (O.written out.new) (O.faults out.old) (O.faults out.new)) }
 
-    // If `swap` exchanges two turns of a schedule, they lead where they led before: all four steps move, and the
-    // schedule on out leads to the same configuration as the other one.
+    // If `swap` exchanges two turns of a schedule, their steps are apart and all four move, and the schedule on out leads
+    // to the same configuration as the other one. If it does not, the first part of being apart that fails is on out.
     ensures swaps { result ≡ 0 → Swaps (F.bytes files.old) (texts words.now)
         (change (O.written out.old) (O.written out.new) (O.faults out.old) (O.faults out.new)) }
 
@@ -99,7 +101,7 @@ pub fn rcap<F: Files, O: Sink, E: Sink, R: Referee>(
     ensures traces { result ≡ 0 → Traces (F.bytes files.old) (texts words.now)
         (change (O.written out.old) (O.written out.new) (O.faults out.old) (O.faults out.new)) }
 
-    // If no file of the command and no sink failed, the answer is the verdict, or memory ran out.
+    // If neither a sink failed nor a file whose failure would be an answer, the answer is a verdict, or memory ran out.
     ensures completes { let files = files_change (F.bytes files.old) (F.faults files.old) (F.faults files.new) (F.taken files.new) in
         Completes (IsVerdict files (texts words.now)) (FailedIn files (texts words.now))
         (change (O.written out.old) (O.written out.new) (O.faults out.old) (O.faults out.new))

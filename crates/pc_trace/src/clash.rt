@@ -55,7 +55,8 @@ fn look(
     Ok(found)
 }
 
-/// Whether each access counts all earlier ones that clash with it.
+/// Whether each access counts all earlier ones that clash with it. If not, the first that does not, and the latest that
+/// it does not count.
 pub fn judged(alloc: Global, touches: &[Touch]) -> Result<Verdict, AllocError>
     requires few { length touches.now < 2 ^ 32 }
     requires rises { Rises touches.now }

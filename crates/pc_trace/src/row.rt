@@ -38,7 +38,7 @@ fn looked(touches: &[Touch], found: Option<usize>, place: usize, access: &Touch)
     }
 }
 
-/// The latest of these places whose access clashes with one that does not count it.
+/// The latest of these places whose access clashes with this one, which does not count it.
 pub fn latest_of(touches: &[Touch], row: &[u32], access: &Touch) -> Option<usize>
     requires { (k m : ℕ) → slice_get row.now k ≡ Some m → m < length touches.now }
     ensures { LatestOf touches.now row.now (length row.now) access.now result }

@@ -25,8 +25,8 @@ pub struct Touch {
 pub enum Verdict {
     /// Of any two events that conflict, the earlier one comes before the later one.
     Ordered,
-    /// The event at the place `second` is the first one that conflicts with an earlier event that does not come before it, and
-    /// the latest such event is at the place `first`. Places are counted from 1.
+    /// The event at the place `second` is the first one that conflicts with an earlier event that does not come before
+    /// it, and the latest such event is at the place `first`. Places are counted from 1.
     Conflict { first: u64, second: u64 },
 }
 

@@ -29,8 +29,8 @@ pub fn trace(alloc: Global, core: &Core, list: &[u32]) -> Result<Trace, TraceFau
     Ok(Trace { touches, verdict })
 }
 
-/// The accesses of a run of a safe core in order, each with its clock. Those that conflict are ordered. The list has at most
-/// 4,000,000 places.
+/// The accesses of a run of a safe core in order, each with its clock. Those that conflict are ordered. The list has at
+/// most 4,000,000 places.
 ///
 /// # Errors
 /// - `TooLong` iff a step of the list would make a text that is too long, with its place, counted from 1.

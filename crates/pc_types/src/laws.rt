@@ -7,7 +7,7 @@ pub fn start_has_two_actors()
     ensures { law.StartHasTwoActors }
 {}
 
-/// A program with a valid annotation never lacks anything, over every schedule.
+/// A formed core with a valid annotation never lacks anything, over every schedule.
 pub fn accepted_never_lacks()
     ensures { law.AcceptedNeverLacks }
 {}

@@ -16,8 +16,8 @@ pub fn there_is_a_verdict()
     valid_is_safe();
 }
 
-/// If no file of the command and no stream failed, the answer is that verdict, or it is 11. So running out of memory is
-/// the only answer that words and files do not determine.
+/// If the bytes of the command's files are known, and none of these files and no stream failed, the answer is that
+/// verdict, or it is 11. So running out of memory is the only answer that words and files do not determine.
 pub fn eleven_is_the_one_free_answer()
     ensures { ElevenIsFree }
 {
