@@ -29,7 +29,7 @@ gap s d = rose node.Body s d (one (leaf node.This s d))
 abbrev pub added_this : Name → ℕ → Rose
 added_this n d = leaf node.This n.span d
 
--- The operators of logic and identity have node kinds of their own.
+-- `and`, `or`, `is` and `isnt` have node kinds of their own.
 abbrev pub operation : Op → NodeKind
 operation op.And = node.And
 operation op.Or = node.Or

@@ -66,8 +66,8 @@ next_of t.no_suffixes = end
 next_of (t.suffix (t.dot n) ss) = name
 next_of (t.suffix (t.args es s) ss) = arguments
 
--- The bare name of a method is fine before arguments, and a type name before `.m` calls no `create`; otherwise the
--- start of a chain has the faults that it has on its own.
+-- The bare name of a method is fine before arguments, and the name of a class or actor before `.m` calls no `create`;
+-- otherwise the start of a chain has the faults that it has on its own.
 abbrev pub start_faults : Start → Next → List BodyNameFault → List BodyNameFault
 start_faults (with_method n) arguments alone = []
 start_faults (with_type (created actor cs)) name alone = []

@@ -76,8 +76,7 @@ pub data Meaning : Type 0 where
   method : Meaning
   nothing : Meaning
 
--- A bare name is a visible local or parameter, else a field of the entity, else, directly before arguments, a method of
--- the entity.
+-- By whether the name is a field, and whether it is a method.
 abbrev pub member : Bool → Bool → Meaning
 member true is_method = field
 member false true = method
@@ -87,6 +86,8 @@ abbrev pub unless_local : Option ℕ → Meaning → Meaning
 unless_local (Some s) m = local s
 unless_local None m = m
 
+-- A bare name is a visible local or parameter, else a field of the entity, else, directly before arguments, a method of
+-- the entity.
 abbrev pub resolve : Context → Scope → List ℕ → Meaning
 resolve c scope name = unless_local (slot_named scope name) (member (is_among_names c.fields name) (is_among_names c.methods name))
 
@@ -94,7 +95,7 @@ resolve c scope name = unless_local (slot_named scope name) (member (is_among_na
 pub data TypeMeaning : Type 0 where
   -- the value of the primitive with this number
   primitive : ℕ → TypeMeaning
-  -- an entity with constructors, an actor or a class
+  -- an actor (`true`) or a class (`false`), with its constructors
   created : Bool → List Constructor → TypeMeaning
   no_value : TypeMeaning
 

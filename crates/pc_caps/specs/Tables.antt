@@ -1,4 +1,5 @@
--- The tables on capabilities and forms: storing follows the paper of 2015, the rest is this project's profile.
+-- The tables on capabilities and forms: storing and sending follow the paper of 2015; the tables on fields and `recover`
+-- are this project's profile.
 use Rattle.std.specs.Prelude.{Bool, true, false, ◌&&◌, Option, Some, None}
 use Rattle.pc_caps.specs.Order.{is_below}
 use Rattle.pc_caps.specs.declared.capability.Cap.{Cap}
@@ -15,7 +16,8 @@ plain cap.Val = form.Val
 plain cap.Box = form.Box
 plain cap.Tag = form.Tag
 
--- The form that a value must be below to be stored: `iso^` and `trn^` for the two capabilities that allow no alias.
+-- The form that a value must be below to be stored at this capability: `iso^` for `iso`, `trn^` for `trn`, and otherwise
+-- the capability itself.
 abbrev pub unalias : Cap → Form
 unalias cap.Iso = form.IsoE
 unalias cap.Trn = form.TrnE
@@ -131,8 +133,8 @@ enters form.Tag = λ f k. false
 abbrev pub may_write : Form → Form → Cap → Bool
 may_write origin value field = fits value field && enters origin value field
 
--- The form of a recover's value, by that of its body: nothing outside reaches what was made inside, but what may only
--- be read or compared stays so.
+-- The form of a `recover`'s value, by that of its body: `iso^`, `trn^` and `ref` become `iso^`, since nothing outside
+-- reaches what was made inside; `trn`, `box` and `val` become `val`; `iso` and `tag` become `tag`.
 abbrev pub lift : Form → Form
 lift form.IsoE = form.IsoE
 lift form.TrnE = form.IsoE

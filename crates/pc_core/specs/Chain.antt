@@ -1,4 +1,4 @@
--- When an entity is another one, or is declared by `is` to be one.
+-- When two entities are the same, or the first is declared by `is` to be the second.
 use Rattle.std.specs.Prelude.{◌≡◌, ◌⊎◌, ℕ}
 use Rattle.pc_core.specs.CoreData.{CoreData}
 use Rattle.pc_core.specs.Entities.{Leads}

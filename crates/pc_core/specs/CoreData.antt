@@ -10,7 +10,7 @@ pub record CoreData : Type 0 where
   pub methods : List Method
   pub slots : List Slot
   pub nodes : List Node
-  -- the texts of the names of fields and methods
+  -- the texts of the names of fields and methods, and of the names after a `.`
   pub names : List (List ℕ)
 
 -- The core of these lists.

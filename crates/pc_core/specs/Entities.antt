@@ -1,4 +1,4 @@
--- The built-in entities, and when an entity fits its core.
+-- The built-in entities, and chains of `is` in a core.
 use Rattle.std.specs.Prelude.{◌≡◌, ℕ, true, List, [], ◌∷◌, Some, None, slice_get, codes}
 use Rattle.pc_caps.specs.declared.capability.Cap.{Cap}
 use Rattle.pc_caps.specs.declared.capability.Cap.TheVariants as cap
@@ -23,7 +23,7 @@ nowhere = record { start = 0; end = 0 }
 abbrev pub built_in : EntityKind → Cap → List ℕ → List FieldInfo → ℕ → EntityDef
 built_in k c name fields methods = record { kind = k; cap = c; name = name; span = nowhere; provides = []; above = []; fields = fields; first_method = 0; methods = methods }
 
--- An entity of literal values.
+-- A built-in primitive with this name.
 abbrev pub built_in_value : List ℕ → EntityDef
 built_in_value name = built_in kind.Primitive cap.Val name [] 0
 

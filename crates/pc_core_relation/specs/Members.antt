@@ -48,8 +48,8 @@ abbrev pub MayTake : t.Entity → t.Method → Type 0
 MayTake e m = (is_takable e.kind m ≡ true) × (Has (own_texts e) m.name.text → ⊥)
 
 -- The members of an entity, in the order of their numbers. Those of a trait or an interface are its methods without
--- bodies. Another entity has its own methods, an added `create` if it lacks a constructor, and those that it takes over
--- of the methods given by its `is` list: the first with each name.
+-- bodies. Another entity has its own methods, an added `create` if it is a class or an actor without a constructor, and
+-- those that it takes over of the methods given by its `is` list: the first with each name.
 pub data HasMembers (file : t.File) (e : t.Entity) : List Member → Type 0 where
   bodiless : {ms : List t.Method} → is_abstract e.kind ≡ true → HasMethods file e ms → HasMembers file e (map (λ m. written (without_body m)) ms)
   with_bodies : {given taken : List t.Method} → is_abstract e.kind ≡ false → Gives file e.provides given → AreFirstOfNames (MayTake e) given taken

@@ -47,13 +47,13 @@ abbrev pub IsForm : (hat : Bool) → Cap → Form → Type 0
 IsForm true k f = f ≡ unalias k
 IsForm false k f = f ≡ plain k
 
--- A function returns what is written, or else None; a behaviour returns None.
+-- A function returns what is written, or else None.
 abbrev pub IsFunctionResult : CoreData → Option TypeRef → ℕ × Form → Type 0
 IsFunctionResult core None r = r ≡ (none_entity, form.Val)
 IsFunctionResult core (Some ty) r = (k : Cap) × IsType core ty (r.0, k) × IsForm ty.hat k r.1
 
 -- A new object of entity n: an actor is `tag`, and an object of a class has the capability that its constructor gives
--- it, and is in no place yet.
+-- it, and is in no place yet. Only classes and actors have constructors; the other kinds are never asked about.
 abbrev pub IsObject : EntityKind → (n : ℕ) → Cap → ℕ × Form → Type 0
 IsObject kind.Class n k r = r ≡ (n, unalias k)
 IsObject kind.Actor n k r = r ≡ (n, form.Tag)
@@ -61,7 +61,8 @@ IsObject kind.Primitive n k r = r ≡ (n, unalias k)
 IsObject kind.Trait n k r = r ≡ (n, unalias k)
 IsObject kind.Interface n k r = r ≡ (n, unalias k)
 
--- A constructor returns a new object of its entity: with the capability that is written for it, or else as `ref`.
+-- A behaviour returns None. A constructor returns a new object of its entity: with the capability that is written for
+-- it, or else as `ref`.
 abbrev pub IsResult : CoreData → EntityKind → (n : ℕ) → t.Method → MethodWord → ℕ × Form → Type 0
 IsResult core k n w word.Fun r = IsFunctionResult core w.result r
 IsResult core k n w word.Be r = r ≡ (none_entity, form.Val)
@@ -69,7 +70,7 @@ IsResult core k n w word.New r = IsObject k n (cap_or w.cap cap.Ref) r
 
 -- ---- slots
 
--- A local of method m.
+-- Slot x represents a local of method m.
 pub record LocalStands (core : CoreData) (m : ℕ) (l : Local) (x : Slot) : Type 0 where
   pub method : x.method ≡ m
   pub kind : x.kind ≡ local_kind l.fixed
@@ -102,8 +103,8 @@ pub record WrittenStands (core : CoreData) (members : List Member) (n : ℕ) (e 
   pub no_fault : body_faults (context_in core members e (slots_of e.fields w)) e.fields w ≡ []
   pub body : BodyIs core m x (body_of (context_in core members e (slots_of e.fields w)) e.fields w)
 
--- It represents the `create` that is added to that entity: with the entity's name as its span, without parameters. Its
--- object is isolated.
+-- It represents the `create` that is added to that entity: with the entity's name as its span, without parameters. An
+-- object of a class is returned as `iso^`, an actor as `tag`.
 pub record AddedStands (core : CoreData) (members : List Member) (n : ℕ) (e : t.Entity) (m : ℕ) (x : Method) : Type 0 where
   pub name : slice_get core.names x.name ≡ Some (codes "create")
   pub kind : x.kind ≡ constructor_kind e.kind

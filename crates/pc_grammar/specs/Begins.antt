@@ -15,7 +15,7 @@ module _ {A : Type 0} (spells : A → List Token → Type 0) where
   abbrev pub Begins : List Token → Type 0
   Begins ts = (more : List Token) × (tree : A) × spells tree (ts ++ more)
 
-  -- after `pre` and the first of these tokens, nothing begins
+  -- `pre` and the first of these tokens, if there is one, begin no tree
   abbrev pub IsStopped : List Token → List Token → Type 0
   IsStopped pre rest = (x : Token) (more : List Token) → rest ≡ x ∷ more → Begins (pre ++ x ∷ []) → ⊥
 

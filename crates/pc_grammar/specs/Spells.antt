@@ -1,4 +1,4 @@
--- Which tokens spell which tree: by cases on the tree, one for each line of the grammar.
+-- Which tokens spell which tree: by cases on the tree, one for each alternative of the grammar.
 --
 --   Seq     = Item {Next Item}
 --   Item    = ("var" | "let") Name [":" Type] "=" Expr | Expr
@@ -125,7 +125,7 @@ abbrev pub is_dot : t.Suffix → Bool
 is_dot (t.dot m) = true
 is_dot (t.args es sp) = false
 
--- whether the last suffix, if there is one, is a name
+-- whether the last suffix is a name; without suffixes, the given answer
 abbrev pub ends_in_dot : Bool → t.Suffixes → Bool
 ends_in_dot b t.no_suffixes = b
 ends_in_dot b (t.suffix x ss) = ends_in_dot (is_dot x) ss

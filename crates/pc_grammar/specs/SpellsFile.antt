@@ -1,4 +1,4 @@
--- Which tokens spell which file: by cases on the tree, one for each line of the grammar.
+-- Which tokens spell which file: by cases on the tree, one for each alternative of the grammar.
 --
 --   File    = [doc] Entity {Entity} End
 --   Entity  = ("class" [Cap] | "trait" [Cap] | "interface" [Cap] | "actor" | "primitive") TypeName

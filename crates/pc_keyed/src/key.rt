@@ -16,7 +16,7 @@ pub struct KeyedBy {
 }
 
 impl KeyedBy {
-    /// The key made of nothing.
+    /// The key made of nothing. No contract depends on a key, so neither this call nor those below promise anything.
     pub fn nothing() -> KeyedBy {
         KeyedBy {
             read: DefaultHasher::new(),

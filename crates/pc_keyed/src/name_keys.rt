@@ -4,7 +4,7 @@ use crate::key::KeyedBy;
 use pc_tree::{Arm, Entity, Expr, FieldDef, File, Item, MethodDef, Name, ParamDef, Seq, Suffix};
 
 /// The key made of the names that a file gives to entities, fields, methods, parameters and locals, and of those after
-/// a `.`, in the order of the text. Does not allocate.
+/// a `.`, in the order of the text. It does not allocate, and promises nothing, as no contract depends on a key.
 pub fn keyed_by_names(file: &File) -> KeyedBy {
     let mut key = KeyedBy::nothing();
     for entity in file.entities.as_slice() {

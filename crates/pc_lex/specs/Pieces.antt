@@ -39,15 +39,16 @@ pub data Digits (base : ℕ) : List ℕ → List ℕ → Type 0 where
   next : {b : ℕ} {bs ds : List ℕ} → is_digit b base ≡ true → Digits base bs ds → Digits base (b ∷ bs) (digit_value b ∷ ds)
   spaced : {b : ℕ} {bs ds : List ℕ} → is_digit b base ≡ true → Digits base bs ds → Digits base (b ∷ 95 ∷ bs) (digit_value b ∷ ds)
 
--- the number whose first digits give acc and whose next digits are these
+-- the number whose first digits give the first number, and whose next digits are these
 abbrev pub value_of_digits : (base so_far : ℕ) → List ℕ → ℕ
-value_of_digits base acc [] = acc
-value_of_digits base acc (d ∷ ds) = value_of_digits base (acc * base + d) ds
+value_of_digits base so_far [] = so_far
+value_of_digits base so_far (d ∷ ds) = value_of_digits base (so_far * base + d) ds
 
 abbrev pub DigitsOf : ℕ → List ℕ → ℕ → Type 0
 DigitsOf base b n = (ds : List ℕ) × Digits base b ds × (n ≡ value_of_digits base 0 ds)
 
--- decimal digits, or `0x` and hexadecimal digits of either case, or `0b` and binary digits
+-- decimal digits, or `0x` and hexadecimal digits of either case, or `0b` and binary digits; the number is
+-- their value
 abbrev pub NumberText : List ℕ → ℕ → Type 0
 NumberText b n = DigitsOf 10 b n ⊎ (((t : List ℕ) × (b ≡ hex_mark ++ t) × DigitsOf 16 t n) ⊎ ((t : List ℕ) × (b ≡ bin_mark ++ t) × DigitsOf 2 t n))
 
@@ -135,7 +136,7 @@ count (token kind b ∷ ps) = 1 + count ps
 abbrev pub NoPiece : List ℕ → Type 0
 NoPiece text = (p : Piece) (rest : List ℕ) → text ≡ bytes_of p ++ rest → IsPiece p rest → ⊥
 
--- The text begins with a comment, a doc, or a text literal that no `"` ends.
+-- The text begins with `/*`, with `"""`, or with a text literal that no `"` ends.
 abbrev pub OpensCommentOrText : List ℕ → Type 0
 OpensCommentOrText text =
     (begins text open_mark ≡ true)
@@ -156,7 +157,7 @@ Faulty text at fault.Memory = ⊥
 abbrev pub FaultAfter : List ℕ → LexFault → Type 0
 FaultAfter text f = (ps : List Piece) × (rest : List ℕ) × (at : ℕ) × Pieces text ps rest × (count ps ≤ token_limit) × (at + length rest ≡ length text) × Faulty rest at f
 
--- Whole pieces, the greatest number of tokens among them, and then one more token.
+-- Whole pieces, exactly the limit of tokens among them, and then one more token.
 abbrev pub TokenAfter : List ℕ → ℕ → Type 0
 TokenAfter text p = (ps : List Piece) × (kind : TokenKind) × (b rest : List ℕ) × Pieces text ps (b ++ rest) × IsToken kind b rest × (count ps ≡ token_limit) × (p + length (b ++ rest) ≡ length text)
 

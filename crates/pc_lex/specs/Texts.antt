@@ -17,11 +17,11 @@ pub data BetweenQuotes : List ℕ → Type 0 where
   plain : {b : ℕ} {bs : List ℕ} → is_plain b ≡ true → BetweenQuotes bs → BetweenQuotes (b ∷ bs)
   covered : {b : ℕ} {bs : List ℕ} → BetweenQuotes bs → BetweenQuotes (92 ∷ b ∷ bs)
 
--- what a letter after `\` denotes: `n`, `r`, `t`, `\`, `"`, `0`
+-- what a byte after `\` denotes: `n`, `r`, `t`, `\`, `"`, `0`
 abbrev pub escape_of : ℕ → Option ℕ
 escape_of e = if e == 110 then Some 10 else (if e == 114 then Some 13 else (if e == 116 then Some 9 else (if e == 92 then Some 92 else (if e == 34 then Some 34 else (if e == 48 then Some 0 else None)))))
 
--- How one byte of a text's value is spelled: as itself, as a letter after `\`, or as two hexadecimal digits after `\x`.
+-- How one byte of a text's value is spelled: as itself, as one byte after `\`, or as two hexadecimal digits after `\x`.
 abbrev pub Writes : List ℕ → ℕ → Type 0
 Writes b v =
     ((b ≡ v ∷ []) × (is_plain v ≡ true))

@@ -24,9 +24,10 @@ pub data LeadsInFile (file : t.File) : (entity above : ℕ) → Type 0 where
 abbrev pub InCycle : t.File → ℕ → Type 0
 InCycle file a = (e : t.Entity) × entity_at file a e × (is_abstract e.kind ≡ true) × LeadsInFile file a a
 
--- For each entity, the entities above it: each once, in ascending order.
+-- The list has the entities above entity a: each once, in ascending order.
 abbrev pub IsAbove : t.File → ℕ → List ℕ → Type 0
 IsAbove file a above = Ascends above × ((b : ℕ) → Has above b ↔ LeadsInFile file a b)
 
+-- The same for each entity, in the order of their numbers.
 abbrev pub IsTransitiveClosure : t.File → List (List ℕ) → Type 0
 IsTransitiveClosure file lists = (length lists ≡ first_own + length file.entities) × Each (λ a above. IsAbove file a above) lists

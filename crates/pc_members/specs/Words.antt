@@ -1,4 +1,4 @@
--- The names of a file, and names in written types.
+-- The names of a file, the numbers of its entities, and which entities get an added `create`.
 use Rattle.std.specs.Prelude.{ℕ, Bool, true, false, List, [], ◌∷◌, ◌++◌, map, Option, position, codes, if◌then◌else◌, Some, None}
 use Rattle.std.specs.List.{list_any}
 use Rattle.std.specs.Str.{bytes_eq}
@@ -49,7 +49,7 @@ has_constructor e = list_any (λ (m : t.Method). is_new m.word) e.methods
 abbrev pub has_added : t.Entity → Bool
 has_added e = if has_constructor e then false else may_stand e.kind word.New
 
--- The numbers that a list of lists has at a place, or none if it does not have the place.
+-- The list, or the empty one if there is none.
 abbrev pub or_nil : Option (List ℕ) → List ℕ
 or_nil None = []
 or_nil (Some l) = l

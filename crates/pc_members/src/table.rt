@@ -48,7 +48,7 @@ impl NameTable {
         NameTable::new(alloc, self.key())
     }
 
-    /// The key of the hash by which names are looked up.
+    /// The key of the hash by which names are looked up. No contract depends on it.
     pub fn key(&self) -> KeyedBy {
         *self.names.hasher()
     }

@@ -41,7 +41,8 @@ begins_program m = is_new m.word && (bytes_eq m.name.text (codes "create") && ta
 abbrev pub is_main : t.Entity → Bool
 is_main e = is_actor e.kind && list_any begins_program e.methods
 
--- The first entity with this name.
+-- The fault if no entity is called Main, or if the first one that is called Main is not one with which a program can
+-- start.
 abbrev pub main_faults : List t.Entity → List NameFault
 main_faults [] = fault.NoMain ∷ []
 main_faults (e ∷ es) = if bytes_eq e.name.text (codes "Main") then (if is_main e then [] else fault.BadMain e.name.span ∷ []) else main_faults es

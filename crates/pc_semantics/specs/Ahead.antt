@@ -25,7 +25,7 @@ by_move (Enters g f) = ahead.Task
 by_move (Sends j m f) = ahead.Send j
 by_move (Leaves v) = ahead.Task
 
--- How the take of the oldest message ends.
+-- What an idle actor is to do, by how taking its oldest message ends.
 abbrev pub by_outcome : Outcome → Ahead
 by_outcome outcome.Moved = ahead.Take
 by_outcome outcome.Skipped = ahead.Skipped

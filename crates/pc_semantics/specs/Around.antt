@@ -94,7 +94,8 @@ with_top f (v ∷ below) next = next v (with_stack f below)
 abbrev pub pop : Frame → (Value → Frame → Move) → Move
 pop f next = with_top f f.stack next
 
--- The values of this number of arguments, in the order in which they were pushed, and the stack below them.
+-- The values of this number of arguments, in the order in which they were pushed and before those that are given, and
+-- the stack below them.
 abbrev pub popped : ℕ → List Value → List Value → Option (List Value × List Value)
 popped zero stack arguments = Some (arguments, stack)
 popped (suc k) [] arguments = None

@@ -1,4 +1,4 @@
--- Tasks that look at a value and choose what to do next.
+-- Tasks that look at values: operators, and choices of what to do next.
 use Rattle.std.specs.Prelude.{ℕ, Bool, true, false, List, [], ◌∷◌}
 use Rattle.pc_heap.specs.declared.value.Value.{Value}
 use Rattle.pc_heap.specs.declared.value.Value.TheVariants.{Truth}

@@ -53,7 +53,7 @@ of_truths o a b = None
 
 -- ---- two texts
 
--- Both texts joined, unless the result is too long.
+-- The joined text is pushed, unless it is too long.
 abbrev pub joined_text : Frame → List ℕ → Move
 joined_text f t = if nat_lt text_limit (length t) then Overflows else Goes (pushed f (Text t))
 

@@ -1,4 +1,4 @@
--- When an entity is another one, or is declared by `is` to be one: `Chain`, as it is computed.
+-- When two entities are the same, or the first is declared by `is` to be the second: `Chain`, as it is computed.
 use Rattle.std.specs.Prelude.{ℕ, Bool, false, ◌||◌, List, [], ◌∷◌, Option, Some, None, nat_eq, slice_get}
 use Rattle.pc_core.specs.declared.declarations.EntityDef.{EntityDef}
 use Rattle.pc_core.specs.CoreData.{CoreData}

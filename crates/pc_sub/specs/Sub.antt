@@ -20,9 +20,9 @@ is_structural kind.Interface = true
 abbrev pub IsInterface : CoreData → ℕ → Type 0
 IsInterface core e = (x : EntityDef) × (slice_get core.entities e ≡ Some x) × (is_structural x.kind ≡ true)
 
--- A chain of `is` leads from the first entity to the second, or the second is an interface to which the first conforms
--- (nominal and structural subtyping, in the Pony tutorial). It need not be transitive, since conformance compares
--- entities by chains alone.
+-- The entities are the same, a chain of `is` leads from the first to the second, or the second is an interface to which
+-- the first conforms (nominal and structural subtyping, in the Pony tutorial). It need not be transitive, since
+-- conformance compares entities by chains alone.
 abbrev pub Sub : CoreData → (entity above : ℕ) → Type 0
 Sub core a b = Chain core a b ⊎ (IsInterface core b × Conforms core a b)
 

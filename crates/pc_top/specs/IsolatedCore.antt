@@ -1,4 +1,4 @@
--- What sources say of what waits in messages.
+-- That what waits in the messages of a source's program is isolated.
 use Rattle.std.specs.Prelude.{ℕ, List}
 use Rattle.pc_core.specs.CoreData.{CoreData}
 use Rattle.pc_isolation.specs.Laws.{AlwaysIsolated, AlwaysPassedWhole}

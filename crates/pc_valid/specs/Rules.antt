@@ -1,7 +1,7 @@
 -- The typing rules. Each record states when the note of a node satisfies one rule: its condition, the type, and the
 -- masks.
 -- `own` is the note of the node, and `notes` are those of its children, in order. A type is that of the node's value,
--- or none if the value can't be used.
+-- or none if the value cannot be used.
 use Rattle.std.specs.Prelude.{◌≡◌, ◌⊎◌, ◌↔◌, ℕ, ◌+◌, true, false, List, [], ◌∷◌, ◌++◌, length, codes, Option, Some, None, slice_get}
 use Rattle.pc_caps.specs.Tables.{view, taken, enters, plain, unalias, sendable_form}
 use Rattle.pc_caps.specs.declared.capability.Cap.{Cap}

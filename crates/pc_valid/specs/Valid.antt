@@ -97,8 +97,8 @@ Infers core node number =
 abbrev pub DifferAt : CoreData → Node → Slots → Slots → Type 0
 DifferAt core node old new = (length new ≡ length old) × ((number : ℕ) → (Infers core node number → ⊥) → slice_get new number ≡ slice_get old number)
 
--- Up to this node there is no fault, and no note with the masks that reach it satisfies a rule, whatever the type of
--- the slot that the node defines.
+-- Before this node there is no fault, and no note with the masks that reach it satisfies a rule, whatever the type of
+-- the slot that the node defines, if none is written.
 pub record NoRule (core : CoreData) (ann : Ann) (number : ℕ) : Type 0 where
   pub declarations : DeclOk core
   pub slots : length ann.slots ≡ length core.slots
