@@ -3,7 +3,7 @@ use Rattle.std.proofs.Common.{◌≡◌, ◌<◌, ◌≤◌, ℕ, ◌+◌, true,
 use Rattle.std.specs.Prelude.{is_some, decimal}
 use Rattle.pc_lists.specs.Texts.{Text}
 use Rattle.pc_refusal_lines.specs.Place.{is_line_end, line_number, column_number}
-use Rattle.pc_refusals.proofs.Places.{At, at_start, at_next}
+use Rattle.pc_refusal_lines.proofs.Places.{At, at_start, at_next}
 use Rattle.pc_buffers.specs.Finding.{AreOf, AreAt}
 use Rattle.pc_buffers.specs.Fronts.{after_word, after_numbers}
 use Rattle.pc_buffers.specs.declared.marks.Mark.{Mark}

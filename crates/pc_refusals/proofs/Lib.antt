@@ -6,7 +6,6 @@ pub mod LastStages
 pub mod Lengths
 pub mod OneSource
 pub mod Parts
-pub mod Places
 pub mod Scheduled
 pub mod Spelling
 pub mod Statuses

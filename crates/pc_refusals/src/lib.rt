@@ -17,7 +17,6 @@ mod finishing;
 mod lex_faults;
 mod lines;
 mod name_faults;
-mod place;
 mod reading;
 mod refusal;
 mod schedule;

@@ -2,8 +2,8 @@
 ghost use Rattle.std.specs.Prelude.{◌≡◌, IfOk};
 ghost use Rattle.pc_refusal_lines.specs.Lines as spec;
 
-use crate::place::Place;
 use pc_io::Bytes;
+use pc_refusal_lines::Place;
 use std::alloc::{AllocError, Global};
 
 /// `NAME: longer than N bytes`, with a line end.

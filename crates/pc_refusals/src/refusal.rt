@@ -5,9 +5,9 @@ ghost use Rattle.pc_refusals.specs.Inner.Refusals.{IsRefusal};
 ghost use Rattle.pc_refusal_lines.specs.Refusal.{offset_line};
 
 use crate::lines::make_place_line;
-use crate::place::place_of;
 use crate::stop::Stop;
 use pc_io::Bytes;
+use pc_refusal_lines::place_of;
 use std::alloc::{AllocError, Global};
 
 /// The line that names a byte of the file with this name, and what is wrong there.

@@ -14,7 +14,6 @@
 
 mod deeds;
 mod events;
-mod follow;
 mod lines;
 mod method_names;
 mod posts;

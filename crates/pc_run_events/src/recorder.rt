@@ -5,37 +5,23 @@ ghost use Rattle.pc_machine.specs.Limits.{list_limit};
 ghost use Rattle.pc_run_events.specs.Kept.{Recorded, Under, first_posts as posts_at_start};
 ghost use Rattle.pc_run_events.specs.Events.{touches_in};
 ghost use Rattle.pc_run_events.specs.Turns.{HasRow, Posted, noted_with, sent_by};
-ghost use Rattle.pc_trace.specs.Keeps.{first_seats as seats_at_start};
 ghost use Rattle.pc_trace.specs.Noted.{Noted};
-ghost use Rattle.pc_trace.specs.Traces.{RanOn, TraceStops, actor_limit};
-ghost use Rattle.pc_trace.specs.Turns.{Room, Says};
+ghost use Rattle.pc_trace.specs.Traces.{RanOn, TraceStops};
 
 use crate::deeds::deed_after;
 use crate::events::{Deed, RunEvent};
-use crate::follow::follow;
 use crate::posts::Posts;
 use crate::sight::look;
 use pc_caps::List;
 use pc_clocks::Seats;
 use pc_core::Core;
 use pc_machine::{Machine, start};
-use pc_semantics::{Ahead, Outcome};
-use pc_trace::{ACTOR_LIMIT, TraceFault};
+use pc_semantics::Ahead;
+use pc_trace::{TraceFault, first_seats, follow, moved, room};
 use std::alloc::{AllocError, Global};
 
-// The clocks at the start of a program: no actors, or the stream and Main, for whom a message waits that no event sent.
-fn first_seats(alloc: Global, actors: u32) -> Result<Seats, AllocError>
-    ensures { IfOk result (λ seats. seats ≡ seats_at_start actors) }
-{
-    let mut seats = Seats::new(alloc);
-    if actors > 0 {
-        seats.add_idle(alloc)?;
-        seats.add_waiting(alloc, List::new(alloc))?;
-    }
-    Ok(seats)
-}
-
-// The same for the places at which messages were sent.
+// The places of messages at the start of a program: no actors, or the stream and Main, for whom a message waits that no
+// event sent.
 fn first_posts(alloc: Global, actors: u32) -> Result<Posts, AllocError>
     ensures { IfOk result (λ posts. posts ≡ posts_at_start actors) }
 {
@@ -45,40 +31,6 @@ fn first_posts(alloc: Global, actors: u32) -> Result<Posts, AllocError>
         posts.add_waiting(alloc, 0)?;
     }
     Ok(posts)
-}
-
-// There is room for another actor, if a step makes one.
-fn room(ahead: Ahead, actors: u32, place: u64) -> Result<(), TraceFault>
-    requires { actors ≤ actor_limit }
-    ensures { Room ahead actors place result }
-{
-    match ahead {
-        Ahead::Spawn => {
-            if actors < ACTOR_LIMIT {
-                Ok(())
-            } else {
-                Err(TraceFault::TooMany(place))
-            }
-        }
-        Ahead::Skipped => Ok(()),
-        Ahead::Lacks => Ok(()),
-        Ahead::TooLong => Ok(()),
-        Ahead::Take => Ok(()),
-        Ahead::Send(_) => Ok(()),
-        Ahead::Task => Ok(()),
-    }
-}
-
-// Whether a step moved, if it did not end the run.
-fn moved(outcome: Outcome, place: u64) -> Result<bool, TraceFault>
-    ensures { Says outcome place result }
-{
-    match outcome {
-        Outcome::Moved => Ok(true),
-        Outcome::Skipped => Ok(false),
-        Outcome::Lacks(_) => Err(TraceFault::Lacks(place)),
-        Outcome::TooLong => Err(TraceFault::TooLong(place)),
-    }
 }
 
 // Updates the places at which waiting messages were sent, after a step of this kind at this place. Returns the place at

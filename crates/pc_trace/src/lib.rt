@@ -19,10 +19,12 @@ mod follow;
 mod lasts;
 mod recorder;
 mod row;
+mod steps;
 mod touch;
 mod tracing;
 
 pub use fault::{AcceptedFault, TraceFault};
-pub use recorder::ACTOR_LIMIT;
+pub use follow::follow;
+pub use steps::{first_seats, moved, room};
 pub use touch::{Touch, Trace, Verdict};
 pub use tracing::{accepted_trace, trace};

@@ -1,71 +1,21 @@
 //! The accesses of a run, with their clocks.
 ghost use Rattle.std.specs.Prelude.{◌≡◌, ◌+◌, ◌<◌, ◌≤◌, [], IfErr, IfOk, MatchResult, OnErr, OnOk, length};
 ghost use Rattle.pc_clocks.specs.Seats.{clock_of};
-ghost use Rattle.pc_trace.specs.Keeps.{first_seats as seats_at_start};
 ghost use Rattle.pc_trace.specs.Noted.{Noted};
 ghost use Rattle.pc_trace.specs.Reached.{Reached, noted_with};
 ghost use Rattle.pc_machine.specs.Limits.{list_limit};
-ghost use Rattle.pc_trace.specs.Traces.{RanOn, TraceStops, actor_limit};
-ghost use Rattle.pc_trace.specs.Turns.{Room, Says};
+ghost use Rattle.pc_trace.specs.Traces.{RanOn, TraceStops};
 
 use crate::fault::TraceFault;
 use crate::follow::follow;
+use crate::steps::{first_seats, moved, room};
 use crate::touch::Touch;
 use pc_caps::List;
 use pc_clocks::Seats;
 use pc_core::Core;
 use pc_machine::{Machine, start};
-use pc_semantics::{Access, Ahead, Outcome};
+use pc_semantics::Access;
 use std::alloc::{AllocError, Global};
-
-/// The greatest number of actors in a clock. A run that would make one more is not traced to its end.
-pub const ACTOR_LIMIT: u32 = 64;
-
-// The clocks at the start of a program: no actors, or the stream and Main, for whom a message waits that no event sent.
-fn first_seats(alloc: Global, actors: u32) -> Result<Seats, AllocError>
-    ensures { IfOk result (λ seats. seats ≡ seats_at_start actors) }
-{
-    let mut seats = Seats::new(alloc);
-    if actors > 0 {
-        seats.add_idle(alloc)?;
-        seats.add_waiting(alloc, List::new(alloc))?;
-    }
-    Ok(seats)
-}
-
-// There is room for another actor, if a step makes one.
-fn room(ahead: Ahead, actors: u32, place: u64) -> Result<(), TraceFault>
-    requires { actors ≤ actor_limit }
-    ensures { Room ahead actors place result }
-{
-    match ahead {
-        Ahead::Spawn => {
-            if actors < ACTOR_LIMIT {
-                Ok(())
-            } else {
-                Err(TraceFault::TooMany(place))
-            }
-        }
-        Ahead::Skipped => Ok(()),
-        Ahead::Lacks => Ok(()),
-        Ahead::TooLong => Ok(()),
-        Ahead::Take => Ok(()),
-        Ahead::Send(_) => Ok(()),
-        Ahead::Task => Ok(()),
-    }
-}
-
-// Whether a step moved, if it did not end the run.
-fn moved(outcome: Outcome, place: u64) -> Result<bool, TraceFault>
-    ensures { Says outcome place result }
-{
-    match outcome {
-        Outcome::Moved => Ok(true),
-        Outcome::Skipped => Ok(false),
-        Outcome::Lacks(_) => Err(TraceFault::Lacks(place)),
-        Outcome::TooLong => Err(TraceFault::TooLong(place)),
-    }
-}
 
 // One more access, if an event has one.
 fn note(

@@ -1,3 +1,2 @@
 pub mod Appends
 mod Columns
-mod Counted

@@ -4,9 +4,9 @@ ghost use Rattle.pc_refusal_lines.specs.Refusal.{offset_line};
 ghost use Rattle.pc_window.specs.Head as spec;
 
 use crate::pieces::front_of;
-use crate::places::{Place, place_after};
 use crate::window::push_window;
 use pc_caps::Span;
+use pc_refusal_lines::{Place, place_after};
 use std::alloc::{AllocError, Global};
 
 // Appends the line that names a byte of the file with this name, and what is wrong there.

@@ -7,8 +7,9 @@ use crate::bytes::shown;
 use crate::marks::{push_all_under, push_carets};
 use crate::numbers::push_number;
 use crate::pieces::{after, first_of, front_of};
-use crate::places::{place_after, push_place};
+use crate::places::push_place;
 use pc_caps::Span;
+use pc_refusal_lines::place_after;
 use std::alloc::{AllocError, Global};
 
 // If there are more bytes than this before a span in its line, the line is shown from some bytes before the span on.

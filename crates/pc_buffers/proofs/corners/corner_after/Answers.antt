@@ -1,4 +1,4 @@
-use Rattle.pc_refusals.proofs.Places.{at_start, at_next}
+use Rattle.pc_refusal_lines.proofs.Places.{at_start, at_next}
 use Rattle.pc_buffers.proofs.corners.corner_after.Goals as goal
 
 pub loop-byte-init : goal.loop-byte-init

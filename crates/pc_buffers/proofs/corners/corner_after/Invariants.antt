@@ -1,4 +1,4 @@
-use Rattle.pc_refusals.proofs.Places.{At}
+use Rattle.pc_refusal_lines.proofs.Places.{At}
 use Rattle.pc_buffers.proofs.corners.corner_after.Given as goal
 
 abbrev pub invariant-loop-byte : goal.invariant-loop-byte

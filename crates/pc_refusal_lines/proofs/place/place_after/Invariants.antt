@@ -1,5 +1,5 @@
-use Rattle.pc_refusals.proofs.Places.{At}
-use Rattle.pc_refusals.proofs.place.place_after.Given as goal
+use Rattle.pc_refusal_lines.proofs.Places.{At}
+use Rattle.pc_refusal_lines.proofs.place.place_after.Given as goal
 
 abbrev pub invariant-loop-byte : goal.invariant-loop-byte
 invariant-loop-byte l = At l.front l.byte-index l.place.line l.place.column

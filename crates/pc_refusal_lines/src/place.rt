@@ -11,7 +11,7 @@ pub struct Place {
     pub column: usize,
 }
 
-/// The place of the byte at this offset, or of the text's end.
+/// The place of the byte at this offset, or of the text's end. It does not allocate.
 pub fn place_of(bytes: &[u8], offset: usize) -> Place
     ensures line { result.line ≡ line_number (take offset bytes.now) }
     ensures column { result.column ≡ column_number (take offset bytes.now) }
@@ -19,8 +19,8 @@ pub fn place_of(bytes: &[u8], offset: usize) -> Place
     place_after(&bytes[..offset.min(bytes.len())])
 }
 
-// The place after these bytes.
-fn place_after(front: &[u8]) -> Place
+/// The place after these bytes. It does not allocate.
+pub fn place_after(front: &[u8]) -> Place
     ensures line { result.line ≡ line_number front.now }
     ensures column { result.column ≡ column_number front.now }
 {

@@ -1,5 +1,5 @@
-use Rattle.pc_refusals.proofs.Places.{at_start, at_next}
-use Rattle.pc_refusals.proofs.place.place_after.Goals as goal
+use Rattle.pc_refusal_lines.proofs.Places.{at_start, at_next}
+use Rattle.pc_refusal_lines.proofs.place.place_after.Goals as goal
 
 pub loop-byte-init : goal.loop-byte-init
 loop-byte-init c = at_start c.args.front.now

@@ -1,5 +1,0 @@
-use Rattle.pc_window.proofs.Counted.{At}
-use Rattle.pc_window.proofs.places.place_after.Given as goal
-
-abbrev pub invariant-loop-byte : goal.invariant-loop-byte
-invariant-loop-byte l = At l.front l.byte-index l.place.line l.place.column
