@@ -1,5 +1,4 @@
--- When waiting messages are isolated in depth: their arguments are let alone, and so is what fields other than `tag` lead
--- to from them.
+-- When waiting messages are isolated in depth: arguments are let alone, and what fields other than `tag` lead to.
 use Rattle.std.specs.Prelude.{◌≡◌, ◌≢◌, ◌⊎◌, ℕ, Bool, true, false, Option, Some, slice_get}
 use Rattle.pc_heap.specs.Objects.{ObjectMap, class_at, value_at}
 use Rattle.pc_heap.specs.declared.value.Address.{Address}
@@ -33,8 +32,8 @@ pub data FieldsReach (core : CoreData) (objects : ObjectMap) (allowed : Cap → 
   itself : {b : Address} → b ≡ a → FieldsReach core objects allowed a b
   further : {b : Address} → (o : Address) (q : Cap) → FieldsReach core objects allowed a o → allowed q ≡ true → FieldLeads core objects q o b → FieldsReach core objects allowed a b
 
--- Fields that keep their contents with their object, and fields through which their contents can be read: all but `tag`.
--- The columns are iso, trn, ref, val, box and tag.
+-- Fields that keep their contents with their object, and fields through which their contents can be read: all but
+-- `tag`. The columns are iso, trn, ref, val, box and tag.
 abbrev pub keeps : Cap → Bool
 keeps = at true true true false false false
 
@@ -49,7 +48,7 @@ waiting_at c j k = slice_get c.actors j >>= λ actor. slice_get actor.mailbox k
 abbrev pub parameter_cap : CoreData → Message → ℕ → Option Cap
 parameter_cap core message n = slice_get core.methods message.method >>= λ method. slice_get method.params n >>= λ parameter. Some parameter.cap
 
--- The n-th argument of the k-th message that waits for actor j is the object at a, and its parameter is declared with capability q.
+-- Argument n of message k that waits for actor j is the object at a; its parameter is declared with capability q.
 pub record Waits (core : CoreData) (c : Configuration) (j k n : ℕ) (q : Cap) (a : Address) : Type 0 where
   pub message : Message
   pub waits : waiting_at c j k ≡ Some message

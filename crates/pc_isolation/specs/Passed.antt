@@ -33,8 +33,8 @@ StaysWhole core c =
 
 -- ---- when it is taken
 
--- At d actor j has one frame, which holds the object at a in the slot of parameter n, and the objects are those of c: so
--- the same fields lead to the same objects.
+-- At d actor j has one frame, which holds the object at a in the slot of parameter n, and the objects are those of c:
+-- so the same fields lead to the same objects.
 pub record HandedOver (core : CoreData) (c d : Configuration) (j n : ℕ) (a : Address) : Type 0 where
   pub objects : d.objects ≡ c.objects
   pub actor : Actor

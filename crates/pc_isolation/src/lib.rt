@@ -1,7 +1,7 @@
 //! Isolation in depth: what fields lead to from a waiting argument is let alone too, and is passed as a whole.
 //!
-//! Proved, for every formed core with a valid annotation and over every list of actors; each public call does nothing, and its
-//! contract is a law of `specs/ValidLaws.antt` or `specs/Examples.antt`. What the laws conclude is in terms of the
+//! Proved, for every formed core with a valid annotation and over every list of actors; each public call does nothing,
+//! and its contract is a law of `specs/ValidLaws.antt` or `specs/Examples.antt`. What the laws conclude is in terms of the
 //! machine alone (`specs/Laws.antt`):
 //! - `valid_is_isolated`: no step touches what is inside a waiting `iso` argument, or an object that leads there; none
 //!   writes what is seen from a waiting `iso` or `val` argument; what is inside one argument is neither inside nor seen

@@ -1,5 +1,5 @@
-//! The lines of refusals, and the places in a text that they name. The lines are definitions: the crates above prove that
-//! what they write is this. `place_of` and `place_after` find a place.
+//! The lines of refusals, and the places in a text that they name. The lines are definitions: the crates above prove
+//! that what they write is this. `place_of` and `place_after` find a place.
 //!
 //! - `specs/Place.antt`: the line and the column of a byte.
 //! - `specs/Lines.antt`: each line that is written on standard error, and the first line of `make`.

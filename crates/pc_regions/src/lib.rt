@@ -1,5 +1,5 @@
-//! A formed core with a valid annotation is safe: over every list of actors, no two actors race, what waits in messages is
-//! let alone, and no step lacks anything (`valid_is_safe`). The public call does nothing, and its contract is a law of
+//! A formed core with a valid annotation is safe: over every list of actors, no two actors race, what waits in messages
+//! is let alone, and no step lacks anything (`valid_is_safe`). The public call does nothing, and its contract is a law of
 //! `specs/Laws.antt`, in terms of the machine alone; everything else is in `proofs/`, and `docs/safety.md` explains it
 //! with pictures and examples.
 //!

@@ -93,8 +93,8 @@ pub fn statuses_are_exact()
     nothing_is_derivable_with_a_declaration_that_fails();
 }
 
-/// Let the bytes of both files be known, and no reading of them have failed. Then the status of `judge` and of `upgrade`
-/// is 0 iff the derivation is the text of a valid annotation of the source's core.
+/// Let the bytes of both files be known, and no reading of them have failed. Then the status of `judge` and of
+/// `upgrade` is 0 iff the derivation is the text of a valid annotation of the source's core.
 pub fn judged_statuses_are_exact()
     ensures { JudgedAreExact }
 {

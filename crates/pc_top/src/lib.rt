@@ -1,8 +1,9 @@
 //! The top call: everything that the program does, from its words, files and sinks to its exit status.
 //!
 //! Proved: the clauses of `rcap`, and the laws beside it.
-//! - There is at most one verdict on files that are known and did not fail (`verdict_is_one`), and none has the status of a failure (`no_verdict_is_a_failure`),
-//!   with which out and err got a part of what was to be written (`failures_are_told`).
+//! - There is at most one verdict on files that are known and did not fail (`verdict_is_one`), and none has the
+//!   status of a failure (`no_verdict_is_a_failure`), with which out and err got a part of what was to be written
+//!   (`failures_are_told`).
 //! - The statuses for a known source are exact (`statuses_are_exact`), and so are those for a derivation
 //!   (`judged_statuses_are_exact`). A source that is refused with 1 has no derivation
 //!   (`refused_sources_have_no_derivation`).

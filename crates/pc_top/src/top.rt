@@ -90,8 +90,9 @@ pub fn rcap<F: Files, O: Sink, E: Sink, R: Referee>(
     ensures writes { IsAccepting result → OnOut (F.bytes files.old) (texts words.now)
         (change (O.written out.old) (O.written out.new) (O.faults out.old) (O.faults out.new)) }
 
-    // If `swap` exchanges two turns of a schedule, their steps are apart and all four move, and the schedule on out leads
-    // to the same configuration as the other one. If it does not, the first part of being apart that fails is on out.
+    // If `swap` exchanges two turns of a schedule, their steps are apart and all four move, and the schedule on out
+    // leads to the same configuration as the other one. If it does not, the first part of being apart that fails is on
+    // out.
     ensures swaps { result ≡ 0 → Swaps (F.bytes files.old) (texts words.now)
         (change (O.written out.old) (O.written out.new) (O.faults out.old) (O.faults out.new)) }
 

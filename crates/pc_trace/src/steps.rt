@@ -1,5 +1,5 @@
-//! What the recording of a run asks of each step: the clocks before the first one, room for another actor, and whether it
-//! moved.
+//! What the recording of a run asks of each step: the clocks before the first one, room for another actor, and whether
+//! it moved.
 ghost use Rattle.std.specs.Prelude.{◌≡◌, ◌≤◌, IfOk};
 ghost use Rattle.pc_trace.specs.Keeps.{first_seats as seats_at_start};
 ghost use Rattle.pc_trace.specs.Traces.{actor_limit};
@@ -14,7 +14,8 @@ use std::alloc::{AllocError, Global};
 /// The greatest number of actors in a clock. A run that would make one more is not traced to its end.
 const ACTOR_LIMIT: u32 = 64;
 
-/// The clocks at the start of a program: no actors, or the stream and Main, for whom a message waits that no event sent.
+/// The clocks at the start of a program: no actors, or the stream and Main, for whom a message waits that no event
+/// sent.
 pub fn first_seats(alloc: Global, actors: u32) -> Result<Seats, AllocError>
     ensures { IfOk result (λ seats. seats ≡ seats_at_start actors) }
 {
