@@ -57,6 +57,7 @@ impl Actors {
     }
 
     /// The actor with a number. `None` iff there is none.
+    #[inline(always)]
     pub fn get(&self, actor: usize) -> Option<&Actor>
         ensures { option_copied result ≡ slice_get self.now actor }
     {
@@ -98,6 +99,7 @@ impl Actors {
 
     /// Does the first task of an actor's running frame, if it concerns that frame and the objects alone. An `Err`
     /// changes nothing.
+    #[inline(always)]
     pub fn run_frame(
         &mut self,
         alloc: Global,

@@ -15,6 +15,7 @@ use pc_tasks::run_inside;
 use std::alloc::{AllocError, Global};
 
 // The first task of the running frame is done.
+#[inline(always)]
 fn run_top(
     alloc: Global,
     core: &Core,
@@ -31,6 +32,7 @@ fn run_top(
 }
 
 /// The first task of the running frame of one of these actors is done. An `Err` changes nothing.
+#[inline(always)]
 pub fn run_in(
     alloc: Global,
     core: &Core,
@@ -48,6 +50,7 @@ pub fn run_in(
 }
 
 /// The step of an actor whose first task concerns its running frame and the objects alone.
+#[inline(always)]
 pub fn run_frame(
     alloc: Global,
     core: &Core,

@@ -56,6 +56,7 @@ pub fn start<'p>(alloc: Global, core: &'p Core) -> Result<Machine<'p>, AllocErro
 impl<'p> Machine<'p> {
     /// One step of an actor: its first task, or its oldest message if it is idle. An `Err` leaves the configuration as
     /// it was, as every outcome but `Moved` does.
+    #[inline(always)]
     pub fn step(&mut self, actor: u32) -> Result<Outcome, AllocError>
         requires objects { len self.old.configuration.objects < object_limit }
         requires messages { text.waiting self.old.configuration < message_limit }

@@ -18,6 +18,7 @@ use pc_tasks::is_inside;
 use std::alloc::{AllocError, Global};
 
 /// The step of an actor. An `Err` leaves the configuration as it was.
+#[inline(always)]
 pub fn advance(
     alloc: Global,
     core: &Core,

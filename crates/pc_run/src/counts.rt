@@ -33,6 +33,7 @@ impl Counts {
     };
 
     /// The progress after one more step with this outcome.
+    #[inline(always)]
     pub fn with_step(self, outcome: Outcome) -> Progress
         requires few { self.moved + self.skipped < turn_limit }
         requires lacks_nothing { (l : Lack) → outcome ≢ Lacks l }

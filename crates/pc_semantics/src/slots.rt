@@ -36,6 +36,7 @@ impl Slots {
     }
 
     /// The value in a slot. `None` iff the slot is empty or there is no slot with this number.
+    #[inline(always)]
     pub fn get(&self, slot: usize) -> Option<&Value>
         ensures { MatchOption result ((slice_get self.now slot ≡ None) ⊎ (slice_get self.now slot ≡ Some None)) (λ value. slice_get self.now slot ≡ Some (Some value.now)) }
     {
@@ -61,6 +62,7 @@ impl Slots {
 
     /// Puts a value into a slot, and returns the old one. If there is no slot with this number, nothing changes. An
     /// `Err` hands the value back and changes nothing.
+    #[inline(always)]
     pub fn put(&mut self, slot: usize, value: Value) -> Result<Option<Value>, AllocFailed<Value>>
         ensures before { IfOk result (λ before. before ≡ value_of (slice_get self.old slot)) }
         ensures ok { OnOk result (self.new ≡ slice_set self.old slot (Some value)) }
@@ -87,6 +89,7 @@ fn reach(held: &mut Vec<Option<Value>>, empty: &mut usize, slot: usize) -> Resul
 }
 
 // Puts a value into a slot, if it is one of these, and returns the old one.
+#[inline(always)]
 fn put_held(held: &mut Vec<Option<Value>>, slot: usize, value: Value) -> Option<Value>
     ensures new { held.new.items ≡ slice_set held.old.items slot (Some value) }
     ensures old { result ≡ value_of (slice_get held.old.items slot) }
@@ -99,6 +102,7 @@ fn put_held(held: &mut Vec<Option<Value>>, slot: usize, value: Value) -> Option<
 }
 
 // Replaces the contents of a slot, and returns the old ones.
+#[inline(always)]
 fn exchange(held: &mut Vec<Option<Value>>, slot: usize, value: Option<Value>) -> Option<Value>
     requires { slot < length held.old.items }
     ensures new { held.new.items ≡ slice_set held.old.items slot value }

@@ -33,6 +33,7 @@ impl<T> Stack<T> {
     }
 
     /// How many values are on the stack.
+    #[inline(always)]
     pub fn len(&self) -> usize
         ensures { result ≡ length self.now }
     {
@@ -40,6 +41,7 @@ impl<T> Stack<T> {
     }
 
     /// Puts a value on top. An `Err` hands it back and changes nothing.
+    #[inline(always)]
     pub fn push(&mut self, value: T) -> Result<(), AllocFailed<T>>
         ensures ok { OnOk result (self.new ≡ value ∷ self.old) }
         ensures err { OnErr result (self.new ≡ self.old) }
@@ -49,6 +51,7 @@ impl<T> Stack<T> {
     }
 
     /// Takes the top off. `None` iff the stack is empty.
+    #[inline(always)]
     pub fn pop(&mut self) -> Option<T>
         ensures value { result ≡ slice_get self.old 0 }
         ensures rest { self.new ≡ drop 1 self.old }
@@ -57,6 +60,7 @@ impl<T> Stack<T> {
     }
 
     /// The top. `None` iff the stack is empty.
+    #[inline(always)]
     pub fn top(&self) -> Option<&T>
         ensures { option_copied result ≡ slice_get self.now 0 }
     {
@@ -64,6 +68,7 @@ impl<T> Stack<T> {
     }
 
     /// The top, which may be changed in place. It does not allocate.
+    #[inline(always)]
     pub fn top_mut(&mut self) -> &mut T
         requires { 0 < length self.old }
         ensures* writes_back { sem 𝓛 (lends_top T.row self.entry result) }
@@ -74,6 +79,7 @@ impl<T> Stack<T> {
     }
 
     /// The value at a place, counted from the top. `None` iff there is none.
+    #[inline(always)]
     pub fn peek(&self, place: usize) -> Option<&T>
         ensures { option_copied result ≡ slice_get self.now place }
     {
@@ -86,6 +92,7 @@ impl<T> Stack<T> {
     }
 
     /// Replaces the top, and returns the old one. It does not allocate.
+    #[inline(always)]
     pub fn replace_top(&mut self, value: T) -> T
         requires { 0 < length self.old }
         ensures new { self.new ≡ value ∷ drop 1 self.old }
@@ -135,6 +142,7 @@ fn last_values<T>(items: &[T], count: usize) -> &[T]
 }
 
 // Replaces the last value, and returns the old one.
+#[inline(always)]
 fn replace_last<T>(items: &mut Vec<T>, value: T) -> T
     requires { 0 < length items.old.items }
     ensures new { items.new.items ≡ slice_set items.old.items (length items.old.items - 1) value }

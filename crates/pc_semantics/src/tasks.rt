@@ -60,6 +60,7 @@ impl Tasks {
 
     /// The first task. `None` iff there is none.
     #[tactic(auto, using(crate::proofs::Pending::top_task, crate::proofs::Pending::no_task))]
+    #[inline(always)]
     pub fn top(&self) -> Option<Task>
         ensures { result ≡ slice_get self.now 0 }
     {
@@ -70,6 +71,7 @@ impl Tasks {
     }
 
     /// Puts a task before the others. An `Err` changes nothing.
+    #[inline(always)]
     pub fn push(&mut self, task: Task) -> Result<(), AllocError>
         ensures ok { OnOk result (self.new ≡ task ∷ self.old) }
         ensures err { OnErr result (self.new ≡ self.old) }
@@ -79,6 +81,7 @@ impl Tasks {
     }
 
     /// Takes the first task off. `None` iff there is none.
+    #[inline(always)]
     pub fn pop(&mut self) -> Option<Task>
         ensures value { result ≡ slice_get self.old 0 }
         ensures rest { self.new ≡ drop 1 self.old }
@@ -90,6 +93,7 @@ impl Tasks {
 
     /// Replaces the first task, and returns the old one. It does not allocate.
     #[tactic(auto, using(crate::proofs::Pending::top_task))]
+    #[inline(always)]
     pub fn replace_top(&mut self, task: Task) -> Task
         requires { 0 < length self.old }
         ensures new { self.new ≡ task ∷ drop 1 self.old }
@@ -116,6 +120,7 @@ impl Tasks {
     }
 
     /// Puts the evaluations of these children before the other tasks. An `Err` changes nothing.
+    #[inline(always)]
     pub fn push_evaluations(&mut self, children: &Children) -> Result<(), AllocError>
         ensures ok { OnOk result (self.new ≡ evaluations children.now ++ self.old) }
         ensures err { OnErr result (self.new ≡ self.old) }
@@ -152,6 +157,7 @@ impl Tasks {
 }
 
 // A task that is followed by the entry below.
+#[inline(always)]
 fn alone(task: Task) -> Entry
     ensures { result ≡ single task }
 {
@@ -162,6 +168,7 @@ fn alone(task: Task) -> Entry
 }
 
 // The evaluation of the child at a place, and then of those after it.
+#[inline(always)]
 fn evaluation_at(children: Children, place: usize) -> Option<Entry>
     ensures { MatchOption result (evaluations (drop place children) ≡ []) (λ e. entry_tasks e ≡ evaluations (drop place children)) }
 {
@@ -173,6 +180,7 @@ fn evaluation_at(children: Children, place: usize) -> Option<Entry>
 }
 
 // A value is dropped, and then the item at a place is evaluated.
+#[inline(always)]
 fn item_at(children: Children, place: usize) -> Option<Entry>
     ensures { MatchOption result (as_items (drop place children) ≡ []) (λ e. entry_tasks e ≡ as_items (drop place children)) }
 {
@@ -184,6 +192,7 @@ fn item_at(children: Children, place: usize) -> Option<Entry>
 }
 
 // The item at a place, after the value before it has been dropped.
+#[inline(always)]
 fn dropped_at(children: Children, place: usize) -> Option<Entry>
     ensures { MatchOption result (drop 1 (as_items (drop place children)) ≡ []) (λ e. entry_tasks e ≡ drop 1 (as_items (drop place children))) }
 {
@@ -195,6 +204,7 @@ fn dropped_at(children: Children, place: usize) -> Option<Entry>
 }
 
 // What follows a task, as an entry. `None` iff nothing follows.
+#[inline(always)]
 fn following(after: After) -> Option<Entry>
     ensures { MatchOption result (tasks_after after ≡ []) (λ e. entry_tasks e ≡ tasks_after after) }
 {
@@ -207,6 +217,7 @@ fn following(after: After) -> Option<Entry>
 }
 
 // Whether nothing follows a task before the entry below.
+#[inline(always)]
 fn is_alone(entry: &Entry) -> bool
     ensures { result ≡ true → tasks_after entry.now.after ≡ [] }
 {
@@ -218,6 +229,7 @@ fn is_alone(entry: &Entry) -> bool
 
 // Removes the first task.
 #[tactic(auto, using(crate::proofs::Pending::goes_alone, crate::proofs::Pending::none_goes))]
+#[inline(always)]
 fn advance(entries: &mut Stack<Entry>)
     ensures { all_tasks entries.new ≡ drop 1 (all_tasks entries.old) }
 {

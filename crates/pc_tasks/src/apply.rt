@@ -33,6 +33,7 @@ fn replace_one(frame: &mut Frame, applied: Applied) -> Outcome
 }
 
 // The result of an operator replaces the top two values.
+#[inline(always)]
 fn replace_two(frame: &mut Frame, applied: Applied) -> Outcome
     requires operands { 1 < length frame.old.stack }
     requires task { 0 < length frame.old.tasks }
@@ -51,6 +52,7 @@ fn replace_two(frame: &mut Frame, applied: Applied) -> Outcome
 }
 
 // A binary operator: the right operand is on top.
+#[inline(always)]
 fn apply_binary(alloc: Global, frame: &mut Frame, op: Op) -> Result<Outcome, AllocError>
     requires { 0 < length frame.old.tasks }
     ensures ok { IfOk result (λ o. within frame.old (pop (relieved frame.old) (λ w g. pop g (λ v h. operators.binary h op v w))) ≡ Some (o, frame.new)) }
@@ -94,6 +96,7 @@ fn apply_not(frame: &mut Frame) -> Outcome
 }
 
 /// The task Apply of this node: its operator takes its operands, and gives its result.
+#[inline(always)]
 pub fn apply(
     alloc: Global,
     core: &Core,

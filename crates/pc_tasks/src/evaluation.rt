@@ -12,6 +12,7 @@ use pc_semantics::{Frame, Lack, Outcome, Task};
 use std::alloc::AllocError;
 
 // A slot's value is pushed.
+#[inline(always)]
 fn push_slot(frame: &mut Frame, slot: u32) -> Result<Outcome, AllocError>
     requires { 0 < length frame.old.tasks }
     ensures ok { IfOk result (λ o. within frame.old (spec.push_slot (relieved frame.old) (slice_get frame.old.slots slot)) ≡ Some (o, frame.new)) }
@@ -44,6 +45,7 @@ fn take_slot(frame: &mut Frame, slot: u32) -> Result<Outcome, AllocError>
 
 // All children are evaluated, and then this task is done.
 #[tactic(auto, using(std::proofs::Common::append_assoc))]
+#[inline(always)]
 fn children_first(frame: &mut Frame, children: &Children, then: Task) -> Result<Outcome, AllocError>
     requires { 0 < length frame.old.tasks }
     ensures ok { IfOk result (λ o. within frame.old (spec.children_first (relieved frame.old) children.now then) ≡ Some (o, frame.new)) }
@@ -88,6 +90,7 @@ fn items_first(frame: &mut Frame, children: &Children) -> Result<Outcome, AllocE
 }
 
 // The evaluation of a node of this kind, with these children.
+#[inline(always)]
 fn evaluate(
     frame: &mut Frame,
     number: u32,
@@ -131,6 +134,7 @@ fn evaluate(
 }
 
 /// The task Eval of this node: its value is pushed, or the tasks that compute it come first.
+#[inline(always)]
 pub fn evaluate_node(core: &Core, frame: &mut Frame, number: u32) -> Result<Outcome, AllocError>
     requires { 0 < length frame.old.tasks }
     ensures ok { IfOk result (λ o. within frame.old (spec.evaluate_node (relieved frame.old) number (slice_get core.now.nodes number)) ≡ Some (o, frame.new)) }

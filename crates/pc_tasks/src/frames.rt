@@ -8,6 +8,7 @@ use pc_semantics::{Frame, Outcome, Task};
 use std::alloc::AllocError;
 
 /// Pushes a value, which completes the first task. If memory runs out, nothing changes.
+#[inline(always)]
 pub fn push_value(frame: &mut Frame, value: Value) -> Result<Outcome, AllocError>
     requires { 0 < length frame.old.tasks }
     ensures ok { IfOk result (λ o. within frame.old (Goes (pushed (relieved frame.old) value)) ≡ Some (o, frame.new)) }

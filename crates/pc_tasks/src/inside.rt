@@ -13,6 +13,7 @@ use std::alloc::{AllocError, Global};
 
 /// Whether the first task of a frame concerns the frame and the objects alone: there is one, and it is not `Make`,
 /// `Spawn`, `Invoke` or `Return`.
+#[inline(always)]
 pub fn is_inside(frame: &Frame) -> bool
     ensures { IsTrue result ↔ IsInside (slice_get frame.now.tasks 0) }
 {
@@ -39,6 +40,7 @@ pub fn is_inside(frame: &Frame) -> bool
 /// Does the first task of a frame, if it concerns the frame and the objects alone. It ends as the machine's definitions
 /// state; if it does not move, or if memory runs out, the frame and the objects are unchanged.
 #[tactic(auto, using(crate::proofs::Anyone::for_anyone))]
+#[inline(always)]
 pub fn run_inside(
     alloc: Global,
     core: &Core,
@@ -54,6 +56,7 @@ pub fn run_inside(
 }
 
 // The same for a task that only looks at the objects.
+#[inline(always)]
 fn run_task(
     alloc: Global,
     core: &Core,

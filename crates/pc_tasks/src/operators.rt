@@ -36,6 +36,7 @@ fn remainder(left: u64, right: u64) -> u64
 }
 
 /// An operator on two numbers. `None` iff it needs values of another kind.
+#[inline(always)]
 pub fn of_numbers(op: Op, left: u64, right: u64) -> Option<Value>
     ensures { result ≡ spec.of_numbers op left right }
 {
@@ -124,6 +125,7 @@ fn of_texts(alloc: Global, op: Op, left: &Text, right: &Text) -> Result<Applied,
 }
 
 // A value, if there is one.
+#[inline(always)]
 fn given(value: Option<Value>) -> Applied
     ensures { (f : Frame) → applied_to f result ≡ spec.push_or_lack f value }
 {
@@ -134,6 +136,7 @@ fn given(value: Option<Value>) -> Applied
 }
 
 /// A binary operator on two values.
+#[inline(always)]
 pub fn binary(alloc: Global, op: Op, left: &Value, right: &Value) -> Result<Applied, AllocError>
     ensures { IfOk result (λ r. (f : Frame) → applied_to f r ≡ spec.binary f op left.now right.now) }
 {
