@@ -15,7 +15,7 @@
 
 mod clash;
 mod fault;
-mod follow;
+mod following;
 mod lasts;
 mod recorder;
 mod row;
@@ -24,7 +24,7 @@ mod touch;
 mod tracing;
 
 pub use fault::{AcceptedFault, TraceFault};
-pub use follow::follow;
+pub use following::follow;
 pub use steps::{first_seats, moved, room};
 pub use touch::{Touch, Trace, Verdict};
 pub use tracing::{accepted_trace, trace};

@@ -7,7 +7,7 @@ ghost use Rattle.pc_machine.specs.Limits.{list_limit};
 ghost use Rattle.pc_trace.specs.Traces.{RanOn, TraceStops};
 
 use crate::fault::TraceFault;
-use crate::follow::follow;
+use crate::following::follow;
 use crate::steps::{first_seats, moved, room};
 use crate::touch::Touch;
 use pc_caps::List;
