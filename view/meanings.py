@@ -8,7 +8,7 @@ CAPABILITIES = {
     "box": "it is only read here; others of this actor may write it, or nobody at all",
     "tag": "it is only compared and sent to; everything else is left to others",
     "iso^": "an iso that no name holds: it may become anything",
-    "trn^": "a trn that no name holds: it may become trn, ref, val or box",
+    "trn^": "a trn that no name holds: it may become anything but an iso",
     "-": "it has no value that could be used",
 }
 

@@ -199,7 +199,7 @@ function key(name) {
 
 const verdict = element("b", data.verdict, data.verdict);
 frame("Derivation of", [verdict, ` · ${count(data.lines, "line", "lines")} · ${count(size, "expression", "expressions")}`], legend(), [
-  ["→ ←", "the next and the last expression, in order of evaluation"], ["↑", "out"], ["↓", "to the first part"],
+  ["→ ←", "the next and the previous expression, in order of evaluation"], ["↑", "out"], ["↓", "to the first part"],
   ["r", "to the place of the refusal"], ["Esc", "let go"], ["click", "hold an expression; again: the one around it"], ["?", "these keys"],
 ]);
 if (text || !data.refusal) picture.append(source);

@@ -156,7 +156,7 @@ const facts = ended
   : [element("b", "ordered", "ordered"), ` · ${count(lanes, "actor", "actors")} · ${count(size, "event", "events")}`,
     ` · ${count(data.accesses, "access", "accesses")}`];
 frame("Run of", facts, ended ? element("div", "group") : tools, [
-  ["→ ←", "the next and the last event"], ["↑ ↓", "the nearest in another lane"], ["m", "along the message"],
+  ["→ ←", "the next and the previous event"], ["↑ ↓", "the nearest in another lane"], ["m", "along the message"],
   ["+ −", "wider and narrower"], ["Page ↑ ↓", "the events before and after, if a run has more than 2,000"], ["Esc", "let go"],
   ["click", "hold an event: what comes before it stays"], ["?", "these keys"],
 ]);

@@ -156,7 +156,7 @@ const facts = [count(boxes.length, "entity", "entities"), count(data.pairs, "mes
   `${data.never.length} never sent, over every run`];
 frame("Who sends what in", [facts.join(" · ")],
   element("div", "group", button("tool", "\u2212", () => zoom(.8), "smaller"), button("tool", "+", () => zoom(1.25), "larger")), [
-    ["→ ←", "the next and the last entity"], ["↓ ↑", "its messages"], ["+ −", "larger and smaller"], ["/", "find"], ["Esc", "let go"],
+    ["→ ←", "the next and the previous entity"], ["↓ ↑", "its messages"], ["+ −", "larger and smaller"], ["/", "find"], ["Esc", "let go"],
     ["click", "hold an entity or a message: its arrows stay"], ["?", "these keys"],
   ]);
 picture.append(board);
