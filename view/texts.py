@@ -148,8 +148,8 @@ def numbers(clock):
     return [int(it) for it in clock.split(",")]
 
 
-def method(word):
-    """The word of a method, an entity's name and its own."""
+def message(word):
+    """The message that a word is: the name of an entity, and that of its method."""
     if not re.fullmatch(r"[^.]+\.[^.]+", word):
         raise ValueError
     return word
@@ -162,11 +162,11 @@ def event(words):
         raise ValueError
     found = Event(int(place), int(actor), word, numbers(clock))
     if word == "take":
-        message, other = rest
-        found.message, found.other = method(message), int(other)
+        name, other = rest
+        found.message, found.other = message(name), int(other)
     elif word in ("send", "make"):
-        other, message = rest
-        found.message, found.other = method(message), int(other)
+        other, name = rest
+        found.message, found.other = message(name), int(other)
     elif word == "new":
         found.address, found.of = rest
     elif word in ("read", "write"):
