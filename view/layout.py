@@ -1,6 +1,6 @@
-"""Where boxes and arrows stand in the picture of who sends what. Computed without chance: a table has one picture.
+"""Where boxes and arrows are in the picture of who sends what. Nothing is random: a table has one picture.
 
-Boxes stand in layers by the longest way from those that nobody sends to, arrows back left out of the count. An arrow over
+Boxes are in layers by the longest way from those that nobody sends to, without the arrows that go back. An arrow over
 several layers goes through a place in each, so that none passes under a box. The order in a layer is by the mean of the
 neighbours, in twelve sweeps, of which the order with the fewest crossings is kept."""
 
@@ -19,7 +19,6 @@ class Thing:
 
     extent: float
     layer: int
-    box: int | None = None
     is_back: bool = False
     at: float = 0.0
 
@@ -54,7 +53,7 @@ def layers_of(count, arrows, first):
     for box in reversed(ordered):
         for target in kept[box]:
             layer[target] = max(layer[target], layer[box] + 1)
-    # Whoever nobody sends to stands right before the first of those it sends to.
+    # A box that nobody sends to is right before the first of those it sends to.
     for box in range(count):
         if not entered[box] and box != first and kept[box]:
             layer[box] = max(0, min(layer[target] for target in kept[box]) - 1)
@@ -136,27 +135,26 @@ def spread(row, things, wanted):
             at += things[it].extent + GAP
 
 
-def place(extents, arrows, first):
-    """Layers, centres along the layers, and of each arrow the centres through which it passes, layer by layer.
-
-    `extents` has a number for each box, `arrows` each pair of a sender and a receiver once, `first` the box to begin with."""
-    layer = layers_of(len(extents), arrows, first)
-    count = max(layer, default=-1) + 1
-    things = [Thing(extent, layer[box], box) for box, extent in enumerate(extents)]
-    links = [[] for _ in range(max(count, 1))]
+def woven(extents, layer, arrows):
+    """The boxes and the places of arrows as things, the boxes first; the links of each layer with the next one; and of each
+    arrow the things through which it passes."""
+    things = [Thing(extent, layer[box]) for box, extent in enumerate(extents)]
+    links = [[] for _ in range(max(layer, default=0) + 1)]
     ways = {}
     for (source, target), passed in chains(layer, arrows).items():
-        way, last = [], source
-        for between in passed:
-            things.append(Thing(PASSING, between, is_back=layer[target] <= layer[source]))
-            way.append(len(things) - 1)
+        way = range(len(things), len(things) + len(passed))
+        things += [Thing(PASSING, between, is_back=layer[target] <= layer[source]) for between in passed]
         ways[source, target] = way
         for a, b in zip([source, *way], [*way, target]):
             if things[b].layer == things[a].layer + 1:
                 links[things[a].layer].append((a, b))
             elif things[b].layer == things[a].layer - 1:
                 links[things[b].layer].append((b, a))
-    rows = arranged(things, links, count)
+    return things, links, ways
+
+
+def set_out(rows, things, links):
+    """Gives each thing its place in its row: first side by side, and then near to what it is linked with."""
     near = [[] for _ in things]
     for pairs in links:
         for a, b in pairs:
@@ -172,6 +170,15 @@ def place(extents, arrows, first):
         for row in rows if sweep % 2 == 0 else reversed(rows):
             wanted = {it: (sum(things[o].at for o in near[it]) / len(near[it]) if near[it] else things[it].at) for it in row}
             spread(row, things, wanted)
+
+
+def place(extents, arrows, first):
+    """Layers, centres along the layers, and of each arrow the centres through which it passes, layer by layer.
+
+    `extents` has a number for each box, `arrows` each pair of a sender and a receiver once, `first` the box to begin with."""
+    layer = layers_of(len(extents), arrows, first)
+    things, links, ways = woven(extents, layer, arrows)
+    set_out(arranged(things, links, max(layer, default=-1) + 1), things, links)
     least = min((it.at - it.extent / 2 for it in things), default=0)
     for it in things:
         it.at -= least
