@@ -25,6 +25,9 @@ WIDE, NARROW = (1280, 800), (390, 844)
 THEMES = ("light", "dark")
 WINDOWS = [(size, theme) for size in (WIDE, NARROW) for theme in THEMES]
 
+# The kinds of pages, in the order in which those of an accepted example are made.
+KINDS = ["derivation", "run", "sends"]
+
 # How many pages are opened in one browser.
 MOST_PAGES = 40
 
@@ -175,6 +178,11 @@ class OddWalks(Browser):
             self.assertEqual(self.walked(files)[0], [])
 
 
+def pages_of_bank():
+    """One page of each kind: the kind and the file, of one example."""
+    return [(words[0], file) for words, file, _, _ in of_examples.made() if pathlib.Path(words[1]).stem == "bank"]
+
+
 class Walks(Browser):
     """All pages of the examples."""
 
@@ -185,14 +193,14 @@ class Walks(Browser):
         self.assertGreater(looked, 20 * len(files) * len(WINDOWS))
 
     def test_a_window_of_its_own(self):
-        for words, file, _, _ in of_examples.made():
-            if pathlib.Path(words[1]).stem == "bank":
-                with self.subTest(words[0]):
-                    self.assertRegex(opened(f"{file.as_uri()}#selftest", WIDE, 20000), r'<html[^>]* data-selftest="ok \d+"')
+        self.assertEqual([kind for kind, _ in pages_of_bank()], KINDS)
+        for kind, file in pages_of_bank():
+            with self.subTest(kind):
+                self.assertRegex(opened(f"{file.as_uri()}#selftest", WIDE, 20000), r'<html[^>]* data-selftest="ok \d+"')
 
     def test_a_page_with_a_fault_says_so(self):
         """A test that cannot fail is none: a page whose data was changed finds it out."""
-        file = next(file for words, file, _, _ in of_examples.made() if words[0] == "run" and pathlib.Path(words[1]).stem == "bank")
+        file = dict(pages_of_bank())["run"]
         text = file.read_text()
         data = pages.data_of(text)
         # All takings forget what their senders knew, so that accesses are no longer ordered.
@@ -210,14 +218,14 @@ class Print(Browser):
 
     def test_the_picture_alone_in_light(self):
         light, dark = contrast.themes((pages.VIEW / "assets/style.css").read_text()).values()
-        for words, file, _, _ in of_examples.made():
-            if pathlib.Path(words[1]).stem == "bank":
-                found = colours_in_print(f"{file.as_uri()}#theme=dark&hold=57&step=271")
-                with self.subTest(words[0]):
-                    self.assertLessEqual({light["ink"], light["ground"]}, found)
-                    self.assertEqual(found & (set(dark.values()) - set(light.values())), set())
-                    # The panel has the held expression on this ground, and so has the picture on the screen.
-                    self.assertNotIn(light["marked"], found)
+        self.assertEqual([kind for kind, _ in pages_of_bank()], KINDS)
+        for kind, file in pages_of_bank():
+            found = colours_in_print(f"{file.as_uri()}#theme=dark&hold=57&step=271")
+            with self.subTest(kind):
+                self.assertLessEqual({light["ink"], light["ground"]}, found)
+                self.assertEqual(found & (set(dark.values()) - set(light.values())), set())
+                # The panel has the held expression on this ground, and so has the picture on the screen.
+                self.assertNotIn(light["marked"], found)
 
 
 # How many events and expressions of a page are gone through at most.
@@ -280,8 +288,11 @@ class Panels(Browser):
         self.assertGreater(looked, 150)
 
     def test_lines_of_sends(self):
+        looked = 0
         for words, _, shown in self.read("sends", ["#panel .lines .line"], lambda data: 0):
             lines = pages.ask("sends", words[1])[1].splitlines()
             with self.subTest(words[1]):
                 self.assertEqual(shown["first"][0][: len(lines)], lines[:MOST_LINES])
                 self.assertEqual(shown["arrows"], sum(" sends " in line for line in lines))
+                looked += 1
+        self.assertGreater(looked, 7)

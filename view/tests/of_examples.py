@@ -124,6 +124,7 @@ class Derivations(unittest.TestCase):
         self.assertGreater(looked, 12)
 
     def test_refused_places(self):
+        looked = 0
         for words, data in each("derivation"):
             if data["verdict"] != "refused" or not data["refusal"]["place"]:
                 continue
@@ -133,6 +134,8 @@ class Derivations(unittest.TestCase):
             with self.subTest(words[1]):
                 self.assertEqual((before.count(b"\n") + 1, len(before) - before.rfind(b"\n")), (line, column))
                 self.assertGreater(place[1], place[0])
+                looked += 1
+        self.assertGreater(looked, 170)
 
     def test_each_explanation_is_that_of_the_program(self):
         looked = 0
@@ -247,6 +250,7 @@ class Sends(unittest.TestCase):
         self.assertGreater(looked, 7)
 
     def test_boxes_do_not_overlap(self):
+        looked = 0
         for words, data in each("sends"):
             for side, picture in ((1, data["wide"]), (0, data["tall"])):
                 spans = {}
@@ -257,3 +261,5 @@ class Sends(unittest.TestCase):
                     for row in spans.values():
                         row.sort()
                         self.assertTrue(all(a[1] < b[0] for a, b in zip(row, row[1:])))
+                    looked += 1
+        self.assertGreater(looked, 2 * 7)

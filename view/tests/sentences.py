@@ -26,10 +26,7 @@ class Sentences(unittest.TestCase):
         self.assertEqual(sorted([*named, "-"]), sorted(meanings.CAPABILITIES))
 
     def test_kinds(self):
-        page = pages.TOP / "docs/places.md"
-        if not page.exists():
-            self.skipTest("there is no docs/places.md")
-        table = page.read_text().split("KIND is one of these:")[1]
+        table = (pages.TOP / "docs/places.md").read_text().split("KIND is one of these:")[1]
         rows = re.findall(r"^\| (`.*?`) \|", table, re.MULTILINE)
         named = {it.split(":")[0] for row in rows for it in re.findall(r"`([^`]+)`", row)}
         self.assertEqual(sorted(named), sorted(meanings.KINDS))
