@@ -43,14 +43,18 @@ class ByHand(unittest.TestCase):
         self.check("sends", "stops.pony")
 
 
-class Refused(unittest.TestCase):
-    """Texts of another form, and answers that are no page: status 1 and one line."""
+class InACopy(unittest.TestCase):
+    """A test in a copy of the cases."""
 
     def setUp(self):
         self.folder = Path(tempfile.mkdtemp(prefix="view-test-"))
         self.addCleanup(shutil.rmtree, self.folder)
         for file in pages.CASES.iterdir():
             shutil.copy(file, self.folder)
+
+
+class Refused(InACopy):
+    """Texts of another form, and answers that are no page: status 1 and one line."""
 
     def refused(self, line, *words):
         status, out, err = pages.make(*words, stand_in=pages.STAND_IN, folder=self.folder)
@@ -160,14 +164,8 @@ class Refused(unittest.TestCase):
         self.assertTrue(err.startswith("usage: view/page"))
 
 
-class OddPages(unittest.TestCase):
+class OddPages(InACopy):
     """Refusals that a page shows, and names and texts that could be taken for something else."""
-
-    def setUp(self):
-        self.folder = Path(tempfile.mkdtemp(prefix="view-test-"))
-        self.addCleanup(shutil.rmtree, self.folder)
-        for file in pages.CASES.iterdir():
-            shutil.copy(file, self.folder)
 
     def made(self, *words):
         status, out, err = pages.make(*words, stand_in=pages.STAND_IN, folder=self.folder)
