@@ -102,6 +102,8 @@ class Copies:
         lines = sources.lines_of_crates(self.top)
         text = "".join(f"{lines[name]}\n" for name in self.uses if name in lines)
         (place / "crates.txt").write_text(text, encoding="utf-8")
+        # An earlier call may have left one that is no longer in the checkout.
+        (place / "HANDLES").unlink(missing_ok=True)
         with contextlib.suppress(FileNotFoundError):
             shutil.copyfile(self.top / "HANDLES", place / "HANDLES")
 

@@ -177,6 +177,13 @@ class Interrupted(ProveTest):
         self.assertEqual(sorted(self.checkout.calls("lib")), ["above", "left", "low", "right"])
         self.assert_proved()
 
+    def test_handles_that_go_after_an_interrupt(self):
+        self.start_and_stop(signal.SIGTERM)
+        (self.checkout.top / "HANDLES").unlink()
+        ran = self.prove()
+        self.assertEqual(ran.status, 0, ran.err)
+        self.assert_proved()
+
 
 class SideBySide(ProveTest):
     """Calls while one proves."""
