@@ -71,15 +71,33 @@ def stamp(folder):
         return None
 
 
+def hand_library(name, place, to):
+    """Gives a crate's library to another copy or to the checkout, unless that has it: the whole of it or nothing, since a part
+    could have the stamp of the whole. `rt` looks itself whether it is the library of the sources there, and builds it if not."""
+    given, taken = library(place, name), library(to, name)
+    if not given.is_dir() or stamp(given) == stamp(taken):
+        return
+    fresh = taken.with_name("rlib.new")
+    # The fresh one is there if a call was ended while it copied.
+    for folder in (fresh, taken):
+        shutil.rmtree(folder, ignore_errors=True)
+    try:
+        shutil.copytree(given, fresh, copy_function=link_or_copy)
+    except shutil.Error:
+        shutil.rmtree(fresh, ignore_errors=True)
+    else:
+        fresh.rename(taken)
+
+
 class Copies:
     """The copies of the sources in a folder, as many as crates are proved at once, and which crates are built in them."""
 
-    def __init__(self, top, folder, number):
+    def __init__(self, top, folder, count):
         self.top = top
         self.folder = folder
         self.uses = sources.crates_of_program(top)
         self.sums = sources.checksums(top)
-        self.places = [folder / f"copy-{number}" for number in range(1, number + 1)]
+        self.places = [folder / f"copy-{number}" for number in range(1, count + 1)]
         self.notes = folder / "built"
 
     def make(self):
@@ -95,7 +113,7 @@ class Copies:
                     self.copy_crate(name, place)
                 # What the checkout has may be of other sources, so it takes the place of nothing that is noted.
                 if not self.is_built(name):
-                    self.hand_library(name, self.top, place)
+                    hand_library(name, self.top, place)
 
     def copy_heads(self, place):
         """Copies what stands at the top."""
@@ -131,22 +149,13 @@ class Copies:
         """Notes that the crate's library is built in one copy, and hands it to the others."""
         for other in self.places:
             if other != place:
-                self.hand_library(name, place, other)
+                hand_library(name, place, other)
         (self.notes / name).write_text(self.sums[name], encoding="utf-8")
-
-    def hand_library(self, name, place, to):
-        """Gives a crate's library to another copy or to the checkout, unless that has it. `rt` looks itself whether it is
-        the library of the sources there, and builds it if not."""
-        given, taken = library(place, name), library(to, name)
-        if given.is_dir() and stamp(given) != stamp(taken):
-            shutil.rmtree(taken, ignore_errors=True)
-            with contextlib.suppress(shutil.Error):
-                shutil.copytree(given, taken, copy_function=link_or_copy)
 
     def hand_to_checkout(self):
         """Gives the checkout all libraries."""
         for name in self.uses:
-            self.hand_library(name, self.places[0], self.top)
+            hand_library(name, self.places[0], self.top)
 
     def best_place(self, name, free):
         """Of the free copies the one in which the crate was half proved before, or else the first."""
