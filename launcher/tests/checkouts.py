@@ -84,7 +84,6 @@ class Checkout:
         if data is not None:
             how["stdin"] = subprocess.PIPE
         command = self.start(*words, **how)
-        command.stdout, command.stderr = command.stdout, command.stderr
         out, err = command.communicate(data, timeout=SECONDS_TO_WAIT)
         return Ran(subprocess.CompletedProcess(command.args, command.returncode, out, err))
 
@@ -95,25 +94,21 @@ class Checkout:
         return [line.split()[1] for line in lines if line.split()[0] == verb]
 
     def tell(self, name, text=""):
-        """Tells the stand-in something, or takes it back."""
+        """Puts a file where the stand-in looks for it."""
         (self.stand_in / name).write_text(text)
 
     def take_back(self, name):
+        """Takes such a file away."""
         (self.stand_in / name).unlink()
 
     def forget_calls(self):
         (self.stand_in / "calls").unlink(missing_ok=True)
 
-    def wait_for_calls(self, verb, number):
+    def wait_for_call(self, verb, crate=None):
+        """Waits until the stand-in was called so, for this crate or for any."""
         end = time.monotonic() + SECONDS_TO_WAIT
-        while len(self.calls(verb)) < number:
-            assert time.monotonic() < end, f"rt {verb} was not called {number} times"
-            time.sleep(0.02)
-
-    def wait_for_call(self, verb, crate):
-        end = time.monotonic() + SECONDS_TO_WAIT
-        while crate not in self.calls(verb):
-            assert time.monotonic() < end, f"rt {verb} was not called for {crate}"
+        while not any(crate in (None, it) for it in self.calls(verb)):
+            assert time.monotonic() < end, f"rt {verb} was not called for {crate or 'any crate'}"
             time.sleep(0.02)
 
     def processes(self):

@@ -10,7 +10,7 @@ import unittest
 
 from checkouts import TOP, Checkout
 
-# On these processors a call counts on so many minutes: the launcher's own number is tested on its own.
+# The number of minutes depends on the machine's processors; tests/schedules.py tests it.
 NOTICE = rb"\Arcap: answered by a build without its proofs; \./rcap --prove builds the proved program once, in about \d+ minutes\n"
 USAGE = b"usage: rcap COMMAND ARGUMENT ...\n"
 
@@ -115,7 +115,7 @@ class Answers(LauncherTest):
     def test_two_calls_at_once_build_once(self):
         self.checkout.tell("hold.try")
         commands = [self.checkout.start("kind") for _ in range(3)]
-        self.checkout.wait_for_calls("try", 1)
+        self.checkout.wait_for_call("try")
         self.checkout.take_back("hold.try")
         for command in commands:
             out, err = command.communicate(timeout=60)
@@ -246,7 +246,7 @@ class Refusals(LauncherTest):
     def test_sources_that_change_meanwhile(self):
         self.checkout.tell("hold.try")
         command = self.checkout.start("kind")
-        self.checkout.wait_for_calls("try", 1)
+        self.checkout.wait_for_call("try")
         self.checkout.source("low").write_text("another text\n")
         self.checkout.take_back("hold.try")
         err = command.communicate(timeout=60)[1]
@@ -256,7 +256,7 @@ class Refusals(LauncherTest):
     def test_interrupt(self):
         self.checkout.tell("hold.try")
         command = self.checkout.start("kind")
-        self.checkout.wait_for_calls("try", 1)
+        self.checkout.wait_for_call("try")
         os.killpg(command.pid, signal.SIGINT)
         out = command.communicate(timeout=60)[0]
         self.assertIn(command.returncode, (130, -signal.SIGINT))

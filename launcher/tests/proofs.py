@@ -3,6 +3,7 @@
 import os
 import re
 import signal
+import subprocess
 
 from first_answers import LauncherTest
 
@@ -191,7 +192,7 @@ class SideBySide(ProveTest):
     def test_answers_come_without_proofs(self):
         self.checkout.tell("hold.lib")
         command = self.checkout.start("--prove")
-        self.checkout.wait_for_calls("lib", 1)
+        self.checkout.wait_for_call("lib")
         self.assert_answered(self.checkout.call("kind"), 0, b"unproved\n")
         self.assert_answered(self.checkout.call("status", "7"), 7, b"out\n", b"SRC:1:1: no rule\n")
         self.checkout.take_back("hold.lib")
@@ -202,7 +203,7 @@ class SideBySide(ProveTest):
     def test_a_second_one_waits(self):
         self.checkout.tell("hold.lib")
         first = self.checkout.start("--prove")
-        self.checkout.wait_for_calls("lib", 1)
+        self.checkout.wait_for_call("lib")
         second = self.checkout.start("--prove")
         self.assertEqual(second.stderr.readline(), b"rcap: another ./rcap --prove is at work here; waiting for it\n")
         self.checkout.take_back("hold.lib")
@@ -278,7 +279,7 @@ class OfTheseSources(ProveTest):
     def test_copied_checkout(self):
         self.prove()
         copied = self.checkout.room / "copied"
-        os.system(f"cp -r '{self.checkout.top}' '{copied}'")
+        subprocess.run(["cp", "-r", self.checkout.top, copied], check=True)
         self.checkout.top = copied
         self.assert_proved()
 
@@ -286,7 +287,7 @@ class OfTheseSources(ProveTest):
         for back in (False, True):
             self.checkout.tell("hold.lib")
             command = self.checkout.start("--prove")
-            self.checkout.wait_for_calls("lib", 1)
+            self.checkout.wait_for_call("lib")
             source = self.checkout.source("right")
             text = source.read_text()
             source.write_text(f"another {text}")
@@ -304,7 +305,7 @@ class OfTheseSources(ProveTest):
     def test_edit_of_another_crate_while_it_proves(self):
         self.checkout.tell("hold.lib")
         command = self.checkout.start("--prove")
-        self.checkout.wait_for_calls("lib", 1)
+        self.checkout.wait_for_call("lib")
         self.checkout.source("other").write_text("another text\n")
         crates = self.checkout.top / "crates.txt"
         crates.write_text(crates.read_text().replace("other: low", "other: low left"))
