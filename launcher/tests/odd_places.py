@@ -93,7 +93,9 @@ class Places(LauncherTest):
 
     def test_no_place_to_prove_in(self):
         self.checkout.top.chmod(0o777)
-        self.close(self.checkout.temporary)
+        home = self.checkout.room / "home"
+        home.mkdir()
+        self.close(home, self.checkout.temporary)
         ran = self.checkout.call("--prove", **as_nobody())
         self.assert_cannot_answer(ran, b"rcap: there is no place to prove in\n")
 
