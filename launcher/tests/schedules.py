@@ -9,7 +9,8 @@ from checkouts import TOP
 sys.path.insert(0, str(TOP / "launcher"))
 
 import schedule  # noqa: E402
-from measured import MEASURED_MINUTES, MEASURED_PROCESSORS  # noqa: E402
+from measured import SECONDS  # noqa: E402
+from sources import crates_of_program  # noqa: E402
 
 # `below` has two crates above it, and `top` one of them below.
 USES = {"below": [], "long": ["below"], "short": ["below"], "top": ["long"]}
@@ -40,12 +41,18 @@ class Schedules(unittest.TestCase):
     def test_crate_that_takes_longer_than_expected_may_end_soon(self):
         self.assertEqual(self.left(2, built=("below", "long", "short"), running={"top": 50}), 1)
 
+    def test_minutes_are_scaled_to_the_processors(self):
+        # 36 seconds with one processor and 31 with two or more, so that 62 minutes are 72 with one.
+        measured = {"MEASURED_MINUTES": 62, "MEASURED_PROCESSORS": 2, "crates_of_program": lambda _: USES}
+        with mock.patch.multiple(schedule, **measured):
+            self.assertEqual([schedule.minutes_to_prove(TOP, number) for number in (1, 2, 4)], [72, 62, 62])
+
 
 class Minutes(unittest.TestCase):
-    """The number in the line of an answer without proofs."""
+    """The number in the line of an answer without proofs, for the crates of this checkout."""
 
-    def test_measured_number_with_as_many_processors(self):
-        self.assertEqual(schedule.minutes_to_prove(TOP, MEASURED_PROCESSORS), MEASURED_MINUTES)
+    def test_crates_that_were_measured_are_those_of_the_program(self):
+        self.assertLessEqual(set(SECONDS), set(crates_of_program(TOP)))
 
     def test_fewer_processors_take_longer(self):
         found = [schedule.minutes_to_prove(TOP, number) for number in (1, 2, 4, 8)]
