@@ -7,13 +7,15 @@ commands know whether a library is that of its sources; so `rt lib` would prove 
 that stamp, as the kit's own code computes it, and `rt lib` builds the crate over them. Then the stamps are removed, since
 such a library holds the statements of its proofs alone, which fit only the libraries of the same gate.
 
-The status is 0 if the crate is built. If not, a line on standard error says why, and the status is 1."""
+The status is 0 if the crate is built. If not, a line on standard error says why, and the status is 1. A signal that asks for
+the end has the stamps removed too."""
 
 import functools
 import importlib.util
 import os
 import pathlib
 import shutil
+import signal
 import subprocess
 import sys
 
@@ -80,6 +82,13 @@ def look(top, crates, parts):
                 raise NotTaken(f"the library of {crate.name} is older than that of {below.name}, which it uses")
 
 
+def take_signals():
+    """Has a signal that asks for the end raise, as an interrupt does, so that the stamps are removed first."""
+    for number in (signal.SIGTERM, signal.SIGHUP):
+        if signal.getsignal(number) != signal.SIG_IGN:
+            signal.signal(number, signal.default_int_handler)
+
+
 def rt_lib(folder):
     """Does in a process of its own what `rt lib` does in a crate's folder, and returns its status."""
     words = [sys.executable, "-ISB", __file__, BUILD_ALONE, folder]
@@ -106,6 +115,7 @@ def build(crate, libraries):
 
 def main(top, name):
     """Builds the crate, and returns the status."""
+    take_signals()
     top = pathlib.Path(top).resolve()
     try:
         rtlib = kit()

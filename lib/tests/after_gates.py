@@ -3,6 +3,7 @@
 import os
 import pathlib
 import shutil
+import signal
 import subprocess
 import sys
 import tempfile
@@ -15,6 +16,8 @@ import stand_in_kit
 # Two libraries, one over the other, the crate that is built over both, and one that it does not use.
 CRATES = "low:\nhigh:low\ntop:high low\nother:low\n"
 LIBRARIES = ("low", "high", "other")
+
+SECONDS_TO_WAIT = 60
 
 
 class AfterGate(unittest.TestCase):
@@ -67,10 +70,13 @@ class AfterGate(unittest.TestCase):
         file = self.room / "calls"
         return file.read_text().splitlines() if file.exists() else []
 
+    def words(self):
+        """The call that builds the crate `top`."""
+        return [sys.executable, "-ISB", built.LIB / "after_gate.py", self.top, "top"]
+
     def build(self):
         """Builds the crate `top`."""
-        words = [sys.executable, "-ISB", built.LIB / "after_gate.py", self.top, "top"]
-        return built.run(words, env=self.environment())
+        return built.run(self.words(), env=self.environment())
 
     def assert_not_taken(self, why):
         ran = self.build()
@@ -137,6 +143,32 @@ class AfterGate(unittest.TestCase):
         (self.room / "fail").touch()
         self.assert_not_taken("rt lib ended with 1 over them")
 
+    def test_signals_that_ask_for_the_end(self):
+        """The stamps go, and nothing is said of the kit."""
+        for number in (signal.SIGTERM, signal.SIGHUP, signal.SIGINT):
+            (self.room / "hold").touch()
+            command = self.start_with_default(number)
+            self.wait_for_stamps()
+            command.send_signal(number)
+            self.assertNotEqual(command.wait(SECONDS_TO_WAIT), 0)
+            self.assertEqual(self.stamps(), [])
+            for name in ("hold", "calls"):
+                (self.room / name).unlink()
+            self.assertNotIn(b"lib: ", command.communicate()[1])
+
+    def start_with_default(self, number):
+        """Starts to build the crate. A signal that is ignored, as in a shell's background, is not ignored there."""
+        how = {"env": self.environment(), "stdin": subprocess.DEVNULL, "stderr": subprocess.PIPE}
+        return subprocess.Popen(self.words(), preexec_fn=lambda: signal.signal(number, signal.SIG_DFL), **how)
+
+    def wait_for_stamps(self):
+        """Waits until the kit is called over the libraries with their stamps."""
+        end = time.monotonic() + SECONDS_TO_WAIT
+        while not self.calls():
+            self.assertLess(time.monotonic(), end, "the kit was not called")
+            time.sleep(0.02)
+        self.assertEqual(self.stamps(), ["high", "low"])
+
     def test_kit_with_other_stamps(self):
         (self.room / "other.stamps").touch()
         self.assert_not_taken("the kit proves low again in spite of its stamp")
@@ -155,8 +187,7 @@ class AfterGate(unittest.TestCase):
     def test_no_kit(self):
         (self.room / "bin" / "rt").unlink()
         (self.room / "bin" / "python3").symlink_to(sys.executable)
-        words = [sys.executable, "-ISB", built.LIB / "after_gate.py", self.top, "top"]
-        ran = built.run(words, env={"PATH": str(self.room / "bin")})
+        ran = built.run(self.words(), env={"PATH": str(self.room / "bin")})
         self.assertEqual((ran.returncode, ran.stderr), (1, b"lib: the gate's libraries are not taken: there is no rt on the path\n"))
 
     def test_build_proves_what_it_cannot_take(self):

@@ -1,11 +1,13 @@
 """Plays the two files of the kit that `lib/build --after-gate` calls, `rt` and `rtlib.py`, over libraries that are one file each.
 
 STAND_IN names a folder: each call of `rt lib` adds a line to its file `calls`, with the crate and the libraries that have their
-stamp; a file `fail` has it fail, and `other.stamps` has it build each library anew, as if its stamps were made in another way."""
+stamp; a file `fail` has it fail, `hold` has it wait until that is gone, and `other.stamps` has it build each library anew, as if
+its stamps were made in another way."""
 
 RTLIB = '''
 import os
 import pathlib
+import time
 
 PARTS = ("src", "specs")
 
@@ -34,6 +36,8 @@ def main(verb):
     stamped = [name for name, stamp in stamps.items() if stamp == f"stamp of {name}"]
     with open(room / "calls", "a") as calls:
         calls.write(f"{verb} {folder.name} over {' '.join(stamped)}\\n")
+    while (room / "hold").exists():
+        time.sleep(0.02)
     if (room / "other.stamps").exists():
         library = folder / "out" / "rlib" / f"{folder.name}.rlib" / "format"
         library.unlink()
