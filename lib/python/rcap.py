@@ -6,8 +6,8 @@
     if answer.status == rcap.NO_DERIVATION:
         print(answer.place, library.explain(source).out.decode())
 
-Texts are bytes. A call is made once with room for a short text, and again if the text is longer. It takes up to a mebibyte of
-stack, and lets other threads of Python run meanwhile."""
+Texts are bytes. A number that its parameter in C has no room for raises OverflowError. A call is made once with room for a short
+text, and again if the text is longer. It takes up to a mebibyte of stack, and lets other threads of Python run meanwhile."""
 
 import ctypes
 import dataclasses
@@ -102,7 +102,7 @@ class Library:
 
     def swap(self, source, schedule, place):
         """Exchanges the turns of the schedule at a place and at the next, or says why they stay."""
-        return self._ask("rcap_swap", source, schedule, numbers=(ctypes.c_uint32(place),))
+        return self._ask("rcap_swap", source, schedule, numbers=(_number(ctypes.c_uint32, place),))
 
     def places(self, source):
         """Writes the entities, fields, methods, slots and nodes of the source's core, with their places in it."""
@@ -119,15 +119,15 @@ class Library:
 
     def schedule(self, source, seed):
         """Checks the source, and writes the schedule that a seed chooses for it."""
-        return self._ask("rcap_schedule", source, numbers=(ctypes.c_uint64(seed),))
+        return self._ask("rcap_schedule", source, numbers=(_number(ctypes.c_uint64, seed),))
 
     def play(self, source, seed):
         """Checks the source, and writes what it prints over the schedule that a seed chooses."""
-        return self._ask("rcap_play", source, numbers=(ctypes.c_uint64(seed),))
+        return self._ask("rcap_play", source, numbers=(_number(ctypes.c_uint64, seed),))
 
     def outcomes(self, source, count):
         """Checks the source, and writes each different outcome of the plays of the seeds below a count once."""
-        return self._ask("rcap_outcomes", source, numbers=(ctypes.c_uint32(count),))
+        return self._ask("rcap_outcomes", source, numbers=(_number(ctypes.c_uint32, count),))
 
     def _ask(self, name, *texts, numbers=()):
         """Makes a call, and again if a text was longer than its buffer."""
@@ -145,6 +145,14 @@ class Library:
                 out, err = (buffer.raw[:length] for buffer, length in zip(buffers, lengths))
                 return Answer(status, out, err, _place_of(answer.place))
             rooms = [max(it) for it in zip(lengths, rooms)]
+
+
+def _number(kind, value):
+    """A number as C has it. Of one that is out of range ctypes by itself would take the lowest bits."""
+    number = kind(value)
+    if number.value != value:
+        raise OverflowError(f"{value} is out of range")
+    return number
 
 
 def _place_of(place):

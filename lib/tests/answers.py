@@ -72,6 +72,17 @@ class Answers(unittest.TestCase):
 
         self.compare(ask_shared)
 
+    def test_numbers_that_are_out_of_range(self):
+        import rcap
+
+        library = rcap.Library(built.library / "librcap.so")
+        for number in (-1, 2**32):
+            self.assertRaises(OverflowError, library.swap, b"", b"", number)
+            self.assertRaises(OverflowError, library.outcomes, b"", number)
+        for number in (-1, 2**64):
+            self.assertRaises(OverflowError, library.schedule, b"", number)
+            self.assertRaises(OverflowError, library.play, b"", number)
+
     def test_shared_object_exports_the_header(self):
         said = built.must(["nm", "--dynamic", "--defined-only", built.library / "librcap.so"]).stdout.decode()
         names = {line.split()[-1] for line in said.splitlines()}
