@@ -9,7 +9,7 @@ TOP = pathlib.Path(__file__).resolve().parent.parent
 # The proved program, which `rcap` at the top becomes. It is called itself, so that only its own time and memory are seen.
 BUILT = TOP / "out" / "proved" / "rcap"
 
-# The folder of the machine's tests, and the program of them that `rt test` makes there: it runs the test that its word names.
+# The folder of the machine's tests, and the program that `rt test` makes of them: it runs the test that its word names.
 TESTS_FOLDER = TOP / "crates" / "pc_machine_tests"
 TESTS_BUILT = TESTS_FOLDER / "out" / "pc_machine_tests_tests"
 
@@ -28,26 +28,27 @@ def add_tests(parser):
 
 
 def tests_of(options):
-    """The path of the machine's tests, which are there. Builds them where no others are named."""
+    """The path of the machine's tests, which are there. Builds them if no others are named."""
     tests = TESTS_BUILT
     if options.tests is not None:
         tests = pathlib.Path(options.tests).resolve()
     else:
-        # What it writes belongs to the build; a failed one shows below.
-        subprocess.run(["rt", "test"], cwd=TESTS_FOLDER, stdin=subprocess.DEVNULL, stdout=sys.stderr, check=False)
+        # What it writes belongs to the build. After one that failed the tests of another build may still be there.
+        built = subprocess.run(["rt", "test"], cwd=TESTS_FOLDER, stdin=subprocess.DEVNULL, stdout=sys.stderr, check=False)
+        if built.returncode != 0:
+            sys.exit("the tests of the machine are not built, or fail")
     if not tests.is_file():
         sys.exit(f"no tests {tests}")
     return str(tests)
 
 
 def program_of(options):
-    """The path of the program to try, which is there. Builds it where no other is named."""
+    """The path of the program to try, which is there. Builds it if no other is named."""
     program = BUILT
     if options.program is not None:
         program = pathlib.Path(options.program).resolve()
-    else:
-        if subprocess.run([TOP / "rcap", "--prove"], stdin=subprocess.DEVNULL, check=False).returncode != 0:
-            sys.exit("the program is not proved")
+    elif subprocess.run([TOP / "rcap", "--prove"], stdin=subprocess.DEVNULL, check=False).returncode != 0:
+        sys.exit("the program is not proved")
     if not program.is_file():
         sys.exit(f"no program {program}")
     ended = subprocess.run([program], stdin=subprocess.DEVNULL, capture_output=True, check=False)
