@@ -45,11 +45,16 @@ class Page:
         return "\n".join(self.lines)
 
 
+def read(name):
+    """The page with this path from the top."""
+    return Page(name, (TOP / name).read_text().splitlines())
+
+
 def all_pages():
     """The pages that are read by people, in order."""
     names = ["README.md", "CONTRIBUTING.md", "crates/README.md", "view/README.md"]
     names += sorted(str(it.relative_to(TOP)) for it in (TOP / "docs").glob("*.md"))
-    return [Page(name, (TOP / name).read_text().splitlines()) for name in names if (TOP / name).exists()]
+    return [read(name) for name in names]
 
 
 def mark_of(line):

@@ -7,7 +7,6 @@ import pages
 import refused
 
 REASON = re.compile(r".*? has (?:no type|none): (.*)")
-REFUSAL = re.compile(r"`SRC(?::L:C)?: ([^`]+)`")
 
 # Where the code lists the conditions and the hints.
 CODE = {"Condition": "crates/pc_conditions/src/condition.rt", "Hint": "crates/pc_hints/src/hint.rt"}
@@ -20,16 +19,9 @@ def variants(name):
     return set(VARIANT.findall(text[text.index(f"pub enum {name}") :]))
 
 
-def refusals():
-    """The texts of the refusals that are explained, as the table of docs/commands.md lists them."""
-    page = pages.Page("docs/commands.md", (pages.TOP / "docs" / "commands.md").read_text().splitlines())
-    found = [row for row in pages.table(page, "Status", "Meaning") if row.cells["Status"] in ("1", "4")]
-    return [text for row in found for text in REFUSAL.findall(row.cells["Line on standard error"])]
-
-
 def all_kinds():
     """All kinds, each with its form; the name of one begins with the group that it is of."""
-    found = {("refusal", text): re.escape(text) for text in refusals()}
+    found = {("refusal", text): re.escape(text) for text in refused.texts()}
     for rule, asked in kinds.ASKED.items():
         for condition, part in asked:
             found["rule", f"{rule}: {condition}" + (f" of {part}" if part else "")] = kinds.CONDITIONS[condition].replace("PART", part or "PART")

@@ -18,9 +18,19 @@ PAGE = "docs/explaining.md"
 LAUNCHER_LINE = re.compile(rb"^rcap: .*\n", re.MULTILINE)
 
 RULE_LINE = re.compile(r"rules? ([a-z]+(?:, [a-z]+)*): (.*)")
+REFUSAL = re.compile(r"`SRC(?::L:C)?: ([^`]+)`")
+
+# The statuses of refusals that are explained.
+EXPLAINED = ("1", "4")
 
 SECONDS = 600
 NAMED_FAULTS = ("name unknown", "name twice", "trait in a cycle", "no Main", "Main is of another form")
+
+
+def texts():
+    """The texts of the refusals that are explained, as the table of docs/commands.md lists them."""
+    rows = [row for row in pages.table(pages.read("docs/commands.md"), "Status", "Meaning") if row.cells["Status"] in EXPLAINED]
+    return [text for row in rows for text in REFUSAL.findall(row.cells["Line on standard error"])]
 
 
 @dataclasses.dataclass
@@ -79,8 +89,7 @@ def answer(program, command, source):
 
 def look_at_page(explanations, results):
     """The page lists the sources of the first folder, in order, with what is refused and the rules."""
-    page = pages.Page(PAGE, (pages.TOP / PAGE).read_text().splitlines())
-    listed = [tuple(row.cells.values()) for row in pages.table(page, "Source", "`check` says", "Rules")]
+    listed = [tuple(row.cells.values()) for row in pages.table(pages.read(PAGE), "Source", "`check` says", "Rules")]
     found = [(f"`{it.name()}`", it.fault(), ", ".join(it.rules())) for it in explanations if it.source.parent == REFUSED]
     results.check(listed == found, f"{PAGE} lists the sources", sorted(set(listed) ^ set(found)))
 

@@ -63,7 +63,7 @@ class Copy:
 
 def page_of(name):
     """A page of the course."""
-    return pages.Page(f"lessons/{name}", (LESSONS / name).read_text().splitlines())
+    return pages.read(f"lessons/{name}")
 
 
 @contextlib.contextmanager

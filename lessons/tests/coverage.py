@@ -1,14 +1,11 @@
 """What the whole course has to have, in the explanations that the program wrote in this run: each rule that can refuse, each
 text of a refusal, and each kind of hint; and that the tables of the course's page say where."""
 
-import re
-
 import kinds
 import pages
+import refused
 
-RULE_LINE = re.compile(r"rules? ([\w, ]+): ")
 HINT_LINE = "hint: "
-REFUSAL = re.compile(r"`SRC(?::L:C)?: ([^`]+)`")
 NO_RULE = "no rule"
 
 # What the course's page calls each kind of hint of examples/tests/kinds.py.
@@ -57,27 +54,17 @@ HINTS = {
 }
 
 
-def page(name):
-    return pages.Page(name, (pages.TOP / name).read_text().splitlines())
-
-
 def rules_that_refuse():
     """The rules that have a condition, as the table of docs/rules.md lists them."""
-    rows = pages.table(page("docs/rules.md"), "Rule", "For")
+    rows = pages.table(pages.read("docs/rules.md"), "Rule", "For")
     return {name for row in rows if row.cells["Condition"] for name in row.cells["Rule"].split(", ")}
-
-
-def refusals():
-    """The texts at the statuses 1 and 4, as the table of docs/commands.md lists them."""
-    rows = pages.table(page("docs/commands.md"), "Status", "Meaning")
-    return {text for row in rows if row.cells["Status"] in ("1", "4") for text in REFUSAL.findall(row.cells["Line on standard error"])}
 
 
 def hints_in(explanation):
     """The hints of an explanation, each with the rules of the line before it."""
     rules = ""
     for line in explanation:
-        said = RULE_LINE.match(line)
+        said = refused.RULE_LINE.match(line)
         rules = said[1] if said else rules
         if line.startswith(HINT_LINE):
             yield line.removeprefix(HINT_LINE), rules
@@ -88,7 +75,7 @@ def rules_met(lessons):
     found = {}
     for lesson in lessons:
         for line in lines_of(lesson):
-            said = RULE_LINE.match(line)
+            said = refused.RULE_LINE.match(line)
             for name in said[1].split(", ") if said else []:
                 found.setdefault(name, set()).add(lesson.number())
     return found
@@ -136,7 +123,7 @@ def look_at_rules(lessons, course_page, results):
 
 def look_at_refusals(lessons, results):
     """Looks for each text of a refusal."""
-    texts, lines = refusals(), [line for lesson in lessons for line in lines_of(lesson)]
+    texts, lines = set(refused.texts()), [line for lesson in lessons for line in lines_of(lesson)]
     results.check(NO_RULE in texts, "refusals of docs/commands.md", sorted(texts))
     for text in sorted(texts):
         results.check(any(line.endswith(f": {text}") for line in lines), f"a program of the course is refused with {text!r}", "none is")
