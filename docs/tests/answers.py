@@ -4,6 +4,7 @@
 - The lines of a block of code are run in order, if one of them begins with `./rcap ` or if it is of shell commands that make
   files. A line that begins with `./rcap ` ends with status 0 and says nothing on standard error, or as the comment after it
   says: `# 1: the line`, or `# 1` alone.
+- A block after `<!-- whole of NAME -->` or `<!-- lines A to B of NAME -->` has those lines of that file of the repository.
 - A block after `<!-- output of COMMAND -->` is what the command writes, and so are the lines after a line `$ COMMAND` with
   which a block begins. A line `..` stands for any lines.
 - A row with a file or words, a status and a line is what the program answers. A row with a text and a source `written by` a
@@ -49,6 +50,9 @@ def run_block(block, where, folder, results):
         number, name = block.said.split(" of ")
         results.check(len(block.lines) == 1, f"{where}: one line", len(block.lines))
         folder.replace(name, int(number), block.lines[0])
+        return 0
+    if block.mark == "shown":
+        results.check(block.lines == pages.shown_lines(block.said, pages.TOP), f"{where}: {block.said}", "the file is another")
         return 0
     if block.mark == "output":
         status, out, error = folder.run(block.said)

@@ -14,6 +14,7 @@ MARKS = {
     "line": re.compile(r"<!-- line (\d+ of \S+) -->$"),
     "shown": re.compile(r"<!-- ((?:whole|lines \d+ to \d+) of \S+) -->$"),
 }
+SHOWN = re.compile(r"(?:whole|lines (\d+) to (\d+)) of (\S+)")
 
 
 @dataclasses.dataclass
@@ -55,6 +56,13 @@ def all_pages():
     names = ["README.md", "CONTRIBUTING.md", "crates/README.md", "view/README.md"]
     names += sorted(str(it.relative_to(TOP)) for it in (TOP / "docs").glob("*.md"))
     return [read(name) for name in names]
+
+
+def shown_lines(said, folder):
+    """The lines of a file of a folder that a comment says are shown."""
+    first, last, name = SHOWN.fullmatch(said).groups()
+    lines = (folder / name).read_text().splitlines()
+    return lines if first is None else lines[int(first) - 1 : int(last)]
 
 
 def mark_of(line):

@@ -28,13 +28,17 @@ class Lesson:
         """Its place in the course."""
         return int(self.name[:2])
 
+    def original(self):
+        """Its folder in the repository."""
+        return LESSONS / self.name
+
     def source(self, name):
         """A file as it is in the repository."""
-        return (LESSONS / self.name / name).read_text()
+        return (self.original() / name).read_text()
 
     def files(self, pattern):
         """The names of the files of a pattern, as they are in the repository."""
-        return sorted(it.name for it in (LESSONS / self.name).glob(pattern))
+        return sorted(it.name for it in self.original().glob(pattern))
 
 
 class Copy:

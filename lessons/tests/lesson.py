@@ -14,7 +14,6 @@ LAST = "20-what-is-guaranteed"
 NEIGHBOURS = range(1, 4)
 EXERCISES = range(2, 4)
 
-SHOWN = re.compile(r"(?:whole|lines (\d+) to (\d+)) of (\S+)")
 CHECKED = re.compile(r"\./rcap check (\w+\.pony)\b")
 EXPLAINED = re.compile(r"\./rcap explain (\w+\.pony)$")
 PLACE = re.compile(r"(\w+\.pony):(\d+):(\d+): ")
@@ -23,13 +22,6 @@ EXERCISE = re.compile(r"(mend|solved)_\d\.pony")
 EXERCISE_FILES = [("mend", "pony"), ("mend", "explained"), ("solved", "pony")]
 EXERCISE_FILE = re.compile(r"(mend|solved)_\d+\.\w+")
 NUMBERED = re.compile(r"(\d+)\. ")
-
-
-def shown_lines(lesson, said):
-    """The lines of a file that a comment says are shown."""
-    first, last, name = SHOWN.fullmatch(said).groups()
-    lines = lesson.source(name).splitlines()
-    return lines if first is None else lines[int(first) - 1 : int(last)]
 
 
 def commands_of(block):
@@ -54,7 +46,8 @@ def run_page(lesson, results):
     for block in pages.blocks(lesson.page):
         where = f"{lesson.page.name}:{block.line}"
         if block.mark == "shown":
-            results.check(block.lines == shown_lines(lesson, block.said), f"{where}: {block.said}", "the file is another")
+            shown = pages.shown_lines(block.said, lesson.original())
+            results.check(block.lines == shown, f"{where}: {block.said}", "the file is another")
             continue
         for said in commands_of(block):
             wrong = run(lesson, said)
