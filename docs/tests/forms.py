@@ -32,9 +32,12 @@ PHRASES = {
 CODE = re.compile(r"`[^`\n]*`")
 LINK = re.compile(r"\]\(([^)#\s]*)(?:#([^)\s]*))?\)")
 
-# What is a path: a file by its ending, or anything in one of the folders at the top.
+# The folders at the top. Comments in them cite pages.
+FOLDERS = ("bench", "crates", "docs", "examples", "launcher", "lessons", "lib", "tools", "view")
+
+# What is a path: a file by its ending, or anything in one of these folders.
 FILE = re.compile(r"[\w./-]*\w\.(antt|rt|py|md|pony|sched|c|txt|edit)")
-IN_FOLDER = re.compile(r"(crates|bench|launcher|tools|docs|examples)/[\w./-]*")
+IN_FOLDER = re.compile(rf"({'|'.join(FOLDERS)})/[\w./-]*")
 DEFINITIONS = re.compile(r"(?:crates/)?(?:pc_\w+/)?specs/\w+")
 CRATE = re.compile(r"pc_\w+")
 
@@ -46,9 +49,6 @@ OTHER_NAMES = {"Array", "Work3", "callgrind_annotate"}
 
 # Folders of what is built and kept.
 NO_FOLDERS = {".git", "__pycache__", "out"}
-
-# Where comments cite pages.
-CITING = ("bench/", "crates/", "examples/", "launcher/", "tools/")
 
 # Paths that stand for any, or are made.
 NO_PATHS = re.compile(r"NAME|FILE|FUNCTION|PATH|crates/pc_cli/out|examples/nothing\.pony")
@@ -163,7 +163,7 @@ def bad_citations(files):
     """The pages that comments cite and that are not there."""
     found = []
     for name in files:
-        if name.startswith(CITING):
+        if name.split("/")[0] in FOLDERS:
             for page in re.findall(r"docs/[\w-]+\.md", (pages.TOP / name).read_text(errors="replace")):
                 if page not in files:
                     found.append(f"{name}: {page}")
