@@ -146,8 +146,8 @@ def calls_with_arguments():
 
 @run("calls in calls, frames of 64 slots", turns_of(1))
 def calls_in_calls():
-    locals_behind = "".join(f"    let a{n}: U64 = 0\n" for n in range(63))
-    return repeating("m()", ["  fun m() =>\n    m()\n", locals_behind])
+    locals_after = "".join(f"    let a{n}: U64 = 0\n" for n in range(63))
+    return repeating("m()", ["  fun m() =>\n    m()\n", locals_after])
 
 
 @run("calls in calls, bodies of 100 items", turns_of(1))

@@ -53,13 +53,13 @@ def numbered(part, whole):
 
 
 def lines(count, text):
-    """So many lines of one text."""
+    """A number of lines of one text."""
     for _ in range(count):
         yield text + "\n"
 
 
 def joined(count, sign, text):
-    """So many times one text, with a sign between two."""
+    """One text a number of times, with a sign between two."""
     yield text
     for _ in range(count - 1):
         yield sign + text
@@ -74,7 +74,7 @@ def main_with(items, members=()):
 
 
 def nested(count, levels, opening, inside, closing):
-    """So many items, each of so many levels."""
+    """A number of items, each of a number of levels."""
     return lines(count, opening * levels + inside + closing * levels)
 
 
@@ -276,7 +276,7 @@ def too_many_methods(part):
 
 
 @shape("65,000 names behind a dot", NO_RULE)
-def names_behind_dots(part):
+def names_after_dots(part):
     yield from main_with(f"this.a{n}\n" for n in numbered(part, 65_000))
 
 
@@ -389,7 +389,7 @@ def many_methods_above_many_names(part):
 
 
 def methods_without_bodies(count, rest="()"):
-    """So many methods of an interface, with these parameters and results."""
+    """A number of methods of an interface, with these parameters and results."""
     return (f"  fun m{n}{rest}\n" for n in range(count))
 
 
@@ -399,7 +399,7 @@ def methods_with_bodies(count, rest="()", body="0"):
 
 
 def row_of(count, name):
-    """So many parameters of one type."""
+    """A number of parameters of one type."""
     return ", ".join(f"a{n}: {name}" for n in range(count))
 
 
@@ -512,24 +512,24 @@ def names_of_one_hash(count):
     return found.stdout.split()
 
 
-def behind_dots(names):
-    """Each name behind a `.`, which no entity has."""
+def after_dots(names):
+    """Each name after a `.`. No entity has one of them."""
     return main_with(f"this.{name}\n" for name in names)
 
 
 @shape("50,000 names of one length behind a dot", NO_RULE)
 def names_of_one_length(part):
-    yield from behind_dots(f"a{n:07}" for n in numbered(part, 50_000))
+    yield from after_dots(f"a{n:07}" for n in numbered(part, 50_000))
 
 
 @shape("50,000 names with one beginning behind a dot", NO_RULE)
 def names_of_one_beginning(part):
-    yield from behind_dots(f"aaaaaaaaa{n}" for n in numbered(part, 50_000))
+    yield from after_dots(f"aaaaaaaaa{n}" for n in numbered(part, 50_000))
 
 
 @shape("50,000 names chosen for one hash behind a dot", NO_RULE)
 def names_chosen(part):
-    yield from behind_dots(names_of_one_hash(50_000)[: int(part * 50_000)])
+    yield from after_dots(names_of_one_hash(50_000)[: int(part * 50_000)])
 
 
 @shape("9,900 methods whose names were chosen for one hash, each called")
@@ -549,7 +549,7 @@ def parameters_chosen(part):
     yield from main_with(["0"], [f"  fun m({parameters}) => 0\n"])
 
 
-# Bodies of traits, which stand in the core once for each entity that takes them over.
+# Bodies of traits, which are in the core once for each entity that takes them over.
 
 
 @shape("nodes: a body of 190 numbers that 998 classes take over")

@@ -1,8 +1,8 @@
 """Copies of the program's sources, in which crates are proved side by side.
 
 `rt` keeps other commands out of a crate and of all below it while it builds one, so crates that are built side by side are
-built in copies. The copies stand outside the checkout, since the gate reads each source below it, and they stay if a call
-is interrupted: a crate that was half proved goes on where it was, in the copy that has its kept work."""
+built in copies. The copies are outside the checkout, since the gate reads each source below it, and they stay if a call is
+interrupted: a crate that was half proved goes on from there, in the copy that has its kept work."""
 
 import contextlib
 import hashlib
@@ -16,7 +16,7 @@ from report import CannotAnswer, why
 
 
 def places_for_copies():
-    """Where copies may stand, the best first."""
+    """Where copies may be, the best place first."""
     home = os.environ.get("HOME", "")
     for cache in (os.environ.get("XDG_CACHE_HOME", ""), os.path.join(home, ".cache")):
         if os.path.isabs(cache):
@@ -44,7 +44,7 @@ def folder_for_copies(top):
 
 
 def remove(folder):
-    """Removes the copies, and the place in which they stood if no others stand there."""
+    """Removes the copies, and the place in which they were if no others are there."""
     shutil.rmtree(folder, ignore_errors=True)
     with contextlib.suppress(OSError):
         folder.parent.rmdir()
@@ -116,7 +116,7 @@ class Copies:
                     hand_library(name, self.top, place)
 
     def copy_heads(self, place):
-        """Copies what stands at the top."""
+        """Copies the files at the top."""
         lines = sources.lines_of_crates(self.top)
         text = "".join(f"{lines[name]}\n" for name in self.uses if name in lines)
         (place / "crates.txt").write_text(text, encoding="utf-8")

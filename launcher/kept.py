@@ -24,8 +24,8 @@ def checksum_of_file(path):
 
 
 class Kept:
-    """The program in out/proved or out/unproved. Beside `rcap`, the program itself, stand `made_of`, with the checksums of
-    its sources and of the program and the kit's line, and `listing`, which spares the launcher the reading of the sources."""
+    """The program in out/proved or out/unproved. Beside `rcap`, the program itself, are `made_of`, with the checksums of its
+    sources and of the program and the kit's line, and `listing`, which spares the launcher the reading of the sources."""
 
     def __init__(self, top, kind):
         self.top = top
@@ -100,7 +100,7 @@ class Kept:
 
 @contextlib.contextmanager
 def only_one(path, wait):
-    """Holds a lock file, so that only one call does what stands below. Calls `wait` first if another call holds it."""
+    """Holds a lock file, so that only one call does what comes next. Calls `wait` first if another call holds it."""
     with open(path, "w", encoding="utf-8") as file:
         try:
             fcntl.flock(file, fcntl.LOCK_EX | fcntl.LOCK_NB)

@@ -4,8 +4,8 @@
 MEASURED_MINUTES = 77
 MEASURED_PROCESSORS = 4
 
-# Seconds of each crate in that build: of the processor, where one processor had the crate; of the clock for pc_top, on which four
-# processors were, and for pc_cli. Crates that came later are not measured.
+# Seconds of each crate in that build: of the processor if one processor built the crate; of the clock for pc_top, which four
+# processors built, and for pc_cli. Crates that came later are not measured.
 SECONDS = {
     "pc_lists": 10,
     "pc_io": 174,

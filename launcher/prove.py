@@ -61,12 +61,12 @@ class Build:
         self.say_begins(name)
 
     def log(self, name):
-        """Where the build of a crate says what it says."""
+        """The file in which the build of a crate says what it says."""
         return self.copies.folder / f"{name}.log"
 
     def begin_all(self):
-        """Starts the builds whose turn it is. Where fewer crates can be built than there are processors each takes
-        several: with more jobs than processors all of it takes longer."""
+        """Starts the builds whose turn it is. If fewer crates can be built than there are processors, each takes several of
+        them; more jobs than processors would make all of it take longer."""
         waiting = [it for it in self.order if it not in self.built and it not in self.running]
         ready = [it for it in waiting if schedule.is_ready(it, self.copies.uses, self.built)]
         jobs = max(1, self.at_once // max(1, len(self.running) + len(ready)))

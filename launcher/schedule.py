@@ -35,7 +35,7 @@ def chains(uses):
 
 
 def in_order(uses):
-    """The crates, those with the longest chain first: what stands on them waits for them longest."""
+    """The crates, those with the longest chain first, since what uses them takes longest."""
     longest = chains(uses)
     return sorted(uses, key=lambda name: (-longest[name], name))
 
@@ -46,8 +46,8 @@ def is_ready(name, uses, built):
 
 
 def seconds_left(uses, built, running, at_once):
-    """How long it takes until all crates are built, with so many at once: those in `running` have gone on for so many
-    seconds, and each other one that is not built begins as soon as its libraries stand and its turn comes."""
+    """How long it takes until all crates are built, at most `at_once` of them at once: those in `running` have gone on for
+    the seconds there, and each other one that is not built begins once its libraries are built and its turn comes."""
     built, now = set(built), 0.0
     ends = {name: max(seconds_of(name) - gone, 1.0) for name, gone in running.items()}
     waiting = [name for name in in_order(uses) if name not in built and name not in ends]
@@ -62,7 +62,7 @@ def seconds_left(uses, built, running, at_once):
 
 
 def minutes_to_prove(top, at_once):
-    """About how many minutes the proved program takes with so many processors: as measured, and scaled to their number."""
+    """About how many minutes the proved program takes with a number of processors: as measured, and scaled to them."""
     uses = crates_of_program(top)
     scale = seconds_left(uses, (), {}, at_once) / seconds_left(uses, (), {}, MEASURED_PROCESSORS)
     return max(1, round(MEASURED_MINUTES * scale))

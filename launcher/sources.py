@@ -61,7 +61,7 @@ def add_crate(checksum, folder):
 
 
 def checksums(top):
-    """The checksum of each crate of the program with all that stands below it."""
+    """The checksum of each crate of the program, with all crates below it."""
     lines, sums = lines_of_crates(top), {}
     handles = top / "HANDLES"
     for name, libraries in crates_of_program(top).items():

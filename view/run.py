@@ -131,7 +131,7 @@ def data(name, by, events, accesses, printed, numbers, places):
         "fields": field_names(places, {it[1] for it in objects}),
         "events": rows,
         "printed": printed,
-        # A text with a line end in it has several lines: then lines are not texts, and stand at no taking.
+        # A text with a line end in it has several lines: then a line is not a text, and belongs to no taking.
         "lines_are_texts": len(printed) == prints,
     }
 

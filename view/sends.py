@@ -29,7 +29,7 @@ def box_size(name, rows, never):
 
 
 def picture(sizes, arrows, first, tall):
-    """Where everything stands in one of the two pictures: layers from left to right, or from top to bottom."""
+    """Where everything is in one of the two pictures: layers from left to right, or from top to bottom."""
     extents = [width + BESIDE if tall else height for width, height in sizes]
     layer, centres, passed = layout.place(extents, arrows, first)
     return {

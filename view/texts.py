@@ -228,7 +228,7 @@ def sends(text):
 @dataclasses.dataclass
 class Explanation:
     """The line of `check`; how many characters of the place are in its line, and the end as L:C if it is in a later one;
-    and the lines after the window, as pairs of what stands before the first `: ` and what stands after it."""
+    and the lines after the window, as pairs of what comes before the first `: ` and what comes after it."""
 
     head: str
     width: int

@@ -112,7 +112,7 @@ class Checkout:
             time.sleep(0.02)
 
     def processes(self):
-        """The processes that were started for this checkout, by what stands in their environment."""
+        """The processes that were started for this checkout, by what is in their environment."""
         mark = os.fsencode(f"STAND_IN={self.stand_in}")
         found = []
         for folder in pathlib.Path("/proc").iterdir():

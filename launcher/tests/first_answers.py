@@ -122,7 +122,7 @@ class Answers(LauncherTest):
             self.assertEqual((command.returncode, out), (0, b"unproved\n"), err)
         self.assertEqual(len(self.checkout.calls("try")), 1)
 
-    def test_terminal_is_told_of_the_wait(self):
+    def test_terminal_shows_the_wait(self):
         for lines in (2, 1):
             terminal, streams = pty.openpty()
             ran = self.checkout.call("kind", stderr=streams)

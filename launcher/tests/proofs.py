@@ -22,7 +22,7 @@ class ProveTest(LauncherTest):
         self.assertEqual((ran.status, ran.out, ran.err), (0, b"proved\n", b""))
 
     def assert_checkout_has_libraries(self):
-        """Each library of the program stands in the checkout, built of the text there."""
+        """Each library of the program is in the checkout, built of the text there."""
         for crate in ("low", "left", "right", "above"):
             stamp = self.checkout.top / "crates" / crate / "out" / "rlib" / "stamp"
             self.assertEqual(stamp.read_text(), self.checkout.source(crate).read_text())

@@ -1,5 +1,5 @@
 #!/usr/bin/env python3
-"""Checks files, and prints of each that it is accepted, or the place at which it is refused, and what stands there.
+"""Checks files, and prints of each that it is accepted, or the place at which it is refused, and what is there.
 
     lib/python/example.py FILE ..."""
 

@@ -43,7 +43,7 @@ LINE = re.compile(rb"(source|schedule):(\d+):(\d+): (.*)")
 # What is said of a source of which one byte is at fault.
 OF_A_BYTE = (b"bad byte", b"not closed", b"bad number", b"bad escape", b"too many tokens")
 
-# A token, where one begins: a doc, a text, a name, a number, a sign.
+# A token that begins at a place: a doc, a text, a name, a number, a sign.
 TOKEN = re.compile(rb'"""(?:(?!""").|\n)*"""+|"(?:\\.|[^"\\])*"|_?[A-Za-z]\w*\'*|\d\w*|[=!<>]=|=>|.', re.ASCII)
 
 WORD = re.compile(rb"[^ \t\r\n]*")
@@ -94,7 +94,7 @@ def explained_end(source, offset):
         return offset_of(source, int(carets[2]), int(carets[3]))
     before = len(source[:offset].split(b"\n")[-1])
     rest = source[offset:].split(b"\n")[0]
-    # A caret stands under each character.
+    # There is a caret under each character.
     ends = [at for at in range(1, len(rest) + 1) if at == len(rest) or rest[at] & 0xC0 != 0x80]
     size = ends[len(carets[1]) - 1]
     if size == SHOWN - (before if before <= FAR else NEAR) and size < len(rest):
