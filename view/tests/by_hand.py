@@ -1,7 +1,10 @@
 """The data of pages against JSON that was written by hand, of texts that were written by hand."""
 
 import json
+import os
 import shutil
+import subprocess
+import sys
 import tempfile
 import unittest
 from pathlib import Path
@@ -157,6 +160,13 @@ class Refused(InACopy):
     def test_a_program_that_is_not_there(self):
         status, out, err = pages.make("sends", "stops.pony", stand_in="/nowhere/rcap", folder=self.folder)
         self.assertEqual((status, out, err), (1, "", "/nowhere/rcap does not start: No such file or directory\n"))
+
+    def test_output_that_is_full_or_closed(self):
+        for redirected, why in ((">/dev/full", "No space left on device"), (">&-", "it is closed")):
+            words = ["bash", "-c", f'exec "$@" {redirected}', "bash", sys.executable, pages.VIEW / "page", "sends", "stops.pony"]
+            environment = {**os.environ, "RCAP": str(pages.STAND_IN)}
+            ran = subprocess.run(words, cwd=self.folder, env=environment, stdin=subprocess.DEVNULL, capture_output=True, check=False)
+            self.assertEqual((ran.returncode, ran.stderr.decode()), (1, f"standard output: {why}\n"))
 
     def test_other_words(self):
         status, out, err = pages.make("derivation", stand_in=pages.STAND_IN)
