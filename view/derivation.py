@@ -116,7 +116,7 @@ def data(name, source, found, places, refused):
 
 def page(path):
     """The title of the page and its data."""
-    name = pathlib.PurePath(path).name
+    name = program.shown_name(path)
     checked = program.ask("check", path)
     if checked.status != program.DONE and checked.status not in SHOWN:
         raise program.failure(checked, "check", path)

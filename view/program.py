@@ -42,6 +42,16 @@ def shown(text):
     return text.decode("utf-8", errors="replace")
 
 
+def shown_path(path):
+    """A path as the program's lines have it."""
+    return shown(os.fsencode(path))
+
+
+def shown_name(path):
+    """The name of a file as pages show it."""
+    return shown_path(pathlib.PurePath(path).name)
+
+
 def ask(*words):
     """Calls the program with these words."""
     try:

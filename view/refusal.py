@@ -26,7 +26,8 @@ def explained(path, checked):
 
 def start_of(path, source, line):
     """The byte that a line names, or nothing."""
-    found = re.match(r":(\d+):(\d+): ", line.removeprefix(path)) if line.startswith(path) else None
+    name = program.shown_path(path)
+    found = re.match(r":(\d+):(\d+): ", line.removeprefix(name)) if line.startswith(name) else None
     return source.byte(int(found[1]), int(found[2])) if found else None
 
 

@@ -1,6 +1,5 @@
 """The page of a run as lanes: its data, of the texts of `events`, `trace`, `run`, `places` and `schedule`."""
 
-import pathlib
 import re
 import tempfile
 
@@ -147,8 +146,8 @@ def ended(name, by, line):
 
 def page(path, schedule, by=None):
     """The title of the page and its data. `by` is what the schedule is called, if not by its file's name."""
-    name = pathlib.PurePath(path).name
-    called = by or pathlib.PurePath(schedule).name
+    name = program.shown_name(path)
+    called = by or program.shown_name(schedule)
     answer = program.ask("events", path, schedule)
     if answer.status in ENDED:
         return ended(name, called, answer.line.replace(schedule, called) if by else answer.line)

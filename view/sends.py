@@ -1,7 +1,5 @@
 """The page of who sends what: its data, of the texts of `sends` and `places`."""
 
-import pathlib
-
 import layout
 import program
 import texts
@@ -110,7 +108,7 @@ def data(name, found, places):
 
 def page(path):
     """The title of the page and its data."""
-    name = pathlib.PurePath(path).name
+    name = program.shown_name(path)
     found = texts.sends(program.must("sends", path))
     places = texts.places(program.must("places", path))
     return f"Who sends what in {name}", data(name, found, places)

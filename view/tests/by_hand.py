@@ -190,6 +190,16 @@ class OddPages(InACopy):
         start, end = found["refusal"]["place"]
         self.assertEqual((found["source"][start:end], found["verdict"]), ("\ufffd", "refused"))
 
+    def test_a_name_that_is_no_text_is_shown_as_one(self):
+        for file in list(self.folder.glob("alias.*")):
+            data = file.read_bytes()
+            file.unlink()
+            named = file.name.replace("alias", "\udcff")
+            (self.folder / named).write_bytes(data if named.endswith(".pony") else data.replace(b"alias.pony", b"\xff.pony"))
+        found = pages.data_of(self.made("derivation", "\udcff.pony"))
+        start, end = found["refusal"]["place"]
+        self.assertEqual((found["name"], found["source"][start:end]), ("\ufffd.pony", "let b: C iso = a"))
+
     def test_a_source_that_is_too_long_is_not_in_its_page(self):
         (self.folder / "alias.check.refused").write_text("8\nalias.pony: longer than 1048576 bytes\n")
         found = pages.data_of(self.made("derivation", "alias.pony"))
