@@ -52,6 +52,8 @@ class Objects:
     def number(self, address, actors):
         maker, serial = address.split(".")
         if serial == OWN_SERIAL:
+            if int(maker) >= len(actors):
+                raise program.Failed(f"events: no line makes actor {maker}")
             self.entities.setdefault(address, actors[int(maker)])
         elif address not in self.entities:
             raise program.Failed(f"events: no line makes object {address}")

@@ -73,32 +73,43 @@ class Places:
     nodes: list
 
 
+def natural(word):
+    """The number that a word is, which has digits alone."""
+    if not (word.isascii() and word.isdecimal()):
+        raise ValueError
+    return int(word)
+
+
 def entity(words):
     kind, capability, start, end, name = words
-    return [kind, capability, int(start), int(end), name]
+    return [kind, capability, natural(start), natural(end), name]
 
 
 def field(words):
     owner, word, of, capability, name = words
-    return [int(owner), word, int(of), capability, name]
+    return [natural(owner), word, natural(of), capability, name]
 
 
 def method(words):
-    owner, kind, start, end, slot, node, taken, name = words
-    return [int(owner), kind, int(start), int(end), int(slot), int(node), None if taken == NONE else int(taken), name]
+    owner, kind, *rest, taken, name = words
+    start, end, slot, node = map(natural, rest)
+    return [natural(owner), kind, start, end, slot, node, None if taken == NONE else natural(taken), name]
 
 
 def slot(words):
     depth, kind, start, end, name = words
-    return [int(depth), kind, int(start), int(end), name]
+    return [natural(depth), kind, natural(start), natural(end), name]
 
 
 def node(words):
     kind, owner, depth, start, end, *children = words
-    return [kind, int(owner), int(depth), int(start), int(end), [int(it) for it in children]]
+    return [kind, natural(owner), natural(depth), natural(start), natural(end), [natural(it) for it in children]]
 
 
 SORTS = (("e", entity), ("f", field), ("m", method), ("s", slot), ("n", node))
+
+# The sorts whose rows begin with the number of an entity.
+OF_ENTITIES = ("f", "m")
 
 
 def places(text):
@@ -119,6 +130,8 @@ def places(text):
                 if words[0] != letter:
                     raise ValueError
                 rows.append(reader(words[1:]))
+                if letter in OF_ENTITIES and rows[-1][0] >= counts[0]:
+                    raise ValueError
             except ValueError:
                 raise bad("places", number + 1) from None
         sorts.append(rows)
@@ -145,7 +158,16 @@ class Event:
 
 
 def numbers(clock):
+    if not (clock.isascii() and clock.replace(",", "").isdecimal()):
+        raise ValueError
     return [int(it) for it in clock.split(",")]
+
+
+def address(word):
+    """The address of an object, two numbers with a dot between them."""
+    if not re.fullmatch(r"[0-9]+\.[0-9]+", word):
+        raise ValueError
+    return word
 
 
 def message(word):
@@ -160,19 +182,22 @@ def event(words):
     place, actor, word, *rest, mark, clock = words
     if mark != "clock":
         raise ValueError
-    found = Event(int(place), int(actor), word, numbers(clock))
+    found = Event(natural(place), natural(actor), word, numbers(clock))
     if word == "take":
         name, other = rest
-        found.message, found.other = message(name), int(other)
+        found.message, found.other = message(name), natural(other)
     elif word in ("send", "make"):
         other, name = rest
-        found.message, found.other = message(name), int(other)
+        found.message, found.other = message(name), natural(other)
     elif word == "new":
-        found.address, found.of = rest
+        where, found.of = rest
+        found.address = address(where)
     elif word in ("read", "write"):
-        found.address, index = rest
-        found.field = int(index)
+        where, index = rest
+        found.address, found.field = address(where), natural(index)
     else:
+        raise ValueError
+    if found.actor >= len(found.clock):
         raise ValueError
     return found
 

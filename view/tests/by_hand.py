@@ -96,6 +96,30 @@ class Refused(InACopy):
         self.edit("cell.places", "f 6 var 1 val n", "f 6 var 1 n")
         self.refused("places:11: bad line", "derivation", "cell.pony")
 
+    def test_a_field_of_an_entity_that_is_not_there(self):
+        self.edit("cell.places", "f 6 var 1 val n", "f 8 var 1 val n")
+        self.refused("places:11: bad line", "derivation", "cell.pony")
+
+    def test_a_number_with_a_sign(self):
+        self.edit("cell.places", "f 6 var 1 val n", "f -1 var 1 val n")
+        self.refused("places:11: bad line", "derivation", "cell.pony")
+
+    def test_an_actor_that_its_clock_has_not(self):
+        self.edit("keeper.events", "49 2 take Keeper.bump 18 clock", "49 3 take Keeper.bump 18 clock")
+        self.refused("events:8: bad line", "run", "keeper.pony", "keeper.sched")
+
+    def test_a_clock_with_a_sign(self):
+        self.edit("keeper.events", "clock 0,18,9", "clock 0,18,+9")
+        self.refused("events:8: bad line", "run", "keeper.pony", "keeper.sched")
+
+    def test_an_address_that_is_none(self):
+        self.edit("keeper.events", "read 2.0 0", "read 2 0")
+        self.refused("events:9: bad line", "run", "keeper.pony", "keeper.sched")
+
+    def test_an_actor_that_nothing_made(self):
+        self.edit("keeper.events", "read 2.0 0", "read 3.0 0")
+        self.refused("events: no line makes actor 3", "run", "keeper.pony", "keeper.sched")
+
     def test_a_line_of_events(self):
         self.edit("keeper.events", "49 2 take Keeper.bump 18 clock 0,18,9", "49 2 take 18 clock 0,18,9")
         self.refused("events:8: bad line", "run", "keeper.pony", "keeper.sched")
