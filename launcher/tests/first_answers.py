@@ -2,13 +2,14 @@
 
 import os
 import pty
+import select
 import signal
 import subprocess
 import threading
 import time
 import unittest
 
-from checkouts import TOP, Checkout
+from checkouts import SECONDS_TO_WAIT, TOP, Checkout
 
 # The number of minutes depends on the machine's processors; tests/schedules.py tests it.
 NOTICE = rb"\Arcap: answered by a build without its proofs; \./rcap --prove builds the proved program once, in about \d+ minutes\n"
@@ -112,7 +113,7 @@ class Answers(LauncherTest):
         program.write_text(program.read_text().replace("unproved", "another"))
         self.assert_answered(self.checkout.call("kind"), 0, b"unproved\n")
 
-    def test_two_calls_at_once_build_once(self):
+    def test_calls_at_once_build_once(self):
         self.checkout.tell("hold.try")
         commands = [self.checkout.start("kind") for _ in range(3)]
         self.checkout.wait_for_call("try")
@@ -126,6 +127,7 @@ class Answers(LauncherTest):
         for lines in (2, 1):
             terminal, streams = pty.openpty()
             ran = self.checkout.call("kind", stderr=streams)
+            self.assertEqual(select.select([terminal], [], [], SECONDS_TO_WAIT)[0], [terminal], "nothing is said")
             said = os.read(terminal, 10_000).splitlines()
             os.close(streams)
             os.close(terminal)
