@@ -10,7 +10,7 @@ use Rattle.pc_explain.specs.Explanation.{decl_span, entity_span, method_span, ow
 use Rattle.pc_lex.specs.Answers.{TokenList}
 use Rattle.pc_lex.specs.declared.fault.LexFault.{LexFault}
 use Rattle.pc_lex.specs.declared.fault.LexFault.TheVariants as lexing
-use Rattle.pc_lex.specs.Pieces.{FirstLexFault}
+use Rattle.pc_lex.specs.Faults.{FirstLexFault}
 use Rattle.pc_lists.specs.Texts.{Text}
 use Rattle.pc_names.specs.Names.{IsNotMemory}
 use Rattle.pc_names.specs.declared.fault.NameFault.{NameFault}

@@ -17,8 +17,9 @@ use Rattle.pc_lists.specs.Places.{Ascends}
 use Rattle.pc_names.specs.Names.{IsNotMemory}
 use Rattle.pc_names.specs.declared.fault.NameFault.{NameFault}
 use Rattle.pc_refusals.proofs.OneSource.{SourceLaws}
-use Rattle.pc_valid.specs.Valid.{NoRule, Unset}
-use Rattle.pc_sub.specs.Declarations.{DeclOk, first_fault}
+use Rattle.pc_valid.specs.NoRule.{NoRule, Unset}
+use Rattle.pc_sub.specs.Declarations.{DeclOk}
+use Rattle.pc_sub.specs.DeclarationFaults.{first_fault}
 use Rattle.pc_sub.specs.DeclarationLaws.{NoFaultWhereFit}
 use Rattle.pc_sub.specs.declared.faults.DeclFault.{DeclFault}
 use Rattle.pc_text_order.specs.Laws.{TokensAscend, starts}

@@ -17,7 +17,7 @@ use Rattle.pc_expr.specs.declared.fault.ParseFault.TheVariants as syntax
 use Rattle.pc_file_spec.specs.Cores.{IsElabFault}
 use Rattle.pc_grammar.specs.FileAnswers as answer
 use Rattle.pc_grammar.specs.FileAnswers.{IsFileAnswer}
-use Rattle.pc_lex.specs.Answers as lexer
+use Rattle.pc_lex.specs.Faults as lexer
 use Rattle.pc_lex.specs.declared.fault.LexFault.{LexFault}
 use Rattle.pc_lex.specs.declared.fault.LexFault.TheVariants as lexing
 use Rattle.pc_lists.proofs.Gets.{get_map}

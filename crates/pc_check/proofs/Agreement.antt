@@ -18,7 +18,8 @@ use Rattle.pc_core.specs.Formed.{Formed}
 use Rattle.pc_ann.specs.declared.annotation.Note.{Note}
 use Rattle.pc_ann.specs.declared.annotation.Ann.{Ann}
 use Rattle.pc_valid.specs.Words.{Masks, before, masks_after}
-use Rattle.pc_valid.specs.Valid.{KeepsWritten, DifferAt, Valid}
+use Rattle.pc_valid.specs.Valid.{KeepsWritten, Valid}
+use Rattle.pc_valid.specs.NoRule.{DifferAt}
 use Rattle.pc_rules.specs.Rules.{says, said_by, IsSaid}
 use Rattle.pc_rules.specs.Checks.{Checks, StartsFrom, GoesWell, SaysNothing, StaysUnset, is_else}
 use Rattle.pc_rules.specs.Checks.StartsFrom.{body, first_child, else_branch, next_child}

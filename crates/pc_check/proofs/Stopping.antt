@@ -26,7 +26,7 @@ use Rattle.pc_sub.specs.Declarations.{DeclOk}
 use Rattle.pc_rules.specs.declared.said.Said.{Said}
 use Rattle.pc_rules.specs.Parts.{constructs, full, notes_of}
 use Rattle.pc_valid.specs.Words.{Masks, before}
-use Rattle.pc_valid.specs.Valid.{Infers, DifferAt}
+use Rattle.pc_valid.specs.NoRule.{Infers, DifferAt}
 use Rattle.pc_rules.specs.Values.{defined_type}
 use Rattle.pc_rules.specs.Rules.{says, IsSaid}
 use Rattle.pc_rules.specs.Checks.{StartsFrom}

@@ -4,8 +4,9 @@ use Rattle.pc_core.specs.CoreData.{CoreData}
 use Rattle.pc_core.specs.Formed.{Formed}
 use Rattle.pc_ann.specs.declared.annotation.Ann.{Ann}
 use Rattle.pc_sub.specs.declared.faults.DeclFault.{DeclFault}
-use Rattle.pc_sub.specs.Declarations.{first_fault}
-use Rattle.pc_valid.specs.Valid.{NoRule, Unset, Derivable, KeepsWritten, MeetsReached}
+use Rattle.pc_sub.specs.DeclarationFaults.{first_fault}
+use Rattle.pc_valid.specs.Valid.{Derivable, KeepsWritten}
+use Rattle.pc_valid.specs.NoRule.{NoRule, Unset, MeetsReached}
 
 -- A core with a node to which no rule applies has no valid annotation.
 abbrev pub NoneWithoutRule : Type 0

@@ -2,7 +2,8 @@
 ghost use Rattle.std.specs.Prelude.{◌≡◌, [], Some, Ok, Err, IfOk, IfErr};
 ghost use Rattle.pc_ann.specs.declared.annotation.Ann.{Ann};
 ghost use Rattle.pc_sub.specs.declared.faults.DeclFault.{DeclFault};
-ghost use Rattle.pc_sub.specs.Declarations.{DeclOk, first_fault};
+ghost use Rattle.pc_sub.specs.Declarations.{DeclOk};
+ghost use Rattle.pc_sub.specs.DeclarationFaults.{first_fault};
 ghost use Rattle.pc_valid.specs.Valid.{Valid};
 ghost use Rattle.pc_check.specs.declared.fault.CheckFault.TheVariants as fault_of;
 ghost use Rattle.pc_check.specs.Faults.{RefusesCore, AnswersAnnotation};

@@ -25,13 +25,13 @@ use Rattle.pc_valid.specs.Words.{Ty, Masks, Slots}
 use Rattle.pc_rules.specs.Calls.{is_function}
 use Rattle.pc_rules.specs.Fields.{own_field}
 use Rattle.pc_rules.specs.Children.{type_at}
-use Rattle.pc_valid.specs.Valid.{NoRule, Reaches}
+use Rattle.pc_valid.specs.NoRule.{NoRule, Reaches}
 use Rattle.pc_rules.proofs.Derivations.{reaches_to, to_reaches, to_reached}
 use Rattle.pc_rules.proofs.Alike.{looked_at, bind_same}
 use Rattle.pc_caps.specs.Tables.{fits}
 use Rattle.pc_core.specs.Methods.{UsesSlot}
 use Rattle.pc_core.specs.Nodes.{HasArity, NamesFit, NamesSlot}
-use Rattle.pc_sub.specs.Sub.{is_sub}
+use Rattle.pc_sub.specs.Computed.{is_sub}
 use Rattle.pc_rules.proofs.Alike.{slot_same}
 use Rattle.pc_rules.proofs.Agreeing.{Agree, use_alike}
 use Rattle.pc_rules.proofs.Homes.{children_before}

@@ -20,7 +20,7 @@ use Rattle.pc_core.specs.declared.nodes.Node.{Node}
 use Rattle.pc_core.specs.declared.nodes.NodeKind.{NodeKind}
 use Rattle.pc_core.specs.declared.nodes.NodeKind.TheVariants as node
 use Rattle.pc_core.specs.declared.nodes.Slot.{Slot}
-use Rattle.pc_sub.specs.Sub.{is_sub}
+use Rattle.pc_sub.specs.Computed.{is_sub}
 use Rattle.pc_rules.specs.declared.said.Said.{Said}
 use Rattle.pc_rules.specs.Parts.{says_of, readable, slot_of, reachable, starts, through_notes}
 use Rattle.pc_valid.specs.Words.{Ty, Masks, Slots, masks_after}

@@ -9,7 +9,7 @@ use Rattle.pc_caps.specs.Tables.{fits, view, taken, may_write, sendable, sendabl
 use Rattle.pc_core.specs.CoreData.{CoreData}
 use Rattle.pc_core.specs.declared.nodes.Node.{Node}
 use Rattle.pc_lists.specs.Options.{◌>>=◌}
-use Rattle.pc_sub.specs.Sub.{is_sub}
+use Rattle.pc_sub.specs.Computed.{is_sub}
 use Rattle.pc_check.specs.Inference.{rules_for}
 use Rattle.pc_rules.specs.Parts.{readable, slot_of, reachable, through_notes, notes_of}
 use Rattle.pc_valid.specs.Words.{Ty, Masks, Slots}

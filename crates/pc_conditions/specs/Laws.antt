@@ -10,7 +10,8 @@ use Rattle.pc_lists.specs.Places.{Has}
 use Rattle.pc_rules.specs.Parts.{notes_of}
 use Rattle.pc_valid.specs.Words.{Masks, before}
 use Rattle.pc_valid.specs.Rules.{Means}
-use Rattle.pc_valid.specs.Valid.{NoRule, Reaches, MeetsReached, KeepsWritten}
+use Rattle.pc_valid.specs.Valid.{KeepsWritten}
+use Rattle.pc_valid.specs.NoRule.{NoRule, Reaches, MeetsReached}
 use Rattle.pc_rules.specs.Rules.{rule_says}
 use Rattle.pc_check.specs.Inference.{rules_for, with_inferred}
 use Rattle.pc_conditions.specs.Chosen.{is_chosen}

@@ -5,7 +5,8 @@ use Rattle.std.proofs.lemmas.Option.{same_Some, none-some}
 use Rattle.std.proofs.lemmas.List.{append-nil}
 use Rattle.std.specs.FinMap.{get, insert, empty, get-empty}
 use Rattle.pc_lists.proofs.Gets.{get_push}
-use Rattle.pc_heap.specs.Objects.{address_cmp, ObjectMap, class_at, field_in, field_at}
+use Rattle.pc_heap.specs.Objects.{address_cmp, ObjectMap, class_at}
+use Rattle.pc_heap.specs.Fields.{field_in, field_at}
 use Rattle.pc_heap.specs.declared.value.Address.{Address}
 use Rattle.pc_heap.specs.Object.{Object}
 use Rattle.pc_heap.specs.declared.value.Value.TheVariants.{At}

@@ -4,7 +4,8 @@ use Rattle.std.proofs.Common.{inl, inr, ap, sym, subst, ◌∙◌}
 use Rattle.std.proofs.lemmas.Option.{same_Some, none-some}
 use Rattle.std.proofs.lemmas.Bool.Decides.{eqb_tells}
 use Rattle.std.specs.FinMap.{get}
-use Rattle.pc_heap.specs.Objects.{ObjectMap, class_in, class_at, field_in, field_at, value_in, value_at}
+use Rattle.pc_heap.specs.Objects.{ObjectMap, class_in, class_at}
+use Rattle.pc_heap.specs.Fields.{field_in, field_at, value_in, value_at}
 use Rattle.pc_heap.specs.declared.value.Address.{Address}
 use Rattle.pc_heap.specs.Object.{Object}
 use Rattle.pc_heap.specs.declared.value.Value.{Value}

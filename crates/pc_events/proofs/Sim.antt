@@ -5,7 +5,8 @@ use Rattle.std.proofs.lemmas.Option.{same_Some}
 use Rattle.std.proofs.lemmas.Bool.{eq-eqb, ne_eqb}
 use Rattle.std.proofs.lemmas.Bool.Decides.{eqb_tells}
 use Rattle.pc_lists.proofs.Gets.{get_within, get_front}
-use Rattle.pc_heap.specs.Objects.{class_at, field_at, made_by}
+use Rattle.pc_heap.specs.Objects.{class_at, made_by}
+use Rattle.pc_heap.specs.Fields.{field_at}
 use Rattle.pc_heap.specs.declared.value.Address.{Address}
 use Rattle.pc_semantics.specs.declared.actors.Actor.{Actor}
 use Rattle.pc_semantics.specs.declared.mailbox.Message.{Message}

@@ -3,7 +3,8 @@ use Rattle.std.specs.Prelude.{◌≡◌, ◌≢◌, ◌⊎◌, ◌<◌, ℕ, zer
 use Rattle.std.proofs.Common.{inl, inr, ap, sym, subst, ◌∙◌, arith}
 use Rattle.std.proofs.lemmas.Option.{same_Some, none-some}
 use Rattle.pc_lists.proofs.Gets.{get_behind}
-use Rattle.pc_heap.specs.Objects.{ObjectMap, class_at, field_at, object_in}
+use Rattle.pc_heap.specs.Objects.{ObjectMap, class_at, object_in}
+use Rattle.pc_heap.specs.Fields.{field_at}
 use Rattle.pc_heap.specs.declared.value.Address.{Address}
 use Rattle.pc_heap.specs.Object.{Object}
 use Rattle.pc_heap.specs.declared.value.Value.{Value}

@@ -3,7 +3,8 @@ use Rattle.std.specs.Prelude.{◌≡◌, ◌≢◌, ◌⊎◌, ◌<◌, ◌≤�
 use Rattle.std.proofs.Common.{inl, inr, ap, sym, subst, ◌∙◌, arith}
 use Rattle.std.proofs.lemmas.Bool.Decides.{eqb_tells}
 use Rattle.pc_lists.proofs.Gets.{get_below, get_push}
-use Rattle.pc_heap.specs.Objects.{class_at, field_at}
+use Rattle.pc_heap.specs.Objects.{class_at}
+use Rattle.pc_heap.specs.Fields.{field_at}
 use Rattle.pc_heap.specs.declared.value.Address.{Address}
 use Rattle.pc_semantics.specs.declared.actors.Actor.{Actor}
 use Rattle.pc_semantics.specs.declared.mailbox.Message.{Message}

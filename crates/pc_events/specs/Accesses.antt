@@ -1,6 +1,7 @@
 -- What a step leaves unchanged in the objects: everything but the field that its actor was about to write.
 use Rattle.std.specs.Prelude.{◌≡◌, ◌⊎◌, ℕ, true, Some, None}
-use Rattle.pc_heap.specs.Objects.{class_at, field_at, value_at}
+use Rattle.pc_heap.specs.Objects.{class_at}
+use Rattle.pc_heap.specs.Fields.{field_at, value_at}
 use Rattle.pc_heap.specs.declared.value.Address.{Address}
 use Rattle.pc_core.specs.CoreData.{CoreData}
 use Rattle.pc_semantics.specs.Configurations.{Configuration}

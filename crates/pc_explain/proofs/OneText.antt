@@ -14,8 +14,10 @@ use Rattle.pc_core.specs.declared.declarations.Method.{Method}
 use Rattle.pc_core.specs.declared.nodes.Node.{Node}
 use Rattle.pc_lists.specs.Texts.{Text}
 use Rattle.pc_valid.specs.Words.{Masks}
-use Rattle.pc_valid.specs.Valid.{KeepsWritten, MeetsReached}
-use Rattle.pc_sub.specs.Declarations.{DeclOk, first_fault}
+use Rattle.pc_valid.specs.Valid.{KeepsWritten}
+use Rattle.pc_valid.specs.NoRule.{MeetsReached}
+use Rattle.pc_sub.specs.Declarations.{DeclOk}
+use Rattle.pc_sub.specs.DeclarationFaults.{first_fault}
 use Rattle.pc_sub.specs.DeclarationLaws.{NoFaultWhereFit}
 use Rattle.pc_sub.specs.declared.faults.DeclFault.{DeclFault}
 use Rattle.pc_token.specs.declared.kinds.Token.{Token}

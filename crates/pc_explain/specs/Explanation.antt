@@ -21,7 +21,7 @@ use Rattle.pc_refusals.specs.CoreFaults.{decl_text}
 use Rattle.pc_valid.specs.Words.{Masks, Slots}
 use Rattle.pc_sentences.specs.Sentences.{sentence}
 use Rattle.pc_sentences.specs.Stop.{StopData}
-use Rattle.pc_sub.specs.Declarations.{first_fault}
+use Rattle.pc_sub.specs.DeclarationFaults.{first_fault}
 use Rattle.pc_sub.specs.declared.faults.DeclFault.{DeclFault}
 use Rattle.pc_sub.specs.declared.faults.DeclFault.TheVariants as decl
 use Rattle.pc_token.specs.declared.kinds.Token.{Token}

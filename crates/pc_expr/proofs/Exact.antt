@@ -1,7 +1,7 @@
 -- What holds for the tokens is what is returned.
 use Rattle.std.proofs.Common.{◌≡◌, ℕ, ◌<◌, List, ◌∷◌, drop, length, Result, Ok, Err, refl, sym, ap, ap₂, ◌∙◌, arith, length-drop}
 use Rattle.pc_token.specs.declared.kinds.Token.{Token}
-use Rattle.pc_grammar.specs.Begins.{ParseAnswer, read, refused, deep, IsOneAnswer}
+use Rattle.pc_grammar.specs.Parsing.{ParseAnswer, read, refused, deep, IsOneAnswer}
 use Rattle.pc_expr.specs.declared.fault.ParseFault.{ParseFault}
 use Rattle.pc_expr.specs.declared.fault.ParseFault.TheVariants as fault
 use Rattle.pc_expr.specs.Answers.{Places, ReadsTo, RefusesTree, AnswersTree, Is}

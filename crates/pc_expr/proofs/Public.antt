@@ -2,7 +2,7 @@
 use Rattle.std.proofs.Common.{◌≡◌, ℕ, zero, suc, ◌<◌, List, [], ◌∷◌, drop, length, Err, sym, ap, ◌∙◌, subst, arith}
 use Rattle.pc_token.specs.declared.kinds.Token.{Token}
 use Rattle.pc_grammar.specs.Reading.{ReadingOutcome, Parser, unexpected}
-use Rattle.pc_grammar.specs.Begins.{IsRefused}
+use Rattle.pc_grammar.specs.Parsing.{IsRefused}
 use Rattle.pc_grammar.specs.Laws.{RefusesRight, DeepRight}
 use Rattle.pc_expr.specs.declared.stop.ParseStop.{ParseStop}
 use Rattle.pc_expr.specs.declared.stop.ParseStop.TheVariants as stop

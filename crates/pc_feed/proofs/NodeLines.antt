@@ -11,7 +11,8 @@ use Rattle.pc_core.specs.Formed.{Formed}
 use Rattle.pc_ann.specs.declared.annotation.Note.{Note}
 use Rattle.pc_ann.specs.declared.annotation.Ann.{Ann}
 use Rattle.pc_sub.specs.Declarations.{DeclOk}
-use Rattle.pc_valid.specs.Valid.{Holds, MeetsRule}
+use Rattle.pc_valid.specs.Valid.{MeetsRule}
+use Rattle.pc_valid.specs.NoRule.{Holds}
 use Rattle.pc_deriv.specs.declared.version.Version.{Version}
 use Rattle.pc_deriv.specs.declared.line.Line.{Line}
 use Rattle.pc_deriv.specs.declared.line.Line.TheVariants as line

@@ -7,7 +7,8 @@ use Rattle.pc_lists.specs.Options.{◌>>=◌}
 use Rattle.pc_lists.proofs.Options.{bind_some, bind_is}
 use Rattle.pc_rules.specs.Parts.{notes_of}
 use Rattle.pc_valid.specs.Words.{Slots}
-use Rattle.pc_valid.specs.Valid.{Holds, MeetsRule}
+use Rattle.pc_valid.specs.Valid.{MeetsRule}
+use Rattle.pc_valid.specs.NoRule.{Holds}
 use Rattle.pc_rules.proofs.Derivations.{holds_meets}
 use Rattle.pc_feed.specs.WaitingLaws.{WaitingTells}
 use Rattle.pc_feed.proofs.PostOrder.{children_wait_last}

@@ -8,7 +8,8 @@ use Rattle.pc_ann.specs.declared.annotation.Note.{Note}
 use Rattle.pc_ann.specs.declared.annotation.Ann.{Ann}
 use Rattle.pc_rules.specs.Parts.{notes_of}
 use Rattle.pc_valid.specs.Words.{Slots}
-use Rattle.pc_valid.specs.Valid.{Holds, MeetsRule}
+use Rattle.pc_valid.specs.Valid.{MeetsRule}
+use Rattle.pc_valid.specs.NoRule.{Holds}
 use Rattle.pc_feed.specs.Waiting.{WaitingNodes, BeginsAnnotation}
 
 -- A node's children are the last of the nodes without a parent, and those of a body the only ones.

@@ -2,7 +2,7 @@
 ghost use Rattle.std.specs.Prelude.{◌≡◌, ◌<◌, ◌↔◌, ℕ, List as Sequence, [], ◌∷◌, ◌++◌, None, Some, length, slice_get, IfOk, OnOk, OnErr, IsTrue};
 ghost use Rattle.pc_ann.specs.declared.annotation.Ann.{Ann as AnnIs};
 ghost use Rattle.pc_core.specs.declared.nodes.NodeKind.TheVariants as kind;
-ghost use Rattle.pc_valid.specs.Valid.{Holds};
+ghost use Rattle.pc_valid.specs.NoRule.{Holds};
 ghost use Rattle.pc_referee.specs.Asked.{asked_after};
 ghost use Rattle.pc_deriv.specs.Lines.{line_of_slot, lines_of};
 ghost use Rattle.pc_deriv.specs.declared.version.Version.{Version as VersionIs};

@@ -31,7 +31,3 @@ abbrev pub IsFileAnswer : List Token → FileAnswer → Type 0
 IsFileAnswer ts (spelled f) = SpellsFile f ts × (file_depth f ≤ level_limit)
 IsFileAnswer ts (unexpected rest) = IsUnexpected ts rest
 IsFileAnswer ts (too_deep rest) = IsTooDeep SpellsFile file_depth level_limit ts rest
-
--- at most one answer
-abbrev pub OneFileAnswer : Type 0
-OneFileAnswer = (ts : List Token) (one other : FileAnswer) → IsFileAnswer ts one → IsFileAnswer ts other → one ≡ other

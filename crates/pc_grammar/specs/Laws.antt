@@ -6,9 +6,10 @@ use Rattle.pc_token.specs.declared.kinds.Token.{Token}
 use Rattle.pc_grammar.specs.Spells.{Spells, SpellsInfix, SpellsSeq}
 use Rattle.pc_grammar.specs.SpellsFile.{SpellsFile}
 use Rattle.pc_grammar.specs.ReadingFile.{file}
-use Rattle.pc_grammar.specs.Begins.{IsOne, IsOneAnswer, IsRead, IsRefused, IsTooDeep}
+use Rattle.pc_grammar.specs.Begins.{IsTooDeep}
+use Rattle.pc_grammar.specs.Parsing.{IsOne, IsOneAnswer, IsRead, IsRefused}
 use Rattle.pc_grammar.specs.FileAnswers as answer
-use Rattle.pc_grammar.specs.FileAnswers.{IsFileAnswer, inner_levels}
+use Rattle.pc_grammar.specs.FileAnswers.{FileAnswer, IsFileAnswer, inner_levels}
 use Rattle.pc_grammar.specs.Reading.{ReadingOutcome, Parser, unexpected, too_deep, seq, expr, infix_}
 
 module _ {A : Type 0} (spells : A → List Token → Type 0) (depth_of : A → ℕ) (reading : ℕ → Parser A) where
@@ -88,6 +89,10 @@ AnswersFor ts (Ok (f, x ∷ rest)) = IsFileAnswer ts (answer.unexpected (x ∷ r
 AnswersFor ts (Err (unexpected, [])) = Unit {0}
 AnswersFor ts (Err (unexpected, x ∷ rest)) = IsFileAnswer ts (answer.unexpected (x ∷ rest))
 AnswersFor ts (Err (too_deep, rest)) = IsFileAnswer ts (answer.too_deep rest)
+
+-- There is at most one answer.
+abbrev pub OneFileAnswer : Type 0
+OneFileAnswer = (ts : List Token) (one other : FileAnswer) → IsFileAnswer ts one → IsFileAnswer ts other → one ≡ other
 
 -- A body and a value are at level 1.
 abbrev pub FileIsAnswered : Type 0

@@ -6,3 +6,4 @@ pub mod FileAnswers
 pub mod Laws
 pub mod SpellsFile
 pub mod ReadingFile
+pub mod Parsing

@@ -1,6 +1,5 @@
 //! The laws of reading, as calls that do nothing.
-ghost use Rattle.pc_grammar.specs.FileAnswers.{OneFileAnswer};
-ghost use Rattle.pc_grammar.specs.Laws.{SeqIsOne, SeqOneAnswer, SeqReadsRight, SeqRefusesRight, SeqDeepRight, ExprIsOne, ExprOneAnswer, ExprReadsRight, ExprRefusesRight, ExprDeepRight, InfixOneAnswer, InfixReadsRight, InfixRefusesRight, InfixDeepRight, FileReadsRight, FileRefusesRight, FileDeepRight, FileIsOne, FileIsAnswered};
+ghost use Rattle.pc_grammar.specs.Laws.{OneFileAnswer, SeqIsOne, SeqOneAnswer, SeqReadsRight, SeqRefusesRight, SeqDeepRight, ExprIsOne, ExprOneAnswer, ExprReadsRight, ExprRefusesRight, ExprDeepRight, InfixOneAnswer, InfixReadsRight, InfixRefusesRight, InfixDeepRight, FileReadsRight, FileRefusesRight, FileDeepRight, FileIsOne, FileIsAnswered};
 
 /// Reading a sequence with one token of lookahead is right. What is read is what the tokens consumed spell, within the
 /// levels, and the next token does not continue it. If a token is unexpected, those before it begin a sequence within

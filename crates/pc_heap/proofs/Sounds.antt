@@ -11,7 +11,8 @@ use Rattle.pc_heap.specs.declared.value.Address.{Address}
 use Rattle.pc_heap.specs.Object.{Object}
 use Rattle.pc_heap.specs.declared.value.Value.{Value}
 use Rattle.pc_heap.specs.declared.entry.Entry.{Entry}
-use Rattle.pc_heap.specs.Objects.{address_cmp, ObjectMap, made_by, new_object, with_field, with_value, object_in, field_in}
+use Rattle.pc_heap.specs.Objects.{address_cmp, ObjectMap, made_by, new_object, with_field, with_value, object_in}
+use Rattle.pc_heap.specs.Fields.{field_in}
 use Rattle.pc_heap.specs.Heaps.{Room, object_limit}
 use Rattle.pc_heap.proofs.Maps.{addresses_total, exact_addresses, get_at}
 use Rattle.pc_heap.proofs.Counts.{made_more, made_same, len_more, len_same, made_few}

@@ -1,7 +1,8 @@
 //! The heap.
 ghost use Rattle.std.specs.Prelude.{◌≡◌, ◌<◌, ◌≤◌, OnOk, OnErr, IfOk, IfErr, Some, None, option_copied, IsSome, IfSome};
 ghost use Rattle.std.specs.FinMap as map;
-ghost use Rattle.pc_heap.specs.Objects.{next_address, new_object, class_at, field_at, value_at, with_value};
+ghost use Rattle.pc_heap.specs.Objects.{next_address, new_object, class_at, with_value};
+ghost use Rattle.pc_heap.specs.Fields.{field_at, value_at};
 ghost use Rattle.pc_heap.specs.Heaps.{object_limit, field_limit};
 
 use crate::entry::{Entry, find};

@@ -1,6 +1,7 @@
 -- When waiting messages are isolated in depth: arguments are let alone, and what fields other than `tag` lead to.
 use Rattle.std.specs.Prelude.{◌≡◌, ◌≢◌, ◌⊎◌, ℕ, Bool, true, false, Option, Some, slice_get}
-use Rattle.pc_heap.specs.Objects.{ObjectMap, class_at, value_at}
+use Rattle.pc_heap.specs.Objects.{ObjectMap, class_at}
+use Rattle.pc_heap.specs.Fields.{value_at}
 use Rattle.pc_heap.specs.declared.value.Address.{Address}
 use Rattle.pc_heap.specs.declared.value.Value.TheVariants.{At}
 use Rattle.pc_caps.specs.Tables.{at}

@@ -1,6 +1,6 @@
 -- What is inside a waiting argument stays inside until its message is taken, and is then handed over as a whole.
 use Rattle.std.specs.Prelude.{◌≡◌, ◌↔◌, ℕ, suc, ◌+◌, List, [], ◌∷◌, Some, slice_get}
-use Rattle.pc_heap.specs.Objects.{value_at}
+use Rattle.pc_heap.specs.Fields.{value_at}
 use Rattle.pc_heap.specs.declared.value.Address.{Address}
 use Rattle.pc_heap.specs.declared.value.Value.TheVariants.{At}
 use Rattle.pc_caps.specs.declared.capability.Cap.{Cap}

@@ -6,7 +6,8 @@ use Rattle.pc_core.specs.declared.nodes.Slot.{Slot}
 use Rattle.pc_core.specs.CoreData.{CoreData}
 use Rattle.pc_lists.specs.Places.{Each}
 use Rattle.pc_ann.specs.declared.annotation.Ann.{Ann}
-use Rattle.pc_sub.specs.Declarations.{DeclOk, first_fault}
+use Rattle.pc_sub.specs.Declarations.{DeclOk}
+use Rattle.pc_sub.specs.DeclarationFaults.{first_fault}
 use Rattle.pc_valid.specs.Valid.{MeetsRule, KeepsWritten, SetsFields}
 use Rattle.pc_judge.specs.declared.faults.JudgeFault.{JudgeFault}
 use Rattle.pc_judge.specs.declared.faults.JudgeFault.TheVariants as fault

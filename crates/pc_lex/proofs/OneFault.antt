@@ -6,10 +6,11 @@ use Rattle.pc_token.specs.declared.kinds.TokenKind.{TokenKind}
 use Rattle.pc_lex.specs.declared.fault.LexFault.{LexFault}
 use Rattle.pc_lex.specs.declared.fault.LexFault.TheVariants as fault
 use Rattle.pc_lex.specs.Bytes.{first_test, begins, open_mark}
-use Rattle.pc_lex.specs.Texts.{is_quote, begins_doc, NeverEnds, BadEscapeIn}
+use Rattle.pc_lex.specs.Texts.{begins_doc}
+use Rattle.pc_lex.specs.Faults.{is_quote, NeverEnds, BadEscapeIn, OpensCommentOrText, NoPiece, count, Faulty, FaultAfter, TokenAfter, FirstLexFault}
 use Rattle.pc_lex.specs.TextReading.{text_behind, unescape}
 use Rattle.pc_lex.specs.Reading.{between}
-use Rattle.pc_lex.specs.Pieces.{OpensCommentOrText, Piece, gap, token, IsToken, NoPiece, Pieces, count, Faulty, FaultAfter, TokenAfter, FirstLexFault}
+use Rattle.pc_lex.specs.Pieces.{Piece, gap, token, IsToken, Pieces}
 use Rattle.pc_lex.proofs.Longest.{quote_none}
 use Rattle.pc_lex.proofs.QuoteEnds.{behind_covered}
 use Rattle.pc_lex.proofs.QuotedBytes.{no_doc, doc_quote, quote_cut}

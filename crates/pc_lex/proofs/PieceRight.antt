@@ -9,8 +9,9 @@ use Rattle.pc_lex.specs.declared.pieces.Found.TheVariants as found
 use Rattle.pc_lex.specs.declared.pieces.LexStop.{LexStop}
 use Rattle.pc_lex.specs.declared.pieces.LexStop.TheVariants as stop
 use Rattle.pc_lex.specs.Bytes.{first_test, is_blank, begins, begins_comment, line_mark, open_mark}
-use Rattle.pc_lex.specs.Texts.{begins_doc, is_quote, BadEscapeIn}
-use Rattle.pc_lex.specs.Pieces.{OpensCommentOrText, EndsWell, SpellsToken, Piece, gap, token, IsPiece, NoPiece, IsGap, ClosesComment}
+use Rattle.pc_lex.specs.Texts.{begins_doc}
+use Rattle.pc_lex.specs.Faults.{is_quote, BadEscapeIn, OpensCommentOrText, NoPiece}
+use Rattle.pc_lex.specs.Pieces.{EndsWell, SpellsToken, Piece, gap, token, IsPiece, IsGap, ClosesComment}
 
 abbrev pub piece_of : Found → List ℕ → Piece
 piece_of found.Gap b = gap b

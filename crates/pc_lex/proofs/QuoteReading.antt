@@ -4,9 +4,10 @@ use Rattle.std.proofs.lemmas.Bool.{true≢false}
 use Rattle.pc_token.specs.declared.kinds.TokenKind.{TokenKind}
 use Rattle.pc_token.specs.declared.kinds.TokenKind.TheVariants as kinds
 use Rattle.pc_lex.specs.Bytes.{first_test, begins, line_mark, open_mark}
-use Rattle.pc_lex.specs.Texts.{begins_doc, is_quote, BetweenQuotes, Written, TextBytes, DocBytes, NeverEnds}
+use Rattle.pc_lex.specs.Texts.{begins_doc, BetweenQuotes, Written, TextBytes, DocBytes}
+use Rattle.pc_lex.specs.Faults.{is_quote, NeverEnds, NoPiece}
 use Rattle.pc_lex.specs.TextReading.{text_behind, doc_behind, unescape}
-use Rattle.pc_lex.specs.Pieces.{SpellsToken, gap, token, NoPiece}
+use Rattle.pc_lex.specs.Pieces.{SpellsToken, gap, token}
 use Rattle.pc_lex.specs.Reading.{doc_or, value_or, between, text_or, text_at, doc_at}
 use Rattle.pc_lex.proofs.PieceRight.{Right, token_right, first_blank, never_gap}
 use Rattle.pc_lex.proofs.Longest.{quote_only}

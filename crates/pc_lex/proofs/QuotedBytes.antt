@@ -5,7 +5,8 @@ use Rattle.std.specs.Prelude.{nat_eq}
 use Rattle.std.proofs.lemmas.Bool.Decides.{nat_tests}
 use Rattle.std.specs.Char.{is_digit}
 use Rattle.pc_lex.specs.Bytes.{first_test}
-use Rattle.pc_lex.specs.Texts.{is_plain, BetweenQuotes, nothing, plain, covered, Writes, Written, DocEnds, ends, other, begins_doc, is_quote, DocBytes}
+use Rattle.pc_lex.specs.Texts.{is_plain, BetweenQuotes, nothing, plain, covered, Writes, Written, DocEnds, ends, other, begins_doc, DocBytes}
+use Rattle.pc_lex.specs.Faults.{is_quote}
 use Rattle.pc_lex.specs.TextReading.{doc_behind}
 
 hex_plain : (b : ℕ) → is_digit b 16 ≡ true → is_plain b ≡ true

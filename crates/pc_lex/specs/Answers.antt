@@ -1,20 +1,9 @@
--- What lexing may return.
-use Rattle.std.specs.Prelude.{◌≡◌, ◌≤◌, ◌+◌, ℕ, List, length, Result, Err, ◌⊎◌, ⊤}
+-- The token list of a text, within the limit.
+use Rattle.std.specs.Prelude.{◌≤◌, ◌+◌, ℕ, List, length}
 use Rattle.pc_token.specs.declared.kinds.Token.{Token}
-use Rattle.pc_lex.specs.declared.fault.LexFault.{LexFault}
-use Rattle.pc_lex.specs.declared.fault.LexFault.TheVariants as fault
 use Rattle.pc_lex.specs.Limits.{token_limit}
-use Rattle.pc_lex.specs.Pieces.{Tokens, FirstLexFault}
+use Rattle.pc_lex.specs.Pieces.{Tokens}
 
 -- The list is the tokens of the text with `End`, and there are not too many of them.
 abbrev pub TokenList : List ℕ → List Token → Type 0
 TokenList text ts = Tokens text ts × (length ts ≤ token_limit + 1)
-
--- The fault is the first of the text, or memory ran out.
-abbrev pub RefusesTokens : List ℕ → LexFault → Type 0
-RefusesTokens text fault.Memory = ⊤
-RefusesTokens text f = FirstLexFault text f
-
--- The result is this answer, or memory ran out.
-abbrev pub AnswersTokens : Result (List Token) LexFault → Result (List Token) LexFault → Type 0
-AnswersTokens result wanted = (result ≡ wanted) ⊎ (result ≡ Err fault.Memory)

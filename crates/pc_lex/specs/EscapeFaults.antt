@@ -2,7 +2,7 @@
 use Rattle.std.specs.Prelude.{◌≡◌, List, ℕ, Result, Ok, Err, ⊤}
 use Rattle.pc_lex.specs.declared.texts.EscapeFault.{EscapeFault}
 use Rattle.pc_lex.specs.declared.texts.EscapeFault.TheVariants as fault
-use Rattle.pc_lex.specs.Texts.{BadAt}
+use Rattle.pc_lex.specs.Faults.{BadAt}
 
 abbrev pub IsBadEscape : List ℕ → EscapeFault → Type 0
 IsBadEscape b (fault.BadEscape at) = BadAt b at

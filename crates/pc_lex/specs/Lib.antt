@@ -7,3 +7,4 @@ pub mod Texts
 pub mod TextReading
 pub mod EscapeFaults
 pub mod Reading
+pub mod Faults

@@ -1,20 +1,17 @@
--- The token list of a text, and its first fault if it has none.
+-- The token list of a text.
 --
 -- A text is cut into pieces: blanks, comments, and at each place the longest token that begins there. The pieces
 -- determine the tokens.
 use Rattle.std.specs.Prelude.{◌≡◌, ℕ, ◌+◌, ◌*◌, ◌<◌, ◌≤◌, ◌^◌, Bool, true, false, ◌||◌, ◌==◌, List, [], ◌∷◌, ◌++◌, length, ◌⊎◌, ⊤}
 use Rattle.std.specs.List.{list_all, list_any}
-use Rattle.std.specs.Char.{is_ascii_digit, is_ascii_lowercase, is_ascii_uppercase, is_digit, digit_value}
+use Rattle.std.specs.Char.{is_ascii_lowercase, is_ascii_uppercase, is_digit, digit_value}
 use Rattle.pc_token.specs.declared.words.Word.{Word}
 use Rattle.pc_token.specs.declared.kinds.Token.{Token}
 use Rattle.pc_token.specs.declared.kinds.TokenKind.{TokenKind}
 use Rattle.pc_token.specs.declared.kinds.TokenKind.TheVariants as kinds
 use Rattle.pc_token.specs.Words.{word_text}
 use Rattle.pc_token.specs.Signs.{sign_text}
-use Rattle.pc_lex.specs.declared.fault.LexFault.{LexFault}
-use Rattle.pc_lex.specs.declared.fault.LexFault.TheVariants as fault
-use Rattle.pc_lex.specs.Limits.{token_limit}
-use Rattle.pc_lex.specs.Texts.{is_quote, TextBytes, DocBytes, begins_doc, NeverEnds, BadEscapeIn}
+use Rattle.pc_lex.specs.Texts.{TextBytes, DocBytes, begins_doc}
 use Rattle.pc_lex.specs.Bytes.{is_blank, is_tail, is_prime, is_line, begins, begins_comment, open_mark, close_mark, hex_mark, bin_mark, is_joined, first_test}
 
 -- At most one `_`, a letter of this case, then letters, digits and `_`, and finally any number of `'`.
@@ -125,43 +122,3 @@ tokens_of at first (token kind b ∷ ps) = record { kind = kind; first = first; 
 -- The list is the tokens of the text, with `End` last. Their number is not limited.
 abbrev pub Tokens : List ℕ → List Token → Type 0
 Tokens text ts = (ps : List Piece) × Pieces text ps [] × (ts ≡ tokens_of 0 true ps)
-
--- how many of the pieces are tokens
-abbrev pub count : List Piece → ℕ
-count [] = 0
-count (gap b ∷ ps) = count ps
-count (token kind b ∷ ps) = 1 + count ps
-
--- The text begins with no piece.
-abbrev pub NoPiece : List ℕ → Type 0
-NoPiece text = (p : Piece) (rest : List ℕ) → text ≡ bytes_of p ++ rest → IsPiece p rest → ⊥
-
--- The text begins with `/*`, with `"""`, or with a text literal that no `"` ends.
-abbrev pub OpensCommentOrText : List ℕ → Type 0
-OpensCommentOrText text =
-    (begins text open_mark ≡ true)
-    ⊎ ((begins_doc text ≡ true)
-    ⊎ ((begins_doc text ≡ false) × (first_test is_quote text ≡ true) × NeverEnds text))
-
--- The fault of a text that begins with no piece, and its place: a comment, text or doc that does not end, digits that
--- are no number, a text with a bad escape, or another byte.
-abbrev pub Faulty : List ℕ → ℕ → LexFault → Type 0
-Faulty text at (fault.BadByte p) = (p ≡ at) × NoPiece text × (0 < length text) × (begins text open_mark ≡ false) × (first_test is_ascii_digit text ≡ false) × (first_test is_quote text ≡ false)
-Faulty text at (fault.Unclosed p) = (p ≡ at) × NoPiece text × OpensCommentOrText text
-Faulty text at (fault.BadNumber p) = (p ≡ at) × NoPiece text × (first_test is_ascii_digit text ≡ true)
-Faulty text at (fault.BadEscape p) = (offset : ℕ) × (p ≡ at + offset) × NoPiece text × (begins_doc text ≡ false) × BadEscapeIn text offset
-Faulty text at (fault.TooMany p) = ⊥
-Faulty text at fault.Memory = ⊥
-
--- Whole pieces, at most the limit of tokens among them, and then a fault.
-abbrev pub FaultAfter : List ℕ → LexFault → Type 0
-FaultAfter text f = (ps : List Piece) × (rest : List ℕ) × (at : ℕ) × Pieces text ps rest × (count ps ≤ token_limit) × (at + length rest ≡ length text) × Faulty rest at f
-
--- Whole pieces, exactly the limit of tokens among them, and then one more token.
-abbrev pub TokenAfter : List ℕ → ℕ → Type 0
-TokenAfter text p = (ps : List Piece) × (kind : TokenKind) × (b rest : List ℕ) × Pieces text ps (b ++ rest) × IsToken kind b rest × (count ps ≡ token_limit) × (p + length (b ++ rest) ≡ length text)
-
--- The first fault of a text. Running out of memory is not one.
-abbrev pub FirstLexFault : List ℕ → LexFault → Type 0
-FirstLexFault text (fault.TooMany p) = TokenAfter text p
-FirstLexFault text f = FaultAfter text f

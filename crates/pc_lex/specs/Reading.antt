@@ -8,13 +8,13 @@ use Rattle.pc_token.specs.declared.kinds.Token.{Token}
 use Rattle.pc_lex.specs.declared.fault.LexFault.{LexFault}
 use Rattle.pc_lex.specs.declared.fault.LexFault.TheVariants as fault
 use Rattle.pc_lex.specs.Limits.{token_limit}
-use Rattle.pc_lex.specs.Texts.{is_quote, begins_doc}
+use Rattle.pc_lex.specs.Texts.{begins_doc}
+use Rattle.pc_lex.specs.Faults.{is_quote}
 use Rattle.pc_lex.specs.TextReading.{text_behind, unescape, doc_behind}
 use Rattle.pc_lex.specs.Pieces.{has_line_end}
 use Rattle.pc_token.specs.declared.kinds.TokenKind.{TokenKind}
 use Rattle.pc_token.specs.declared.kinds.TokenKind.TheVariants as kinds
-use Rattle.pc_token.specs.Words.{word_of}
-use Rattle.pc_token.specs.Signs.{sign_at}
+use Rattle.pc_token.specs.Finding.{word_of, sign_at}
 use Rattle.pc_lex.specs.declared.classes.Class.{Class}
 use Rattle.pc_lex.specs.declared.classes.Class.TheVariants as class
 use Rattle.pc_lex.specs.declared.pieces.Found.{Found}

@@ -1,11 +1,7 @@
 -- Text literals and docs.
-use Rattle.std.specs.Prelude.{◌≡◌, ℕ, ◌+◌, ◌*◌, ◌<◌, Bool, true, false, not, ◌||◌, ◌==◌, List, [], ◌∷◌, ◌++◌, length, take, drop, Option, Some, None, nat_eq, if◌then◌else◌, ◌⊎◌}
+use Rattle.std.specs.Prelude.{◌≡◌, ℕ, ◌+◌, ◌*◌, Bool, true, false, not, ◌||◌, ◌==◌, List, [], ◌∷◌, ◌++◌, Option, Some, None, nat_eq, if◌then◌else◌, ◌⊎◌}
 use Rattle.std.specs.List.{starts_with}
 use Rattle.std.specs.Char.{is_digit, digit_value}
-
--- `"`
-abbrev pub is_quote : ℕ → Bool
-is_quote b = b == 34
 
 -- neither `"` nor `\`
 abbrev pub is_plain : ℕ → Bool
@@ -32,23 +28,6 @@ Writes b v =
 abbrev pub Written : List ℕ → List ℕ → Type 0
 Written b [] = b ≡ []
 Written b (v ∷ vs) = (one rest : List ℕ) × (b ≡ one ++ rest) × Writes one v × Written rest vs
-
--- No byte of a value is spelled here.
-abbrev pub NoByte : List ℕ → Type 0
-NoByte text = (one rest : List ℕ) (v : ℕ) → text ≡ one ++ rest → Writes one v → ⊥
-
--- Between the quotes, the first bad escape is at this place: the bytes before it spell bytes of a value, and none is
--- spelled there.
-abbrev pub BadAt : List ℕ → ℕ → Type 0
-BadAt b at = (vs : List ℕ) × Written (take at b) vs × (at < length b) × NoByte (drop at b)
-
--- The text literal that begins the text ends, and its first bad escape is at this offset.
-abbrev pub BadEscapeIn : List ℕ → ℕ → Type 0
-BadEscapeIn text offset = (body rest : List ℕ) × (text ≡ 34 ∷ (body ++ 34 ∷ rest)) × BetweenQuotes body × (at : ℕ) × BadAt body at × (offset ≡ 1 + at)
-
--- No `"` ends the text literal that begins the text.
-abbrev pub NeverEnds : List ℕ → Type 0
-NeverEnds text = (body rest : List ℕ) → text ≡ 34 ∷ (body ++ 34 ∷ rest) → BetweenQuotes body → ⊥
 
 -- The bytes of a text literal with this value.
 abbrev pub TextBytes : List ℕ → List ℕ → Type 0

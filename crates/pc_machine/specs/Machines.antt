@@ -2,8 +2,8 @@
 use Rattle.std.specs.Prelude.{ℕ, List, refl}
 use Rattle.std.specs.Coded.{Coded, code_by, coded×, coded_list, coded_ℕ}
 use Rattle.std.specs.FinMap.{code}
-use Rattle.pc_heap.specs.Objects.{ObjectMap, coded_address}
-use Rattle.pc_heap.specs.Object.{coded_object}
+use Rattle.pc_heap.specs.Objects.{ObjectMap}
+use Rattle.pc_heap.specs.Coding.{coded_address, coded_object}
 use Rattle.pc_core.specs.CoreData.{CoreData}
 use Rattle.pc_core.specs.contracts.cores.Core as core
 use Rattle.pc_semantics.specs.declared.actors.Actor.{Actor}

@@ -3,7 +3,8 @@ ghost use Rattle.std.specs.Prelude.{◌≡◌, ◌<◌, ◌∷◌, [], Some, IsS
 ghost use Rattle.pc_heap.specs.declared.value.Value.TheVariants.{At};
 ghost use Rattle.std.specs.FinMap.{empty, insert, len};
 ghost use Rattle.pc_heap.specs.Heaps.{object_limit};
-ghost use Rattle.pc_heap.specs.Objects.{field_at, next_address, with_value};
+ghost use Rattle.pc_heap.specs.Objects.{next_address, with_value};
+ghost use Rattle.pc_heap.specs.Fields.{field_at};
 ghost use Rattle.pc_semantics.specs.Configurations as spec;
 ghost use Rattle.pc_machine.specs.States.{configuration_of};
 

@@ -1,6 +1,6 @@
 //! A referee that keeps what it was asked.
 ghost use Rattle.std.specs.Prelude.{◌≡◌, ◌↔◌, ◌<◌, [], Some, length, IfOk, IsTrue};
-ghost use Rattle.pc_valid.specs.Valid.{Holds};
+ghost use Rattle.pc_valid.specs.NoRule.{Holds};
 ghost use Rattle.pc_referee.specs.Asked.{pairs_after};
 
 use crate::Referee;

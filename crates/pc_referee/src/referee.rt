@@ -2,7 +2,7 @@
 ghost use Rattle.std.specs.Prelude.{◌≡◌, ◌↔◌, ◌<◌, ℕ, List, length, IfOk, IsTrue};
 ghost use Rattle.std.specs.declared.option.Option.{Option};
 ghost use Rattle.pc_ann.specs.declared.annotation.Note.{Note as NoteIs};
-ghost use Rattle.pc_valid.specs.Valid.{Holds};
+ghost use Rattle.pc_valid.specs.NoRule.{Holds};
 ghost use Rattle.pc_referee.specs.Asked.{asked_after};
 
 use pc_ann::Note;

@@ -1,6 +1,6 @@
 //! The rules as a referee.
 ghost use Rattle.std.specs.Prelude.{◌≡◌, ◌↔◌, ◌<◌, None, length, IfOk, IsOk, IsTrue};
-ghost use Rattle.pc_valid.specs.Valid.{Holds};
+ghost use Rattle.pc_valid.specs.NoRule.{Holds};
 
 use crate::Referee;
 use pc_ann::Note;

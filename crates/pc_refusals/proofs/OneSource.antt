@@ -3,7 +3,8 @@ use Rattle.std.proofs.Common.{◌≡◌, ◌<◌, ℕ, List, Option, Some, None,
 use Rattle.std.specs.Prelude.{Result, IsSome, codes}
 use Rattle.pc_core.specs.CoreData.{CoreData}
 use Rattle.pc_token.specs.declared.kinds.Token.{Token}
-use Rattle.pc_grammar.specs.FileAnswers.{OneFileAnswer, spelled, unexpected, too_deep}
+use Rattle.pc_grammar.specs.FileAnswers.{spelled, unexpected, too_deep}
+use Rattle.pc_grammar.specs.Laws.{OneFileAnswer}
 use Rattle.pc_lex.specs.Laws.{OneList, NotBoth, OneFault}
 use Rattle.pc_lex.specs.declared.fault.LexFault.{LexFault}
 use Rattle.pc_names.specs.Laws.{NotBoth as NotBothNames, OneFault as OneNameFault}

@@ -1,6 +1,6 @@
 -- The ranges of the statuses of refusals.
 use Rattle.std.proofs.Common.{◌≡◌, ◌≤◌, ◌⊎◌, ℕ, Err, inl, inr, refl, arith}
-use Rattle.pc_lex.specs.Pieces.{FirstLexFault}
+use Rattle.pc_lex.specs.Faults.{FirstLexFault}
 use Rattle.pc_lex.specs.declared.fault.LexFault.{LexFault}
 use Rattle.pc_lex.specs.declared.fault.LexFault.TheVariants as fault
 use Rattle.pc_deriv.specs.Faults.{IsFault}

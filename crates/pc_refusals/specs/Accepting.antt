@@ -1,9 +1,10 @@
 -- Sources whose core has a derivation.
 use Rattle.std.specs.Prelude.{ℕ, ◌≡◌, Result, Ok, Err, Some, codes}
 use Rattle.pc_ann.specs.declared.annotation.Ann.{Ann}
-use Rattle.pc_sub.specs.Declarations.{first_fault}
+use Rattle.pc_sub.specs.DeclarationFaults.{first_fault}
 use Rattle.pc_sub.specs.declared.faults.DeclFault.{DeclFault}
-use Rattle.pc_valid.specs.Valid.{Valid, NoRule, Unset}
+use Rattle.pc_valid.specs.Valid.{Valid}
+use Rattle.pc_valid.specs.NoRule.{NoRule, Unset}
 use Rattle.pc_lists.specs.Texts.{Text}
 use Rattle.pc_refusals.specs.After.{After}
 use Rattle.pc_refusals.specs.CoreFaults.{decl_offset, decl_text}

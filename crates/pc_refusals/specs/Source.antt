@@ -5,7 +5,7 @@ use Rattle.pc_token.specs.declared.kinds.Token.{Token}
 use Rattle.pc_grammar.specs.FileAnswers.{IsFileAnswer, spelled, unexpected, too_deep}
 use Rattle.pc_lex.specs.Answers.{TokenList}
 use Rattle.pc_lex.specs.Limits.{bytes_limit}
-use Rattle.pc_lex.specs.Pieces.{FirstLexFault}
+use Rattle.pc_lex.specs.Faults.{FirstLexFault}
 use Rattle.pc_lex.specs.declared.fault.LexFault.{LexFault}
 use Rattle.pc_core.specs.CoreData.{CoreData}
 use Rattle.pc_names.specs.Names.{IsNotMemory, IsNameFault}

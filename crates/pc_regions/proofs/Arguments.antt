@@ -13,7 +13,7 @@ use Rattle.pc_core.specs.CoreData.{CoreData}
 use Rattle.pc_lists.specs.Places.{Each}
 use Rattle.pc_ann.specs.declared.annotation.Ann.{Ann}
 use Rattle.pc_semantics.specs.Around.{popped}
-use Rattle.pc_sub.specs.Sub.{is_sub}
+use Rattle.pc_sub.specs.Computed.{is_sub}
 use Rattle.pc_rules.specs.Parts.{type_of}
 use Rattle.pc_valid.specs.Words.{Ty}
 use Rattle.pc_core.specs.Conforms.{ParamFits}

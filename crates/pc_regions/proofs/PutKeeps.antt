@@ -20,7 +20,7 @@ use Rattle.pc_semantics.specs.declared.frames.Frame.{Frame}
 use Rattle.pc_semantics.specs.declared.frames.Task.TheVariants as task
 use Rattle.pc_semantics.specs.Around.{Around, Writes, with_stack, pushed, value_or_none}
 use Rattle.pc_semantics.specs.Fields.{put_task}
-use Rattle.pc_sub.specs.Sub.{is_sub}
+use Rattle.pc_sub.specs.Computed.{is_sub}
 use Rattle.pc_rules.specs.Parts.{goes_to, type_of}
 use Rattle.pc_valid.specs.Words.{Ty, place}
 use Rattle.pc_types.proofs.Types.{OfType, OfSome}

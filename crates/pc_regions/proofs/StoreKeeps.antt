@@ -19,7 +19,7 @@ use Rattle.pc_semantics.specs.declared.frames.Frame.{Frame}
 use Rattle.pc_semantics.specs.declared.frames.Task.TheVariants as task
 use Rattle.pc_semantics.specs.Around.{Around, value_or_none, with_stack, with_top}
 use Rattle.pc_semantics.specs.Fields.{held, store, store_task}
-use Rattle.pc_sub.specs.Sub.{is_sub}
+use Rattle.pc_sub.specs.Computed.{is_sub}
 use Rattle.pc_rules.specs.Parts.{type_of}
 use Rattle.pc_valid.specs.Words.{Ty, Masks, before}
 use Rattle.pc_core.specs.declared.nodes.NodeKind.{NodeKind}

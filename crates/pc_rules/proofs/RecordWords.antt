@@ -30,7 +30,7 @@ use Rattle.pc_core.specs.Members.{method_among, field_found, field_missed, metho
 use Rattle.pc_lists.proofs.Gets.{get_below, get_front, get_append, get_map, range_get}
 use Rattle.pc_lists.proofs.Options.{bind_some, bind_is, kept}
 use Rattle.pc_lists.proofs.Bools.{false_true}
-use Rattle.pc_sub.specs.Sub.{is_sub}
+use Rattle.pc_sub.specs.Computed.{is_sub}
 use Rattle.pc_sub.specs.Agreement.{is_sub_iff}
 use Rattle.pc_masks.specs.declared.mask.Mask.{Mask}
 use Rattle.pc_ann.specs.declared.annotation.Note.{Note}

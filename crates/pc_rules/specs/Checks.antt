@@ -5,7 +5,8 @@ use Rattle.pc_ann.specs.declared.annotation.Rule.{Rule}
 use Rattle.pc_sub.specs.Declarations.{DeclOk}
 use Rattle.pc_rules.specs.Parts.{constructs, full}
 use Rattle.pc_valid.specs.Words.{Masks, Slots, before, masks_after}
-use Rattle.pc_valid.specs.Valid.{KeepsWritten, DifferAt}
+use Rattle.pc_valid.specs.Valid.{KeepsWritten}
+use Rattle.pc_valid.specs.NoRule.{DifferAt}
 use Rattle.pc_rules.specs.Control.{start_set}
 use Rattle.pc_rules.specs.Rules.{says, IsSaid, NoteIsSaid}
 use Rattle.pc_core.specs.declared.declarations.Method.{Method}

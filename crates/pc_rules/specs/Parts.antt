@@ -2,7 +2,7 @@
 use Rattle.std.specs.Prelude.{ℕ, ◌+◌, ◌-◌, Bool, true, false, ◌&&◌, ◌||◌, List, [], ◌∷◌, length, Option, Some, None, nat_eq, slice_get, if◌then◌else◌}
 use Rattle.pc_caps.specs.Order.{is_below}
 use Rattle.pc_caps.specs.Tables.{fits, sendable}
-use Rattle.pc_sub.specs.Sub.{is_sub}
+use Rattle.pc_sub.specs.Computed.{is_sub}
 use Rattle.pc_caps.specs.declared.capability.Cap.{Cap}
 use Rattle.pc_caps.specs.declared.capability.Form.{Form}
 use Rattle.pc_caps.specs.declared.capability.Form.TheVariants as form

@@ -14,7 +14,8 @@ use Rattle.pc_rules.specs.declared.said.Said.{Said}
 use Rattle.pc_rules.specs.Parts.{through}
 use Rattle.pc_valid.specs.Words.{Masks, Slots, before, Defines}
 use Rattle.pc_valid.specs.Rules.{Means}
-use Rattle.pc_valid.specs.Valid.{MeetsRule, Valid, NoRule, Unset}
+use Rattle.pc_valid.specs.Valid.{MeetsRule, Valid}
+use Rattle.pc_valid.specs.NoRule.{NoRule, Unset}
 use Rattle.pc_rules.specs.Rules.{says, said_by, IsSaid, NoteIsSaid, rule_says}
 use Rattle.pc_rules.specs.Checks.{Checks, SaysNothing, StaysUnset}
 use Rattle.pc_core.specs.Formed.{Formed}

@@ -2,7 +2,8 @@
 ghost use Rattle.std.specs.Prelude.{◌≡◌, ◌↔◌, ◌<◌, IsTrue, Some, false, length};
 ghost use Rattle.pc_valid.specs.Words.{before};
 ghost use Rattle.pc_rules.specs.Children.{HaveNotes, all_or_gathered};
-ghost use Rattle.pc_valid.specs.Valid.{MeetsRule, Holds};
+ghost use Rattle.pc_valid.specs.Valid.{MeetsRule};
+ghost use Rattle.pc_valid.specs.NoRule.{Holds};
 ghost use Rattle.pc_rules.specs.Rules as spec;
 
 use crate::calls::{builtin_says, call_says, callrecover_says, new_says, send_says, spawn_says};

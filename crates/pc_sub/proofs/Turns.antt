@@ -9,7 +9,7 @@ use Rattle.pc_core.specs.declared.declarations.ParamInfo.{ParamInfo}
 use Rattle.pc_core.specs.CoreData.{CoreData}
 use Rattle.pc_sub.specs.declared.faults.DeclFault.{DeclFault}
 use Rattle.pc_sub.specs.Conforms as conform
-use Rattle.pc_sub.specs.Declarations as spec
+use Rattle.pc_sub.specs.DeclarationFaults as spec
 use Rattle.pc_sub.specs.Faults.{passed, stopped}
 use Rattle.pc_lists.proofs.Cuts.{drop_item, item_first}
 

@@ -11,7 +11,8 @@ use Rattle.pc_sub.specs.declared.faults.DeclFault.{DeclFault}
 use Rattle.pc_sub.specs.Chain.{is_chain}
 use Rattle.pc_core.specs.Conforms.{Conforms}
 use Rattle.pc_sub.specs.Conforms as conform
-use Rattle.pc_sub.specs.Sub.{IsInterface, Sub, is_interface, is_sub}
+use Rattle.pc_sub.specs.Sub.{IsInterface, Sub}
+use Rattle.pc_sub.specs.Computed.{is_interface, is_sub}
 use Rattle.pc_sub.specs.Above.{is_chain_iff}
 use Rattle.pc_sub.specs.Faults.{conforms, conformed}
 

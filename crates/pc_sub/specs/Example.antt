@@ -14,8 +14,8 @@ use Rattle.pc_core.specs.declared.declarations.ParamInfo.{ParamInfo}
 use Rattle.pc_core.specs.CoreData.{CoreData}
 use Rattle.pc_core.specs.Entities.{nowhere}
 use Rattle.pc_sub.specs.declared.faults.DeclFault.TheVariants as fault
-use Rattle.pc_sub.specs.Declarations.{first_fault}
-use Rattle.pc_sub.specs.Sub.{is_sub}
+use Rattle.pc_sub.specs.DeclarationFaults.{first_fault}
+use Rattle.pc_sub.specs.Computed.{is_sub}
 
 -- An entity with these traits, and this number of methods from a number on.
 abbrev pub entity : EntityKind → List ℕ → (first count : ℕ) → EntityDef

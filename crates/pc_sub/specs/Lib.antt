@@ -10,3 +10,5 @@ pub mod Example
 pub mod Alike
 pub mod Groups
 pub mod Tables
+pub mod Computed
+pub mod DeclarationFaults

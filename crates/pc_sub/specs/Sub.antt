@@ -1,13 +1,11 @@
 -- When an entity is below another.
-use Rattle.std.specs.Prelude.{◌≡◌, ◌⊎◌, ℕ, Bool, true, false, ◌&&◌, ◌||◌, Option, Some, None, slice_get}
+use Rattle.std.specs.Prelude.{◌≡◌, ◌⊎◌, ℕ, Bool, true, false, Some, slice_get}
 use Rattle.pc_tree.specs.declared.kinds.EntityKind.{EntityKind}
 use Rattle.pc_tree.specs.declared.kinds.EntityKind.TheVariants as kind
 use Rattle.pc_core.specs.declared.declarations.EntityDef.{EntityDef}
 use Rattle.pc_core.specs.CoreData.{CoreData}
 use Rattle.pc_core.specs.Chain.{Chain}
 use Rattle.pc_core.specs.Conforms.{Conforms}
-use Rattle.pc_sub.specs.Chain.{is_chain}
-use Rattle.pc_sub.specs.Conforms.{conforms}
 
 -- For these kinds, an entity is below another that it does not name if it has the methods.
 abbrev pub is_structural : EntityKind → Bool
@@ -25,11 +23,3 @@ IsInterface core e = (x : EntityDef) × (slice_get core.entities e ≡ Some x) �
 -- conformance compares entities by chains alone.
 abbrev pub Sub : CoreData → (entity above : ℕ) → Type 0
 Sub core a b = Chain core a b ⊎ (IsInterface core b × Conforms core a b)
-
--- The same as it is computed.
-abbrev pub is_interface : Option EntityDef → Bool
-is_interface None = false
-is_interface (Some x) = is_structural x.kind
-
-abbrev pub is_sub : CoreData → (entity above : ℕ) → Bool
-is_sub core a b = is_chain core a b || (is_interface (slice_get core.entities b) && conforms core a b)

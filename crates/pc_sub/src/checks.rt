@@ -1,6 +1,7 @@
 //! Whether the declarations of a program fit each other.
 ghost use Rattle.std.specs.Prelude.{◌≡◌, ◌↔◌, IsOk, Some, None, MatchResult};
 ghost use Rattle.pc_sub.specs.Declarations as spec;
+ghost use Rattle.pc_sub.specs.DeclarationFaults as faults;
 
 use crate::faults::DeclFault;
 use crate::parameters::parameter_fault;
@@ -13,7 +14,7 @@ use pc_core::Core;
 #[tactic(auto, using(crate::specs::Faults::fits_without_fault))]
 pub fn declarations(core: &Core) -> Result<(), DeclFault>
     ensures ok { IsOk result ↔ spec.DeclOk core.now }
-    ensures fault { MatchResult result (λ v. spec.first_fault core.now ≡ None) (λ f. spec.first_fault core.now ≡ Some f) }
+    ensures fault { MatchResult result (λ v. faults.first_fault core.now ≡ None) (λ f. faults.first_fault core.now ≡ Some f) }
 {
     core.formed();
     match first_fault(core) {
@@ -25,7 +26,7 @@ pub fn declarations(core: &Core) -> Result<(), DeclFault>
 // The first declaration that fails.
 #[tactic(auto, using(crate::specs::Faults::passed, crate::specs::Faults::stopped))]
 fn first_fault(core: &Core) -> Option<DeclFault>
-    ensures { result ≡ spec.first_fault core.now }
+    ensures { result ≡ faults.first_fault core.now }
 {
     match parameter_fault(core) {
         None => entity_fault(core),

@@ -1,6 +1,7 @@
 //! Parameters that must be sendable.
 ghost use Rattle.std.specs.Prelude.{◌≡◌, ◌<◌, ◌^◌, length, slice_get};
 ghost use Rattle.pc_sub.specs.Declarations as spec;
+ghost use Rattle.pc_sub.specs.DeclarationFaults as faults;
 
 use crate::faults::DeclFault;
 use pc_caps::{Form, sendable};
@@ -27,7 +28,7 @@ fn takes_sendable(kind: MethodKind, form: Form) -> bool
 // The first parameter of this method that can't be sent.
 fn not_sendable(method: u32, params: &[ParamInfo]) -> Option<DeclFault>
     requires { length params.now < 2 ^ 32 }
-    ensures { result ≡ slice_get (spec.not_sendable method 0 params.now) 0 }
+    ensures { result ≡ slice_get (faults.not_sendable method 0 params.now) 0 }
 {
     let mut parameter = 0;
     for param in params {
@@ -42,7 +43,7 @@ fn not_sendable(method: u32, params: &[ParamInfo]) -> Option<DeclFault>
 // The first parameter of this method that must be sendable and is not.
 fn own_fault(number: u32, method: &Method) -> Option<DeclFault>
     requires { length method.now.params < 2 ^ 32 }
-    ensures { result ≡ slice_get (spec.own_faults number method.now) 0 }
+    ensures { result ≡ slice_get (faults.own_faults number method.now) 0 }
 {
     if takes_sendable(method.kind, method.result.1) {
         not_sendable(number, method.params.as_slice())
@@ -53,7 +54,7 @@ fn own_fault(number: u32, method: &Method) -> Option<DeclFault>
 
 // The first parameter of all methods that must be sendable and is not.
 pub(crate) fn parameter_fault(core: &Core) -> Option<DeclFault>
-    ensures { result ≡ slice_get (spec.parameter_faults 0 core.now.methods) 0 }
+    ensures { result ≡ slice_get (faults.parameter_faults 0 core.now.methods) 0 }
 {
     core.formed();
     let mut number = 0;

@@ -1,6 +1,7 @@
 //! The order on entities.
 ghost use Rattle.std.specs.Prelude.{◌≡◌, IsTrue, ◌↔◌, slice_get};
 ghost use Rattle.pc_sub.specs.Sub as spec;
+ghost use Rattle.pc_sub.specs.Computed as computed;
 
 use crate::chains::is_chain;
 use crate::conforming::conforms;
@@ -12,7 +13,7 @@ use pc_tree::EntityKind;
 #[tactic(auto, using(crate::specs::Agreement::is_sub_iff))]
 pub fn is_sub(core: &Core, entity: u32, above: u32) -> bool
     ensures order { IsTrue result ↔ spec.Sub core.now entity above }
-    ensures value { result ≡ spec.is_sub core.now entity above }
+    ensures value { result ≡ computed.is_sub core.now entity above }
 {
     core.formed();
     is_below(core, entity, above)
@@ -20,14 +21,14 @@ pub fn is_sub(core: &Core, entity: u32, above: u32) -> bool
 
 // The same as it is computed.
 fn is_below(core: &Core, entity: u32, above: u32) -> bool
-    ensures { result ≡ spec.is_sub core.now entity above }
+    ensures { result ≡ computed.is_sub core.now entity above }
 {
     is_chain(core, entity, above) || is_interface(core, above) && conforms(core, entity, above)
 }
 
 // Whether there is an interface with this number.
 fn is_interface(core: &Core, entity: u32) -> bool
-    ensures { result ≡ spec.is_interface (slice_get core.now.entities entity) }
+    ensures { result ≡ computed.is_interface (slice_get core.now.entities entity) }
 {
     match core.entity_at(entity) {
         None => false,

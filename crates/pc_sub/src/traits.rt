@@ -1,6 +1,6 @@
 //! What the traits and interfaces of an entity's `is` list require.
 ghost use Rattle.std.specs.Prelude.{◌≡◌, slice_get};
-ghost use Rattle.pc_sub.specs.Declarations as spec;
+ghost use Rattle.pc_sub.specs.DeclarationFaults as spec;
 
 use crate::conforming::conform_fault;
 use crate::faults::DeclFault;

@@ -3,7 +3,7 @@ use Rattle.std.proofs.Common.{◌≡◌, ℕ, ◌<◌, List, [], ◌∷◌, refl
 use Rattle.pc_token.specs.declared.signs.Sign.{Sign}
 use Rattle.pc_token.specs.declared.signs.Sign.TheVariants as sign
 use Rattle.pc_token.specs.declared.signs.TheConstants.{SIGNS}
-use Rattle.pc_token.specs.Signs.{first_sign, sign_at}
+use Rattle.pc_token.specs.Finding.{first_sign, sign_at}
 
 by_byte : (byte : ℕ) (signs : List Sign) → 0 < byte → ((bs : List ℕ) → first_sign signs (byte ∷ bs) ≡ sign_at (byte ∷ bs)) → (text : List ℕ) → slice_index_or text 0 0 ≡ byte → first_sign signs text ≡ sign_at text
 by_byte byte signs some same [] e = let none : 0 ≡ byte = e in absurd (omega (arith, some, none))

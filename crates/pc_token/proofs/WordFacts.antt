@@ -7,7 +7,8 @@ use Rattle.std.proofs.lemmas.Slice.Eq.{bytes_eq-Decides}
 use Rattle.pc_token.specs.declared.words.Word.{Word}
 use Rattle.pc_token.specs.declared.words.Word.TheVariants as word
 use Rattle.pc_token.specs.declared.words.TheConstants.{WORDS}
-use Rattle.pc_token.specs.Words.{word_text, first_word, word_of}
+use Rattle.pc_token.specs.Words.{word_text}
+use Rattle.pc_token.specs.Finding.{first_word, word_of}
 use Rattle.pc_lists.proofs.Options.{none_some}
 use Rattle.std.proofs.lemmas.Option.{same_Some}
 

@@ -3,8 +3,9 @@ use Rattle.std.specs.Prelude.{◌≡◌, ◌≤◌, ℕ, List, length, Some, Non
 use Rattle.std.specs.List.{starts_with}
 use Rattle.pc_token.specs.declared.words.Word.{Word}
 use Rattle.pc_token.specs.declared.signs.Sign.{Sign}
-use Rattle.pc_token.specs.Words.{word_text, word_of}
-use Rattle.pc_token.specs.Signs.{sign_text, sign_at}
+use Rattle.pc_token.specs.Words.{word_text}
+use Rattle.pc_token.specs.Finding.{word_of, sign_at}
+use Rattle.pc_token.specs.Signs.{sign_text}
 
 -- Each word is found by its spelling.
 abbrev pub WordFound : Type 0

@@ -1,9 +1,7 @@
 -- The reserved words and their spellings.
-use Rattle.std.specs.Prelude.{ℕ, List, [], ◌∷◌, Option, Some, None, if◌then◌else◌, codes}
-use Rattle.std.specs.Str.{bytes_eq}
+use Rattle.std.specs.Prelude.{ℕ, List, if◌then◌else◌, codes}
 use Rattle.pc_token.specs.declared.words.Word.{Word}
 use Rattle.pc_token.specs.declared.words.Word.TheVariants as word
-use Rattle.pc_token.specs.declared.words.TheConstants.{WORDS}
 
 -- the spelling of a word
 abbrev pub word_text : Word → List ℕ
@@ -66,12 +64,3 @@ word_text word.CompileErrorWord = codes "compile_error"
 word_text word.CompileIntrinsicWord = codes "compile_intrinsic"
 word_text word.AddressofWord = codes "addressof"
 word_text word.DigestofWord = codes "digestof"
-
--- the first of these words with this spelling
-abbrev pub first_word : List Word → List ℕ → Option Word
-first_word [] text = None
-first_word (w ∷ ws) text = if bytes_eq (word_text w) text then Some w else first_word ws text
-
--- the word with this spelling
-unfoldable pub word_of : List ℕ → Option Word
-word_of = first_word WORDS

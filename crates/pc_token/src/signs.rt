@@ -1,6 +1,7 @@
 //! The signs, and the longest one that a text begins with.
 ghost use Rattle.std.specs.Prelude.{◌≡◌, ◌≤◌, length, IfSome};
 ghost use Rattle.pc_token.specs.Signs as spec;
+ghost use Rattle.pc_token.specs.Finding as finding;
 
 /// A sign.
 #[derive(Clone, Copy, Debug, PartialEq, Eq)]
@@ -105,7 +106,7 @@ pub fn sign_text(sign: Sign) -> &'static [u8]
 
 /// The first of these signs with which the text begins, and its length.
 fn find_sign(signs: &[Sign], text: &[u8]) -> Option<(Sign, usize)>
-    ensures value { result ≡ spec.first_sign signs.now text.now }
+    ensures value { result ≡ finding.first_sign signs.now text.now }
     ensures within { IfSome result (λ found. found.1 ≤ length text.now) }
 {
     for sign in signs {
@@ -120,7 +121,7 @@ fn find_sign(signs: &[Sign], text: &[u8]) -> Option<(Sign, usize)>
 /// The longest sign with which the text begins, and its length. Only signs that begin with the first byte of the text
 /// are tried.
 pub fn sign_at(text: &[u8]) -> Option<(Sign, usize)>
-    ensures value { result ≡ spec.sign_at text.now }
+    ensures value { result ≡ finding.sign_at text.now }
     ensures within { IfSome result (λ found. found.1 ≤ length text.now) }
 {
     if text.is_empty() {

@@ -1,6 +1,7 @@
 //! The reserved words and their spellings.
 ghost use Rattle.std.specs.Prelude.{◌≡◌};
 ghost use Rattle.pc_token.specs.Words as spec;
+ghost use Rattle.pc_token.specs.Finding as finding;
 
 /// A reserved word, named by its spelling. No name is spelled like one.
 ///
@@ -280,7 +281,7 @@ pub fn word_text(word: Word) -> &'static [u8]
 /// The first of some words with this spelling. Where it is inlined, the words are known, and so are their lengths.
 #[inline(always)]
 fn find_word(words: &[Word], text: &[u8]) -> Option<Word>
-    ensures { result ≡ spec.first_word words.now text.now }
+    ensures { result ≡ finding.first_word words.now text.now }
 {
     for word in words {
         if word_text(*word) == text {
@@ -292,7 +293,7 @@ fn find_word(words: &[Word], text: &[u8]) -> Option<Word>
 
 /// The word with this spelling. Only words that begin with the first byte of the text are tried.
 pub fn word_of(text: &[u8]) -> Option<Word>
-    ensures { result ≡ spec.word_of text.now }
+    ensures { result ≡ finding.word_of text.now }
 {
     if text.is_empty() {
         return find_word(&WORDS, text);

@@ -6,7 +6,7 @@ use Rattle.pc_caps.specs.Tables.{unalias, fits}
 use Rattle.pc_caps.specs.declared.capability.Cap.{Cap}
 use Rattle.pc_core.specs.CoreData.{CoreData}
 use Rattle.pc_ann.specs.declared.annotation.Ann.{Ann}
-use Rattle.pc_sub.specs.Sub.{is_sub}
+use Rattle.pc_sub.specs.Computed.{is_sub}
 use Rattle.pc_sub.specs.Agreement.{is_sub_iff}
 use Rattle.pc_rules.specs.Parts.{goes_to}
 use Rattle.pc_valid.specs.Words.{Ty}

@@ -23,7 +23,8 @@ use Rattle.pc_valid.specs.Words.{before}
 use Rattle.pc_valid.specs.Valid.{KeepsWritten, MeetsRule, Valid}
 use Rattle.pc_rules.specs.Rules.{IsSaid, said_by, says}
 use Rattle.pc_rules.proofs.Derivations.{rule_to, to_rule}
-use Rattle.pc_sub.specs.Declarations.{DeclOk, first_fault}
+use Rattle.pc_sub.specs.Declarations.{DeclOk}
+use Rattle.pc_sub.specs.DeclarationFaults.{first_fault}
 use Rattle.pc_sub.specs.Faults.{fits_without_fault}
 use Rattle.pc_sub.specs.declared.faults.DeclFault.{DeclFault}
 use Rattle.pc_refusals.specs.Derivation.{Judging, judge_line}

@@ -34,7 +34,8 @@ use Rattle.pc_rules.specs.Trees.{Forest, Tree, body_tree, tree_le}
 use Rattle.pc_valid.specs.Valid.{Valid}
 use Rattle.pc_rules.specs.Checks.{StartsFrom, is_else}
 use Rattle.pc_rules.specs.Checks.StartsFrom.{body, else_branch, first_child, next_child}
-use Rattle.pc_sub.specs.Declarations.{DeclOk, first_fault}
+use Rattle.pc_sub.specs.Declarations.{DeclOk}
+use Rattle.pc_sub.specs.DeclarationFaults.{first_fault}
 use Rattle.pc_sub.specs.Faults.{fits_without_fault}
 use Rattle.pc_sub.specs.declared.faults.DeclFault.{DeclFault}
 use Rattle.pc_refusals.specs.Accepting.{Typing}

@@ -8,7 +8,7 @@ use Rattle.pc_core.specs.declared.declarations.EntityDef.{EntityDef}
 use Rattle.pc_core.specs.declared.declarations.Method.{Method}
 use Rattle.pc_lists.specs.Texts.{Text}
 use Rattle.pc_sub.specs.Conforms.{method_like}
-use Rattle.pc_sub.specs.Sub.{is_interface}
+use Rattle.pc_sub.specs.Computed.{is_interface}
 use Rattle.pc_window.specs.Quoting.{quoted}
 use Rattle.pc_words.specs.Forms.{name_text}
 use Rattle.pc_words.specs.Methods.{full_method_name}

@@ -1,6 +1,6 @@
 use Rattle.std.proofs.Common.{◌≡◌, drop}
 use Rattle.std.specs.Prelude.{slice_get}
-use Rattle.pc_sub.specs.Declarations as spec
+use Rattle.pc_sub.specs.DeclarationFaults as spec
 use Rattle.pc_sub.proofs.traits.list_fault.Given as goal
 
 abbrev pub invariant-loop-above : goal.invariant-loop-above

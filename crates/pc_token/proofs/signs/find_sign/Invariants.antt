@@ -1,5 +1,5 @@
 use Rattle.std.proofs.Common.{◌≡◌, drop}
-use Rattle.pc_token.specs.Signs.{first_sign}
+use Rattle.pc_token.specs.Finding.{first_sign}
 use Rattle.pc_token.proofs.signs.find_sign.Given as goal
 
 abbrev pub invariant-loop-sign : goal.invariant-loop-sign

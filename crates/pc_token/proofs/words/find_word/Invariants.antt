@@ -1,5 +1,5 @@
 use Rattle.std.proofs.Common.{◌≡◌, drop}
-use Rattle.pc_token.specs.Words.{first_word}
+use Rattle.pc_token.specs.Finding.{first_word}
 use Rattle.pc_token.proofs.words.find_word.Given as goal
 
 abbrev pub invariant-loop-word : goal.invariant-loop-word
