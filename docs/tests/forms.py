@@ -33,7 +33,7 @@ CODE = re.compile(r"`[^`\n]*`")
 LINK = re.compile(r"\]\(([^)#\s]*)(?:#([^)\s]*))?\)")
 
 # The folders at the top. Comments in them cite pages.
-FOLDERS = ("bench", "crates", "docs", "examples", "launcher", "lessons", "lib", "tools", "view")
+FOLDERS = ("bench", "crates", "docs", "examples", "launcher", "lessons", "lib", "rows", "tools", "view")
 
 # What is a path: a file by its ending, or anything in one of these folders.
 FILE = re.compile(r"[\w./-]*\w\.(antt|rt|py|md|pony|sched|c|txt|edit)")

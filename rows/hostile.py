@@ -1,0 +1,47 @@
+"""Derivations and schedules that are cut short, huge or crafted."""
+
+from programs import HELLO, ONE_OBJECT
+from steps import ANY, Row
+from tables import CHECK, JUDGE, RUN, answered, refusals, refused
+
+DERIVATIONS = [
+    ("no bytes", ONE_OBJECT, b"", 5, b"a.der:1: bad line\n"),
+    ("more nodes than a number has", ONE_OBJECT, b"rcap-derivation 1 0 4294967296\n", 5, b"a.der:1: bad line\n"),
+    ("too many slots", ONE_OBJECT, b"rcap-derivation 1 640001 0\n", 8, b"a.der: too many lines\n"),
+    ("no slots and no nodes", ONE_OBJECT, b"rcap-derivation 1 0 0\n", 6, b"a.der: shape\n"),
+]
+
+SCHEDULES = [
+    ("more turns than a number has", HELLO, b"4294967296", 7, b"a.sched:1:1: bad word\n"),
+    ("an actor of eleven digits", HELLO, b"00000000001", 7, b"a.sched:1:1: bad word\n"),
+    ("two signs", HELLO, b"1**2", 7, b"a.sched:1:1: bad word\n"),
+    ("one turn too many of an actor", HELLO, b"0*1000001", 8, b"a.sched:1:1: too many steps\n"),
+    ("one turn too many", HELLO, b"1*1000000 1", 8, b"a.sched:1:11: too many steps\n"),
+    ("the first fault of two", HELLO, b"1*1000001 x", 8, b"a.sched:1:1: too many steps\n"),
+]
+
+
+def longer(answers):
+    """The derivation of the first step, with one more line end."""
+    return answers[0].out + b"\n"
+
+
+def shorter(answers):
+    """The derivation of the first step, without its last two bytes."""
+    return answers[0].out[:-2]
+
+
+WRITTEN = Row(
+    "a derivation that was written is refused with one more line, and without its last two bytes",
+    (
+        answered(CHECK, ONE_OBJECT, b"", ANY),
+        refused(JUDGE, ONE_OBJECT, longer, 5, b"a.der:13: bad line\n"),
+        refused(JUDGE, ONE_OBJECT, shorter, 5, b"a.der:12: bad line\n"),
+    ),
+)
+
+ROWS = [
+    *refusals("hostile derivations are refused at their first fault", JUDGE, DERIVATIONS),
+    WRITTEN,
+    *refusals("hostile schedules are refused at their first fault", RUN, SCHEDULES),
+]

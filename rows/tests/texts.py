@@ -1,0 +1,64 @@
+"""Texts that are too long to be written down, each made by a small function."""
+
+
+def numbered(before, count, after):
+    """This many texts, each with its number, counted from 0, between two others."""
+    return b"".join(b"%s%d%s" % (before, number, after) for number in range(count))
+
+
+def spaces(size):
+    """This many spaces."""
+    return b" " * size
+
+
+def in_groups(count):
+    """A Main whose body is this number of `(`, a number, and as many `)`."""
+    return b"actor Main\n  new create(env: Env) =>\n    " + b"(" * count + b"1" + b")" * count + b"\n"
+
+
+def opened(count):
+    """A Main whose body is this number of `(`."""
+    return b"actor Main new create(env: Env) => " + b"(" * count
+
+
+def main_with_locals(count):
+    """A Main whose body defines this many locals, each on a line of its own."""
+    return b"class C\nactor Main\n  new create(env: Env) =>\n" + numbered(b"    let a", count, b": C tag = C\n")
+
+
+def main_with_text(size):
+    """A Main with a text of this many bytes as its body."""
+    return b'actor Main\n  new create(env: Env) => "' + b"x" * size + b'"\n'
+
+
+def main_that_joins(size):
+    """A Main that prints a text of this many bytes joined with one more."""
+    return b'actor Main\n  new create(env: Env) => env.out.print("' + b"x" * size + b'" + "x")\n'
+
+
+def classes(count, main):
+    """This many classes, followed by a Main."""
+    return numbered(b"class C", count, b"\n") + main
+
+
+def class_with_fields(count, main):
+    """A class with this number of fields, and a Main."""
+    return b"class C\n" + numbered(b"  let f", count, b": U64 = 1\n") + main
+
+
+def methods(last, main):
+    """A trait of a hundred methods and one that takes them over, 97 classes of 99 methods and the constructor that is added, a
+    class with this many methods and its constructor, and a Main: 9,902 methods and those of the last class."""
+    bodies = numbered(b"  fun m", 99, b"() => None\n")
+    parts = [b"trait T\n", numbered(b"  fun m", 100, b"()\n"), b"trait U is T\n"]
+    parts += [b"class C%d\n" % number + bodies for number in range(97)]
+    return b"".join(parts) + b"class Last\n" + numbered(b"  fun m", last, b"() => None\n") + main
+
+
+def nodes(main):
+    """A class whose 99 constructors have 2,000 nodes each: the 1,995 of the field's initial value, a sum of 998 ones, a write of
+    the field with its `this`, None, a sequence and a body. Its method has 1,997, of which 1,995 are such a sum. After the class
+    comes a Main whose body is a sequence with what is given; with the sequence and the body themselves that is two nodes more."""
+    ones = b"1" + b" + 1" * 997
+    made = numbered(b"  new c", 99, b"() => None\n")
+    return b"class C\n  var f: U64 = " + ones + b"\n" + made + b"  fun sum(): U64 => " + ones + main
