@@ -102,3 +102,21 @@ def same_run(title, source, seed):
         Step(RUN, {"a.pony": source, "a.sched": lambda answers: answers[0].out}, STATUS_BEFORE, OUT_BEFORE, ANY),
     )
     return Row(title, steps)
+
+
+PLACES = ("places", "a.pony")
+
+
+def fits_names(source):
+    """A source whose names have no fault: it has a core, whatever its types are."""
+    return Step(PLACES, files(source), 0, SOME)
+
+
+def name_faults(title, rows):
+    """For each name a source, and the status and the line of the fault that `check` and `places` find in its names, or nothing
+    if they have none."""
+    made = []
+    for name, source, fault in rows:
+        steps = (refused(CHECK, source, b"", *fault), refused(PLACES, source, b"", *fault)) if fault else (fits_names(source),)
+        made.append(Row(named(title, name), steps))
+    return made

@@ -62,3 +62,30 @@ def nodes(main):
     ones = b"1" + b" + 1" * 997
     made = numbered(b"  new c", 99, b"() => None\n")
     return b"class C\n  var f: U64 = " + ones + b"\n" + made + b"  fun sum(): U64 => " + ones + main
+
+
+def chain(count, methods=0, closed=False):
+    """This many traits, each of which names the next one in a line of 19 bytes and has this many methods. The last one names the
+    first, if the chain is closed."""
+    bodies = numbered(b"  fun m", methods, b"()\n")
+    parts = [b"trait T%03d is T%03d\n%s" % (number, number + 1, bodies) for number in range(count - 1)]
+    return b"".join(parts) + b"trait T%03d%s\n%s" % (count - 1, b" is T000" if closed else b"", bodies)
+
+
+def methods_above(count, main):
+    """A Main with one method, a trait with a thousand, one that takes them over, a class with an added constructor, and a
+    primitive with this many."""
+    declared = b"trait A\n" + numbered(b"  fun m", 1_000, b"()\n") + b"trait B is A\nclass C is A\n"
+    return main + declared + b"primitive D\n" + numbered(b"  fun m", count, b"() => None\n")
+
+
+def methods_taken_over(count, main):
+    """A Main with one method, a primitive with this many, a trait with a thousand bodies, and a class that takes them over, with
+    an added constructor."""
+    bodies = b"trait A\n" + numbered(b"  fun m", 1_000, b"() => None\n")
+    return main + b"primitive D\n" + numbered(b"  fun m", count, b"() => None\n") + bodies + b"class C is A\n"
+
+
+def classes_with_names(one, other, main):
+    """Two classes with names of these lengths in bytes, and a Main."""
+    return b"class " + b"L" * one + b"\nclass " + b"L" * other + b"\n" + main

@@ -1,4 +1,4 @@
-//! Whole programs, parts of programs, and derivations, for the tests.
+//! Derivations for the tests.
 
 /// The derivation of `ONE_OBJECT` in version 1.
 pub(crate) const FIRST: &[u8] = b"rcap-derivation 1 4 7\ns 6 ref\ns 7 ref\ns 4 val\ns 6 iso\n\
@@ -9,18 +9,3 @@ n seq - 3 0 3 0\nn body - 3 0 3 0\n";
 pub(crate) const SECOND: &[u8] = b"rcap-derivation 2 4 7\ns 6 ref\ns 7 ref\ns 4 val\ns 6 iso\n\
 n prim 0 val 1 0 0 0\nn seq 0 val 1 0 0 0\nn body - 1 0 0 0\nn new 6 iso^ 3 0 0 0\nn define - 3 0 4 0\n\
 n seq - 3 0 0 0\nn body - 3 0 0 0\n";
-
-/// A Main that does nothing.
-pub(crate) const IDLE: &[u8] = b"actor Main\n  new create(env: Env) => None\n";
-
-/// A class, and a Main whose items are to follow.
-pub(crate) const OPEN: &[u8] = b"class C\nactor Main\n  new create(env: Env) =>\n";
-
-/// Numbers that wrap, and a quotient by zero.
-pub(crate) const NUMBERS: &[u8] = b"\
-actor Main
-  new create(env: Env) =>
-    env.out.print(((1 + 2) * 3).string())
-    env.out.print((18446744073709551615 + 1).string())
-    env.out.print((7 / 0).string())
-";

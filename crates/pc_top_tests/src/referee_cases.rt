@@ -1,6 +1,5 @@
 //! What a referee that records the nodes which it found right has recorded after each command.
 
-use crate::rows::{CHECK, JUDGE, UPGRADE};
 use crate::running::files_of;
 use pc_io::{MemFiles, MemSink};
 use pc_referee::ListReferee;
@@ -9,6 +8,12 @@ use pc_test_inputs::{LINES, LINES2, NODES, note, variant_of};
 use pc_top::rcap;
 use std::alloc::{AllocError, Global};
 use std::process::Abort;
+
+const CHECK: &[&str] = &["check", "a.pony"];
+
+const JUDGE: &[&str] = &["judge", "a.pony", "a.der"];
+
+const UPGRADE: &[&str] = &["upgrade", "a.pony", "a.der"];
 
 /// The words of a command on `ONE_OBJECT` and its derivation, the line of node 3 in the derivation, the status, and how
 /// many nodes are recorded.

@@ -1,164 +1,225 @@
-//! `run` on whole programs: what is written under which schedule, and what is refused.
+//! Commands that run a program: what is one call of `put`, and what a command does if a read or a write fails.
 
-use crate::programs::NUMBERS;
-use crate::rows::{
-    Answered, Failure, NONE, RUN, Refused, all_answered, all_fail, all_refused, answers,
-    refuses_made, tells,
-};
-use crate::running::{Differs, Wanted};
-use crate::texts::spaces;
-use pc_test_inputs::programs::{BANK, CHAIN, DOUBLES, HELLO, READERS};
-use std::alloc::{AllocError, Global};
+use crate::running::{Command, NONE, Row, all_do};
+use pc_test_inputs::programs::{DOUBLES, HELLO, READERS};
 
-const TRUTHS: &[u8] = b"\
-actor Main
-  new create(env: Env) =>
-    env.out.print(true.string())
-    env.out.print(false.string())
-";
-
-/// A primitive and an object, each called by its name alone.
-const APPLIED: &[u8] = b"\
-primitive P
-  fun apply(n: U64): U64 => n + 1
-class C
-  fun apply(): String => \"c\"
-actor Main
-  new create(env: Env) =>
-    let c: C = C
-    env.out.print(c())
-    env.out.print(P(1).string())
-";
-
-const RUNS: &[Answered<'_>] = &[
+const RUN_HELLO: &[Row<'_>] = &[
     (
-        HELLO,
-        b"1*10 0",
-        b"hi\nsteps 11 skipped 0 actors 2 objects 3 waiting 0\n",
+        0,
+        NONE,
+        NONE,
+        0,
+        (b"hi\nsteps 11 skipped 0 actors 2 objects 3 waiting 0\n", 2),
+        (b"", 0),
+    ),
+    (0, (1, 1), NONE, 10, (b"h", 1), (b"", 0)),
+    (0, (2, 1), NONE, 10, (b"hi\ns", 2), (b"", 0)),
+    // The text was written in full, and two bytes of the numbers.
+    (0, (2, 2), NONE, 10, (b"hi\nst", 2), (b"", 0)),
+];
+
+const RUN_READERS: &[Row<'_>] = &[
+    (
+        0,
+        NONE,
+        NONE,
+        0,
+        (
+            b"5\n5\nsteps 103 skipped 0 actors 4 objects 6 waiting 0\n",
+            3,
+        ),
+        (b"", 0),
+    ),
+    (0, (1, 1), NONE, 10, (b"5", 1), (b"", 0)),
+    (0, (2, 1), NONE, 10, (b"5\n5", 2), (b"", 0)),
+    (0, (3, 1), NONE, 10, (b"5\n5\ns", 3), (b"", 0)),
+];
+
+const RUN_DOUBLES: &[Row<'_>] = &[
+    (
+        0,
+        NONE,
+        NONE,
+        12,
+        (b"go\n", 1),
+        (b"a.sched: text too long at step 157\n", 1),
+    ),
+    (0, (1, 1), NONE, 10, (b"g", 1), (b"", 0)),
+    (0, NONE, (1, 2), 10, (b"go\n", 1), (b"a.", 1)),
+    (0, NONE, (1, 7), 10, (b"go\n", 1), (b"a.sched", 1)),
+];
+
+const MAKE: &[Row<'_>] = &[
+    (
+        0,
+        NONE,
+        NONE,
+        0,
+        (
+            b"seed 0 size 1 nodes 37\n468\nsteps 62 skipped 740 actors 3 objects 5 waiting 0\n",
+            3,
+        ),
+        (b"", 0),
+    ),
+    (0, (1, 1), NONE, 10, (b"s", 1), (b"", 0)),
+    (
+        0,
+        (2, 1),
+        NONE,
+        10,
+        (b"seed 0 size 1 nodes 37\n4", 2),
+        (b"", 0),
     ),
     (
-        HELLO,
-        b"",
-        b"steps 0 skipped 0 actors 2 objects 3 waiting 1\n",
+        0,
+        (3, 1),
+        NONE,
+        10,
+        (b"seed 0 size 1 nodes 37\n468\ns", 3),
+        (b"", 0),
     ),
-    // No other actor takes the turn of one that does not exist.
+    (0, (1, 4), NONE, 10, (b"seed", 1), (b"", 0)),
     (
-        HELLO,
-        b"7*5",
-        b"steps 0 skipped 5 actors 2 objects 3 waiting 1\n",
+        0,
+        (2, 0),
+        NONE,
+        10,
+        (b"seed 0 size 1 nodes 37\n", 2),
+        (b"", 0),
     ),
     (
-        CHAIN,
-        b"1*53 2*52 0",
-        b"3\nsteps 106 skipped 0 actors 3 objects 7 waiting 0\n",
+        0,
+        (3, 5),
+        NONE,
+        10,
+        (b"seed 0 size 1 nodes 37\n468\nsteps", 3),
+        (b"", 0),
     ),
+];
+
+const SWAP: &[Row<'_>] = &[
+    (0, NONE, NONE, 0, (b"1*9 0 1\n", 1), (b"", 0)),
+    (0, (1, 1), NONE, 10, (b"1", 1), (b"", 0)),
+    (0, (1, 0), NONE, 10, (b"", 1), (b"", 0)),
+    (0, (1, 4), NONE, 10, (b"1*9 ", 1), (b"", 0)),
+    (1, NONE, NONE, 9, (b"", 0), (b"a.pony: cannot be read\n", 1)),
     (
+        2,
+        NONE,
+        NONE,
+        9,
+        (b"", 0),
+        (b"a.sched: cannot be read\n", 1),
+    ),
+];
+
+const TRACE: &[Row<'_>] = &[
+    (
+        0,
+        NONE,
+        NONE,
+        0,
+        (b"8 1 read 0.1 0 clock 0,8\naccesses 1 ordered\n", 1),
+        (b"", 0),
+    ),
+    (0, (1, 1), NONE, 10, (b"8", 1), (b"", 0)),
+    (1, NONE, NONE, 9, (b"", 0), (b"a.pony: cannot be read\n", 1)),
+    (
+        2,
+        NONE,
+        NONE,
+        9,
+        (b"", 0),
+        (b"a.sched: cannot be read\n", 1),
+    ),
+    (0, (1, 0), NONE, 10, (b"", 1), (b"", 0)),
+    (0, (1, 8), NONE, 10, (b"8 1 read", 1), (b"", 0)),
+    // There is no second call on out whose failure would be reported.
+    (
+        0,
+        (2, 0),
+        NONE,
+        0,
+        (b"8 1 read 0.1 0 clock 0,8\naccesses 1 ordered\n", 1),
+        (b"", 0),
+    ),
+];
+
+const RUN_HELLO_WAITING: &[Row<'_>] = &[
+    (0, (1, 0), NONE, 10, (b"", 1), (b"", 0)),
+    (0, (1, 2), NONE, 10, (b"hi", 1), (b"", 0)),
+    (0, (2, 5), NONE, 10, (b"hi\nsteps", 2), (b"", 0)),
+    (1, NONE, NONE, 9, (b"", 0), (b"a.pony: cannot be read\n", 1)),
+    (
+        2,
+        NONE,
+        NONE,
+        9,
+        (b"", 0),
+        (b"a.sched: cannot be read\n", 1),
+    ),
+];
+
+const EVENTS: &[Row<'_>] = &[
+    (1, NONE, NONE, 9, (b"", 0), (b"a.pony: cannot be read\n", 1)),
+    (
+        2,
+        NONE,
+        NONE,
+        9,
+        (b"", 0),
+        (b"a.sched: cannot be read\n", 1),
+    ),
+    (0, (1, 0), NONE, 10, (b"", 1), (b"", 0)),
+    (0, (1, 8), NONE, 10, (b"1 1 take", 1), (b"", 0)),
+];
+
+const SCHEDULE: &[Row<'_>] = &[
+    (0, (1, 4), NONE, 10, (b"1*10", 1), (b"", 0)),
+    (1, NONE, NONE, 9, (b"", 0), (b"a.pony: cannot be read\n", 1)),
+];
+
+const PLAY: &[Row<'_>] = &[
+    (0, (1, 2), NONE, 10, (b"hi", 1), (b"", 0)),
+    (0, (2, 5), NONE, 10, (b"hi\nsteps", 2), (b"", 0)),
+    (1, NONE, NONE, 9, (b"", 0), (b"a.pony: cannot be read\n", 1)),
+];
+
+const OUTCOMES: &[Row<'_>] = &[
+    (0, (1, 6), NONE, 10, (b"seed 0", 1), (b"", 0)),
+    (1, NONE, NONE, 9, (b"", 0), (b"a.pony: cannot be read\n", 1)),
+];
+
+const COMMANDS: &[Command<'_>] = &[
+    (&["run", "a.pony", "a.sched"], HELLO, b"1*10 0", RUN_HELLO),
+    (
+        &["run", "a.pony", "a.sched"],
         READERS,
         b"1*43 2*13 3*13 2*9 3*9 2 3 2*6 3*6 0*2",
-        b"5\n5\nsteps 103 skipped 0 actors 4 objects 6 waiting 0\n",
+        RUN_READERS,
     ),
     (
-        NUMBERS,
-        b"1*100 0*3",
-        b"9\n0\n0\nsteps 49 skipped 54 actors 2 objects 3 waiting 0\n",
+        &["run", "a.pony", "a.sched"],
+        DOUBLES,
+        b"1*9 0 1*1000",
+        RUN_DOUBLES,
     ),
+    (&["make", "0", "1"], b"", b"", MAKE),
+    (&["swap", "a.pony", "a.sched", "10"], HELLO, b"1*10 0", SWAP),
+    (&["trace", "a.pony", "a.sched"], HELLO, b"1*10 0", TRACE),
     (
-        BANK,
-        b"1*200 2*300 3*300 0*10",
-        b"ann: 70\nrefused 500\nbob: 0\nsteps 296 skipped 514 actors 4 objects 7 waiting 0\n",
-    ),
-    (
-        TRUTHS,
-        b"1*21 0*2",
-        b"true\nfalse\nsteps 23 skipped 0 actors 2 objects 3 waiting 0\n",
-    ),
-    (
-        APPLIED,
-        b"1*44 0*2",
-        b"c\n2\nsteps 46 skipped 0 actors 2 objects 4 waiting 0\n",
-    ),
-];
-
-#[test]
-fn runs_write_their_text(rt: HostRuntime) {
-    all_answered(&rt, rt.alloc(), RUN, RUNS);
-}
-
-const NUMBER: &[u8] =
-    b"actor A\n  be take(n: U64) => None\nactor Main\n  new create(env: Env) => A\n";
-
-const UNSENDABLE: &[u8] =
-    b"class C\nactor A\n  be take(c: C ref) => None\nactor Main\n  new create(env: Env) => A\n";
-
-const REFUSED: &[Refused<'_>] = &[
-    (HELLO, b"7 1*0 x", 7, b"a.sched:1:7: bad word\n"),
-    (
+        &["run", "a.pony", "a.sched"],
         HELLO,
-        b"1*999999\n0 1\n2",
-        8,
-        b"a.sched:2:3: too many steps\n",
+        b"1*9 0 1*1000",
+        RUN_HELLO_WAITING,
     ),
-    // The source is refused first, and its core before the schedule.
-    (b"", b"x", 3, b"a.pony:1:1: unexpected\n"),
-    (NUMBER, b"x", 7, b"a.sched:1:1: bad word\n"),
-    (
-        UNSENDABLE,
-        b"x",
-        1,
-        b"a.pony:3:11: parameter not sendable\n",
-    ),
+    (&["events", "a.pony", "a.sched"], HELLO, b"1*10 0", EVENTS),
+    (&["schedule", "a.pony", "0"], HELLO, b"", SCHEDULE),
+    (&["play", "a.pony", "0"], HELLO, b"", PLAY),
+    (&["outcomes", "a.pony", "1"], HELLO, b"", OUTCOMES),
 ];
 
-const TOO_LONG: Wanted<'static> = Wanted {
-    status: 12,
-    out: b"go\n",
-    err: b"a.sched: text too long at step 157\n",
-};
-
 #[test]
-fn runs_are_refused(rt: HostRuntime) {
-    let alloc = rt.alloc();
-    all_refused(&rt, alloc, RUN, REFUSED);
-    assert_eq!(rt;
-        answers(alloc, RUN, DOUBLES, b"1*9 0 1*1000", TOO_LONG),
-        Ok(())
-    );
-}
-
-// Checks that a schedule that was built moves nothing.
-fn moves_nothing(alloc: Global, schedule: Result<Vec<u8>, AllocError>) -> Result<(), Differs> {
-    let out = b"steps 0 skipped 0 actors 2 objects 3 waiting 1\n";
-    match schedule {
-        Ok(schedule) => tells(alloc, RUN, HELLO, &schedule, out),
-        Err(_) => Err(Differs::NotRun),
-    }
-}
-
-#[test]
-fn schedules_may_have_1048576_bytes(rt: HostRuntime) {
-    let alloc = rt.alloc();
-    assert_eq!(rt; moves_nothing(alloc, spaces(alloc, 1_048_576)), Ok(()));
-    let err = b"a.sched: longer than 1048576 bytes\n";
-    let ended = refuses_made(alloc, RUN, HELLO, spaces(alloc, 1_048_577), (8, err));
-    assert_eq!(rt; ended, Ok(()));
-}
-
-const SCHEDULE: &[u8] = b"1*9 0 1*1000";
-
-const FAILURES: &[Failure<'_>] = &[
-    (0, (1, 0), NONE, 10, b"", b""),
-    (0, (1, 2), NONE, 10, b"hi", b""),
-    (0, (2, 5), NONE, 10, b"hi\nsteps", b""),
-    (1, NONE, NONE, 9, b"", b"a.pony: cannot be read\n"),
-    (2, NONE, NONE, 9, b"", b"a.sched: cannot be read\n"),
-];
-
-// What was printed is there, and part of the line.
-const PARTS: &[Failure<'_>] = &[(0, NONE, (1, 7), 10, b"go\n", b"a.sched")];
-
-#[test]
-fn files_and_sinks_of_runs_may_fail(rt: HostRuntime) {
-    let alloc = rt.alloc();
-    all_fail(&rt, alloc, RUN, (HELLO, SCHEDULE), FAILURES);
-    all_fail(&rt, alloc, RUN, (DOUBLES, SCHEDULE), PARTS);
+fn each_text_and_the_numbers_are_one_call(rt: HostRuntime) {
+    all_do(&rt, rt.alloc(), COMMANDS);
 }

@@ -1,40 +1,29 @@
-//! Commands on files and sinks in memory: what they do, and whether it is what they should.
+//! Commands on files and sinks in memory, with a read or a write that fails: what they do, and whether it is what they
+//! should.
 
-use pc_io::{MemFiles, MemSink};
+use crate::counted_sink::CountedSink;
+use pc_io::MemFiles;
 use pc_referee::Rules;
 use pc_test_inputs::place_of_difference;
 use pc_top::rcap;
 use std::alloc::{AllocError, Global};
+use std::process::Abort;
 
-/// A write on out and one on err that fail, each by its number and by how many bytes it takes first. Calls are counted
-/// from 1, so 0 means none.
-#[derive(Clone, Copy)]
-pub(crate) struct Failing {
-    pub out: (u32, u32),
-    pub err: (u32, u32),
-}
+/// A write that fails, by its number and by how many bytes it takes first. Calls are counted from 1.
+pub(crate) type Failing = (u32, u32);
 
 /// No write fails.
-pub(crate) const NOTHING: Failing = Failing {
-    out: (0, 0),
-    err: (0, 0),
-};
+pub(crate) const NONE: Failing = (0, 0);
 
-/// The status, and what is on out and err.
-#[derive(Clone, Copy)]
-pub(crate) struct Wanted<'a> {
-    pub status: u8,
-    pub out: &'a [u8],
-    pub err: &'a [u8],
-}
+/// What is on a sink, and how many calls of `put` it had.
+pub(crate) type Called<'a> = (&'a [u8], u32);
 
-/// What a command did: its status, and what is on out and err.
-#[derive(Drop)]
-pub(crate) struct Done {
-    pub status: u8,
-    pub out: MemSink,
-    pub err: MemSink,
-}
+/// The read, the write on out and the write on err that fail, and then the status, and what out and err have.
+pub(crate) type Row<'a> = (u32, Failing, Failing, u8, Called<'a>, Called<'a>);
+
+/// The words of a command, the source in `a.pony`, the other text in `a.der` and in `a.sched`, and what it does after each of
+/// these failures.
+pub(crate) type Command<'a> = (&'a [&'a str], &'a [u8], &'a [u8], &'a [Row<'a>]);
 
 fn add_texts(files: &mut MemFiles, source: &[u8], other: &[u8]) -> Result<(), AllocError> {
     files.add("a.pony", source)?;
@@ -54,76 +43,26 @@ pub(crate) fn files_of(
     Ok(files)
 }
 
-/// A file: its name and its bytes.
-pub(crate) type Stored<'a> = (&'a str, &'a [u8]);
-
-fn add_two(files: &mut MemFiles, source: Stored<'_>, other: Stored<'_>) -> Result<(), AllocError> {
-    files.add(source.0, source.1)?;
-    files.add(other.0, other.1)
-}
-
-/// A source and another file, with one read failing.
-pub(crate) fn stored(
-    alloc: Global,
-    source: Stored<'_>,
-    other: Stored<'_>,
-    read: u32,
-) -> Result<MemFiles, AllocError> {
-    let mut files = MemFiles::new(alloc, &[read])?;
-    add_two(&mut files, source, other)?;
-    Ok(files)
-}
-
-// The status of a command that asks the rules.
-fn status_of(
-    alloc: Global,
-    words: &[&str],
-    files: &mut MemFiles,
-    out: &mut MemSink,
-    err: &mut MemSink,
-) -> u8 {
-    rcap(alloc, words, files, out, err, &mut Rules)
-}
-
-/// Runs a command on these files, with these writes failing.
-pub(crate) fn run_on(
-    alloc: Global,
-    words: &[&str],
-    files: &mut MemFiles,
-    failing: Failing,
-) -> Result<Done, AllocError> {
-    let mut out = MemSink::new(alloc, &[failing.out])?;
-    let mut err = MemSink::new(alloc, &[failing.err])?;
-    let status = status_of(alloc, words, files, &mut out, &mut err);
-    Ok(Done { status, out, err })
-}
-
-/// Runs a command on a source and the other text, with nothing failing.
-pub(crate) fn run(
-    alloc: Global,
-    words: &[&str],
-    source: &[u8],
-    other: &[u8],
-) -> Result<Done, AllocError> {
-    let mut files = files_of(alloc, source, other, 0)?;
-    run_on(alloc, words, &mut files, NOTHING)
+/// How a sink has something else than it should.
+#[derive(Clone, Copy, Debug, PartialEq, Eq)]
+enum Unlike {
+    /// It had this many calls of `put`.
+    Calls(u32),
+    /// From this place on its text is another.
+    Text(usize),
 }
 
 /// How a command does something else than it should.
 #[derive(Clone, Copy, Debug, PartialEq, Eq)]
-pub(crate) enum Differs {
+enum Differs {
     /// Memory ran out before it was run.
     NotRun,
     /// It has this status.
     Status(u8),
-    /// From this place on, something else is on out.
-    Out(usize),
-    /// From this place on, something else is on err.
-    Line(usize),
-    /// Out had this many calls of `put`.
-    OutCalls(u32),
-    /// Err had this many calls of `put`.
-    ErrCalls(u32),
+    /// What is on out.
+    Out(Unlike),
+    /// What is on err.
+    Line(Unlike),
 }
 
 impl From<AllocError> for Differs {
@@ -132,27 +71,58 @@ impl From<AllocError> for Differs {
     }
 }
 
-/// Checks that a command did what it should.
-pub(crate) fn is_wanted(done: &Done, wanted: Wanted<'_>) -> Result<(), Differs> {
-    if done.status != wanted.status {
-        return Err(Differs::Status(done.status));
+// How a sink has something else than these calls with this text.
+fn unlike(sink: &CountedSink, called: Called<'_>) -> Option<Unlike> {
+    if sink.calls() != called.1 {
+        return Some(Unlike::Calls(sink.calls()));
     }
-    if let Some(place) = place_of_difference(done.out.bytes(), wanted.out) {
-        return Err(Differs::Out(place));
+    match place_of_difference(sink.bytes(), called.0) {
+        Some(place) => Some(Unlike::Text(place)),
+        None => None,
     }
-    match place_of_difference(done.err.bytes(), wanted.err) {
-        Some(place) => Err(Differs::Line(place)),
+}
+
+// Checks that a command ended with the status of a row, and left what it says on out and err.
+fn did(status: u8, out: &CountedSink, err: &CountedSink, row: &Row<'_>) -> Result<(), Differs> {
+    if status != row.3 {
+        return Err(Differs::Status(status));
+    }
+    if let Some(unlike) = unlike(out, row.4) {
+        return Err(Differs::Out(unlike));
+    }
+    match unlike(err, row.5) {
+        Some(unlike) => Err(Differs::Line(unlike)),
         None => Ok(()),
     }
 }
 
-/// Checks that the status is 0, and nothing is on err.
-pub(crate) fn is_done(done: &Done) -> Result<(), Differs> {
-    if done.status != 0 {
-        Err(Differs::Status(done.status))
-    } else if done.err.bytes().is_empty() {
-        Ok(())
-    } else {
-        Err(Differs::Line(0))
+// Checks that a command on these files does what a row says.
+fn does(alloc: Global, words: &[&str], files: &mut MemFiles, row: &Row<'_>) -> Result<(), Differs> {
+    let mut out = CountedSink::new(alloc, &[row.1])?;
+    let mut err = CountedSink::new(alloc, &[row.2])?;
+    let status = rcap(alloc, words, files, &mut out, &mut err, &mut Rules);
+    did(status, &out, &err, row)
+}
+
+// Checks that a command does what a row says.
+fn does_row(alloc: Global, command: &Command<'_>, row: &Row<'_>) -> Result<(), Differs> {
+    let mut files = files_of(alloc, command.1, command.2, row.0)?;
+    does(alloc, command.0, &mut files, row)
+}
+
+// Checks that a command does what each row says, or names the first of which this is not so.
+fn does_rows(alloc: Global, command: &Command<'_>) -> Result<(), (usize, Differs)> {
+    for at in 0..command.3.len() {
+        if let Err(differs) = does_row(alloc, command, &command.3[at]) {
+            return Err((at, differs));
+        }
+    }
+    Ok(())
+}
+
+/// Each of these commands does what its rows say.
+pub(crate) fn all_do(rt: &impl Abort, alloc: Global, commands: &[Command<'_>]) {
+    for at in 0..commands.len() {
+        assert_eq!(rt; does_rows(alloc, &commands[at]), Ok(()), "command {at}");
     }
 }
