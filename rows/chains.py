@@ -1,10 +1,10 @@
-"""Files at the limits of their names, and long chains of traits."""
+"""Files at the limits of their names, long chains of traits, and a long sequence."""
 
 import cores
 import texts
 from programs import IDLE
 from steps import Row, Step
-from tables import PLACES, files, name_faults, named
+from tables import PLACES, files, name_faults
 
 METHODS = [
     ("10000 with those of traits", texts.methods_above(7_998, IDLE), None),
@@ -32,16 +32,22 @@ SHORT = {0: (5, 0, "be", 0), 1: (6, 17, "spawn", 2), 2: (7, 97, "fun", 1), 4: (9
 
 LAST = {1_000: (1_005, 19_021, "fun", 1)}
 
+# A Main whose body has one item more than this.
+ITEMS = 99_994
+
+SEQUENCE = b"actor Main\n  new create(env: Env) => 1" + b";1" * ITEMS + b"\n"
+
 
 def told(name, source, form):
     """What `places` says of a source."""
-    return Row(named("methods along a chain", name), (Step(PLACES, files(source), 0, form),))
+    return Row(name, (Step(PLACES, files(source), 0, form),))
 
 
 ROWS = [
     *name_faults("methods at their limit", METHODS),
     *name_faults("two long names", LONG_NAMES),
     *name_faults("a chain of traits", CHAINS),
-    told("of three traits", IDLE + texts.chain(3) + METHOD, cores.both(cores.methods_at(5, SHORT), cores.counts(10, 3))),
-    told("of all traits", IDLE + texts.chain(999) + METHOD, cores.methods_at(1_001, LAST)),
+    told("methods along a chain of three traits", IDLE + texts.chain(3) + METHOD, cores.both(cores.methods_at(5, SHORT), cores.counts(10, 3))),
+    told("methods along a chain of all traits", IDLE + texts.chain(999) + METHOD, cores.methods_at(1_001, LAST)),
+    told("a long sequence has all its items", SEQUENCE, cores.items_at(ITEMS + 1, ITEMS + 1)),
 ]

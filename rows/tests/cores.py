@@ -58,6 +58,16 @@ def node_at(place, kind, method, start):
     return Form(f"at {place} the node {kind} of method {method} at {start}", holds)
 
 
+def items_at(place, count):
+    """The sequence at a place has this many items, which are the first nodes."""
+
+    def holds(came, before):
+        found = Core(came).nodes[place]
+        return found[0] == "seq" and found[5:] == [str(number) for number in range(count)]
+
+    return Form(f"at {place} a sequence of the first {count} nodes", holds)
+
+
 def both(one, other):
     """What two forms say."""
     return Form(f"{one.words}; {other.words}", lambda came, before: one.holds(came, before) and other.holds(came, before))

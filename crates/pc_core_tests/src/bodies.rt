@@ -1,402 +1,296 @@
 //! Bodies, with all their nodes, and long ones.
-use crate::program::{KnownRow, METHOD, Written, program_of};
-use crate::rows::{Row, is_node_at, place_of_difference};
-use pc_caps::List;
-use pc_core::Node;
-use pc_emit::{EmitStop, emit, emit_added};
-use pc_tree::{EntityKind, MethodWord};
+use crate::rows::{Row, is_node_at};
+use pc_core::{Core, Node};
+use pc_test_inputs::{Wrong, core_of};
 use std::alloc::{AllocError, Global};
 
-// The entities of the language, and then `class C`, `actor A`, `primitive P` and `trait T`.
-const ENTITIES: [KnownRow; 10] = [
-    (b"None", EntityKind::Primitive, &[]),
-    (b"U64", EntityKind::Primitive, &[]),
-    (b"Bool", EntityKind::Primitive, &[]),
-    (b"String", EntityKind::Primitive, &[]),
-    (b"Env", EntityKind::Class, &[]),
-    (b"OutStream", EntityKind::Actor, &[]),
-    (b"C", EntityKind::Class, &[(b"create", 1), (b"make", 2)]),
-    (b"A", EntityKind::Actor, &[(b"create", 3)]),
-    (b"P", EntityKind::Primitive, &[]),
-    (b"T", EntityKind::Trait, &[]),
+/// Classes with constructors and without one, an actor, a primitive, a trait, and the class `E` with the bodies: its
+/// methods are 4 to 8, and the added `create` of `D` is 9. The texts have the numbers 3 `apply`, 5 `f`, 7 `m` and 8 `g`.
+const FILE: &[u8] = b"\
+class C
+  new create(n: U64) => None
+  new make(c: C) => None
+actor A
+  new create() => None
+primitive P
+trait T
+class E
+  var f: U64 = 7
+  fun go() => None
+  new create(env: U64) =>
+let c = C; let d = C(1)
+C.make(d); c(2); P(); A
+  fun m(x: U64) =>
+if f then m(x) elseif x then f.g = consume x end
+  fun k(): U64 =>
+var y = recover iso 1 + 2 + 3 end; y = (4; y is y); this.f.m(y)
+  fun j(): U64 => 7
+class D
+  var f: U64 = 7
+actor Main
+  new create(env: Env) => None
+";
+
+/// A constructor with one parameter, after an initial value.
+const FIRST: [Row; 17] = [
+    ("number", 7, &[], 0, (136, 137)),
+    ("this", 0, &[], 0, (127, 128)),
+    ("set field", 5, &[13, 14], 0, (127, 128)),
+    ("new", 1, &[], 0, (191, 192)),
+    ("define", 2, &[16], 0, (183, 192)),
+    ("number", 1, &[], 0, (204, 205)),
+    ("new", 1, &[18], 0, (202, 206)),
+    ("define", 3, &[19], 0, (194, 206)),
+    ("local", 3, &[], 0, (214, 215)),
+    ("new", 2, &[21], 0, (207, 216)),
+    ("number", 2, &[], 0, (220, 221)),
+    ("local", 2, &[], 0, (218, 219)),
+    ("call", 3, &[23, 24], 0, (218, 222)),
+    ("prim", 8, &[], 0, (224, 227)),
+    ("spawn", 3, &[], 0, (229, 230)),
+    ("seq", 0, &[15, 17, 20, 22, 25, 26, 27], 0, (183, 230)),
+    ("body", 0, &[28], 0, (163, 169)),
 ];
 
-// A constructor with one parameter, after an initial value.
-const FIRST: Written = Written {
-    word: MethodWord::New,
-    number: 5,
-    params: &[b"env"],
-    gives: false,
-    slots: &[(4, 2), (15, 3)],
-    initial: b"7",
-};
-
-const FIRST_TEXT: &[u8] = b"let c = C; let d = C(1)\nC.make(d); c(2); P(); A";
-
-const FIRST_ROWS: [Row; 17] = [
-    ("number", 7, &[], 0, (0, 1)),
-    ("this", 0, &[], 0, (200, 201)),
-    ("set field", 0, &[0, 1], 0, (200, 201)),
-    ("new", 1, &[], 0, (8, 9)),
-    ("define", 2, &[3], 0, (0, 9)),
-    ("number", 1, &[], 0, (21, 22)),
-    ("new", 1, &[5], 0, (19, 23)),
-    ("define", 3, &[6], 0, (11, 23)),
-    ("local", 3, &[], 0, (31, 32)),
-    ("new", 2, &[8], 0, (24, 33)),
-    ("number", 2, &[], 0, (37, 38)),
-    ("local", 2, &[], 0, (35, 36)),
-    ("call", 3, &[10, 11], 0, (35, 39)),
-    ("prim", 8, &[], 0, (41, 44)),
-    ("spawn", 3, &[], 0, (46, 47)),
-    ("seq", 0, &[2, 4, 7, 9, 12, 13, 14], 0, (0, 47)),
-    ("body", 0, &[15], 0, (300, 304)),
+/// A function with one parameter and without a result, and a choice without an `else`.
+const SECOND: [Row; 22] = [
+    ("this", 0, &[], 0, (253, 254)),
+    ("field", 5, &[30], 0, (253, 254)),
+    ("seq", 0, &[31], 0, (253, 254)),
+    ("local", 1, &[], 0, (262, 263)),
+    ("this", 0, &[], 0, (260, 261)),
+    ("call", 7, &[33, 34], 0, (260, 264)),
+    ("seq", 0, &[35], 0, (260, 264)),
+    ("local", 1, &[], 0, (272, 273)),
+    ("seq", 0, &[37], 0, (272, 273)),
+    ("consume", 1, &[], 0, (285, 294)),
+    ("this", 0, &[], 0, (279, 280)),
+    ("field", 5, &[40], 0, (279, 280)),
+    ("set field", 8, &[39, 41], 0, (279, 294)),
+    ("seq", 0, &[42], 0, (279, 294)),
+    ("prim", 0, &[], 0, (295, 298)),
+    ("seq", 0, &[44], 0, (295, 298)),
+    ("if", 0, &[38, 43, 45], 0, (265, 298)),
+    ("seq", 0, &[46], 0, (265, 298)),
+    ("if", 0, &[32, 36, 47], 0, (250, 298)),
+    ("prim", 0, &[], 0, (237, 238)),
+    ("seq", 0, &[48, 49], 0, (250, 298)),
+    ("body", 0, &[50], 0, (237, 238)),
 ];
 
-// A function with one parameter and without a result.
-const SECOND: Written = Written {
-    word: MethodWord::Fun,
-    number: 6,
-    params: &[b"x"],
-    gives: false,
-    slots: &[],
-    initial: b"7",
-};
-
-const SECOND_TEXT: &[u8] = b"if f then m(x) elseif x then f.g = consume x end";
-
-const SECOND_ROWS: [Row; 22] = [
-    ("this", 0, &[], 0, (3, 4)),
-    ("field", 0, &[0], 0, (3, 4)),
-    ("seq", 0, &[1], 0, (3, 4)),
-    ("local", 1, &[], 0, (12, 13)),
-    ("this", 0, &[], 0, (10, 11)),
-    ("call", 2, &[3, 4], 0, (10, 14)),
-    ("seq", 0, &[5], 0, (10, 14)),
-    ("local", 1, &[], 0, (22, 23)),
-    ("seq", 0, &[7], 0, (22, 23)),
-    ("consume", 1, &[], 0, (35, 44)),
-    ("this", 0, &[], 0, (29, 30)),
-    ("field", 0, &[10], 0, (29, 30)),
-    ("set field", 1, &[9, 11], 0, (29, 44)),
-    ("seq", 0, &[12], 0, (29, 44)),
-    ("prim", 0, &[], 0, (45, 48)),
-    ("seq", 0, &[14], 0, (45, 48)),
-    ("if", 0, &[8, 13, 15], 0, (15, 48)),
-    ("seq", 0, &[16], 0, (15, 48)),
-    ("if", 0, &[2, 6, 17], 0, (0, 48)),
-    ("prim", 0, &[], 0, (300, 304)),
-    ("seq", 0, &[18, 19], 0, (0, 48)),
-    ("body", 0, &[20], 0, (300, 304)),
+/// A function with a result, a `recover` and a group.
+const THIRD: [Row; 20] = [
+    ("number", 1, &[], 1, (337, 338)),
+    ("number", 2, &[], 1, (341, 342)),
+    ("+", 0, &[52, 53], 1, (337, 342)),
+    ("number", 3, &[], 1, (345, 346)),
+    ("+", 0, &[54, 55], 1, (337, 346)),
+    ("seq", 0, &[56], 1, (337, 346)),
+    ("recover iso", 0, &[57], 0, (325, 350)),
+    ("define", 1, &[58], 0, (317, 350)),
+    ("number", 4, &[], 0, (357, 358)),
+    ("local", 1, &[], 0, (360, 361)),
+    ("local", 1, &[], 0, (365, 366)),
+    ("same", 1, &[61, 62], 0, (360, 366)),
+    ("seq", 0, &[60, 63], 0, (356, 367)),
+    ("assign", 1, &[64], 0, (352, 367)),
+    ("local", 1, &[], 0, (378, 379)),
+    ("this", 0, &[], 0, (369, 373)),
+    ("field", 5, &[67], 0, (369, 375)),
+    ("call", 7, &[66, 68], 0, (369, 380)),
+    ("seq", 0, &[59, 65, 69], 0, (317, 380)),
+    ("body", 0, &[70], 0, (305, 306)),
 ];
 
-// A function with a result.
-const THIRD: Written = Written {
-    word: MethodWord::Fun,
-    number: 7,
-    params: &[],
-    gives: true,
-    slots: &[(4, 1)],
-    initial: b"",
-};
-
-const THIRD_TEXT: &[u8] = b"var y = recover iso 1 + 2 + 3 end; y = (4; y is y); this.f.m(y)";
-
-const THIRD_ROWS: [Row; 20] = [
-    ("number", 1, &[], 1, (20, 21)),
-    ("number", 2, &[], 1, (24, 25)),
-    ("+", 0, &[0, 1], 1, (20, 25)),
-    ("number", 3, &[], 1, (28, 29)),
-    ("+", 0, &[2, 3], 1, (20, 29)),
-    ("seq", 0, &[4], 1, (20, 29)),
-    ("recover iso", 0, &[5], 0, (8, 33)),
-    ("define", 1, &[6], 0, (0, 33)),
-    ("number", 4, &[], 0, (40, 41)),
-    ("local", 1, &[], 0, (43, 44)),
-    ("local", 1, &[], 0, (48, 49)),
-    ("same", 1, &[9, 10], 0, (43, 49)),
-    ("seq", 0, &[8, 11], 0, (39, 50)),
-    ("assign", 1, &[12], 0, (35, 50)),
-    ("local", 1, &[], 0, (61, 62)),
-    ("this", 0, &[], 0, (52, 56)),
-    ("field", 0, &[15], 0, (52, 58)),
-    ("call", 2, &[14, 16], 0, (52, 63)),
-    ("seq", 0, &[7, 13, 17], 0, (0, 63)),
-    ("body", 0, &[18], 0, (300, 304)),
+/// A function whose body is a number.
+const NUMBER: [Row; 3] = [
+    ("number", 7, &[], 0, (399, 400)),
+    ("seq", 0, &[72], 0, (399, 400)),
+    ("body", 0, &[73], 0, (387, 388)),
 ];
 
-const NUMBER_ROWS: [Row; 3] = [
-    ("number", 7, &[], 0, (0, 1)),
-    ("seq", 0, &[0], 0, (0, 1)),
-    ("body", 0, &[1], 0, (300, 304)),
+/// An added `create`, after an initial value.
+const ADDED: [Row; 6] = [
+    ("number", 7, &[], 0, (424, 425)),
+    ("this", 0, &[], 0, (415, 416)),
+    ("set field", 5, &[75, 76], 0, (415, 416)),
+    ("prim", 0, &[], 0, (407, 408)),
+    ("seq", 0, &[77, 78], 0, (407, 408)),
+    ("body", 0, &[79], 0, (407, 408)),
 ];
 
-// The nodes of an added `create`, after the initial value 7.
-const ADDED_ROWS: [Row; 6] = [
-    ("number", 7, &[], 0, (0, 1)),
-    ("this", 0, &[], 0, (200, 201)),
-    ("set field", 0, &[0, 1], 0, (200, 201)),
-    ("prim", 0, &[], 0, (300, 304)),
-    ("seq", 0, &[2, 3], 0, (300, 304)),
-    ("body", 0, &[4], 0, (300, 304)),
+/// A method, the number of its first node, and its nodes, of which the last is its body.
+type Body = (u32, u32, &'static [Row]);
+
+const BODIES: [Body; 5] = [
+    (5, 13, &FIRST),
+    (6, 30, &SECOND),
+    (7, 52, &THIRD),
+    (8, 72, &NUMBER),
+    (9, 75, &ADDED),
 ];
 
-// What an added `create` is emitted for.
-const ADDED: Written = Written {
-    word: MethodWord::New,
-    number: 8,
-    params: &[],
-    gives: false,
-    slots: &[],
-    initial: b"7",
-};
-
-// The nodes of a body after those that are there already, and its number.
-fn nodes_of(
-    alloc: Global,
-    of: &Written,
-    text: &[u8],
-    nodes: &mut List<Node>,
-) -> Result<Option<u32>, EmitStop> {
-    let program = program_of(alloc, &ENTITIES, of, text)?;
-    let body = emit(
-        alloc,
-        &program.context,
-        of.number,
-        nodes,
-        program.fields.as_slice(),
-        &program.method,
-    );
-    drop(program);
-    body
-}
-
-// How many nodes of a body agree with these rows, and its number.
-fn stands(
-    alloc: Global,
-    of: &Written,
-    text: &[u8],
-    rows: &[Row],
-) -> Result<(Option<u32>, usize), EmitStop> {
-    let mut nodes: List<Node> = List::new(alloc);
-    let body = nodes_of(alloc, of, text, &mut nodes)?;
-    let place = place_of_difference(nodes.as_slice(), of.number, rows);
-    Ok((body, place))
-}
-
-#[test]
-fn a_constructor_with_sugar(rt: HostRuntime) {
-    assert_eq!(rt;
-        stands(rt.alloc(), &FIRST, FIRST_TEXT, &FIRST_ROWS),
-        Ok((Some(16), 17))
-    );
-}
-
-#[test]
-fn a_choice_without_an_else(rt: HostRuntime) {
-    assert_eq!(rt;
-        stands(rt.alloc(), &SECOND, SECOND_TEXT, &SECOND_ROWS),
-        Ok((Some(21), 22))
-    );
-}
-
-#[test]
-fn a_recover_and_a_group(rt: HostRuntime) {
-    assert_eq!(rt;
-        stands(rt.alloc(), &THIRD, THIRD_TEXT, &THIRD_ROWS),
-        Ok((Some(19), 20))
-    );
-}
-
-// A text that spells nothing leaves a method without a body, and one that spells a number gives it one.
-#[test]
-fn no_body(rt: HostRuntime) {
-    assert_eq!(rt; stands(rt.alloc(), &THIRD, b"", &[]), Ok((None, 0)));
-    assert_eq!(rt;
-        stands(rt.alloc(), &THIRD, b"7", &NUMBER_ROWS),
-        Ok((Some(2), 3))
-    );
-}
-
-// The nodes of the added `create` after those that are there already, and the number of its body.
-fn added_nodes(alloc: Global, nodes: &mut List<Node>) -> Result<u32, EmitStop> {
-    let program = program_of(alloc, &ENTITIES, &ADDED, b"")?;
-    let body = emit_added(
-        alloc,
-        &program.context,
-        ADDED.number,
-        nodes,
-        program.fields.as_slice(),
-        METHOD,
-    );
-    drop(program);
-    body
-}
-
-// How many nodes of the added `create` agree with its rows, and the number of its body.
-fn added_stands(alloc: Global) -> Result<(u32, usize), EmitStop> {
-    let mut nodes: List<Node> = List::new(alloc);
-    let body = added_nodes(alloc, &mut nodes)?;
-    let place = place_of_difference(nodes.as_slice(), ADDED.number, &ADDED_ROWS);
-    Ok((body, place))
-}
-
-#[test]
-fn an_added_constructor(rt: HostRuntime) {
-    assert_eq!(rt; added_stands(rt.alloc()), Ok((5, 6)));
-}
-
-// A text: its beginning, its middle, how many times the middle is repeated, and its end.
-type Long = (&'static [u8], &'static [u8], u32, &'static [u8]);
-
-fn put_all(text: &mut Vec<u8>, row: Long) -> Result<(), AllocError> {
-    text.extend_from_slice(row.0)?;
-    for _ in 0..row.2 {
-        text.extend_from_slice(row.1)?;
+// The first node of a body that is another one, or the number after its nodes.
+fn end_of(nodes: &[Node], body: &Body) -> u32 {
+    let mut place = body.1;
+    for row in body.2 {
+        if !is_node_at(nodes, place, body.0, row) {
+            return place;
+        }
+        place = place.saturating_add(1);
     }
-    text.extend_from_slice(row.3)
+    place
 }
 
-fn long_text(alloc: Global, row: Long) -> Result<Vec<u8>, AllocError> {
+// The number of the node that is the body of a method.
+fn body_of(core: &Core, method: u32) -> Option<u32> {
+    core.methods().get(method as usize)?.body
+}
+
+/// A method, the first of its nodes that is another one, or the number after them, and the number of its body.
+type Found = (u32, u32, Option<u32>);
+
+// The first of these bodies that is another one.
+fn other_body(core: &Core, bodies: &[Body]) -> Option<Found> {
+    for body in bodies {
+        let end = end_of(core.nodes(), body);
+        let number = body_of(core, body.0);
+        if end != body.1.saturating_add(body.2.len() as u32) || number != end.checked_sub(1) {
+            return Some((body.0, end, number));
+        }
+    }
+    None
+}
+
+// The same of the core of the file.
+fn other_in_file(alloc: Global) -> Result<Option<Found>, Wrong> {
+    let core = core_of(alloc, FILE)?;
+    Ok(other_body(&core, &BODIES))
+}
+
+#[test]
+fn bodies_have_these_nodes(rt: HostRuntime) {
+    assert_eq!(rt; other_in_file(rt.alloc()), Ok(None));
+}
+
+// A node's number, and the node.
+type Spot = (u32, Row);
+
+// The term `1` and each operator have two nodes, and there are one more and a sequence and a body around them.
+const OPERATORS: [Spot; 8] = [
+    (0, ("number", 1, &[], 0, (37, 38))),
+    (1, ("number", 1, &[], 0, (39, 40))),
+    (2, ("+", 0, &[0, 1], 0, (37, 40))),
+    (4, ("+", 0, &[2, 3], 0, (37, 42))),
+    (199_987, ("number", 1, &[], 0, (200_025, 200_026))),
+    (199_988, ("+", 0, &[199_986, 199_987], 0, (37, 200_026))),
+    (199_989, ("seq", 0, &[199_988], 0, (37, 200_026))),
+    (199_990, ("body", 0, &[199_989], 0, (17, 23))),
+];
+
+// Each call has one node, around the one before.
+const CALLS: [Spot; 6] = [
+    (0, ("number", 1, &[], 0, (37, 38))),
+    (1, ("call", 4, &[0], 0, (37, 42))),
+    (2, ("call", 4, &[1], 0, (37, 46))),
+    (49_997, ("call", 4, &[49_996], 0, (37, 200_026))),
+    (49_998, ("seq", 0, &[49_997], 0, (37, 200_026))),
+    (49_999, ("body", 0, &[49_998], 0, (17, 23))),
+];
+
+// Each arm has six nodes, except that the first has five, and the missing `else` has two. The conditions and branches
+// of all arms come first, then the missing `else`, and then each `if` with its sequence, from the last arm on.
+const ARMS: [Spot; 11] = [
+    (0, ("number", 1, &[], 0, (40, 41))),
+    (1, ("seq", 0, &[0], 0, (40, 41))),
+    (3, ("seq", 0, &[2], 0, (47, 48))),
+    (120_000, ("number", 1, &[], 0, (480_040, 480_041))),
+    (120_003, ("seq", 0, &[120_002], 0, (480_047, 480_048))),
+    (120_005, ("seq", 0, &[120_004], 0, (480_049, 480_052))),
+    (
+        120_006,
+        ("if", 0, &[120_001, 120_003, 120_005], 0, (480_033, 480_052)),
+    ),
+    (120_007, ("seq", 0, &[120_006], 0, (480_033, 480_052))),
+    (180_006, ("if", 0, &[1, 3, 180_005], 0, (37, 480_052))),
+    (180_007, ("seq", 0, &[180_006], 0, (37, 480_052))),
+    (180_008, ("body", 0, &[180_007], 0, (17, 23))),
+];
+
+// Each item has one node.
+const ITEMS: [Spot; 4] = [
+    (0, ("number", 1, &[], 0, (37, 38))),
+    (1, ("number", 1, &[], 0, (39, 40))),
+    (99_994, ("number", 1, &[], 0, (200_025, 200_026))),
+    (99_996, ("body", 0, &[99_995], 0, (17, 23))),
+];
+
+/// The body of a Main: how it begins, what is repeated how many times, how it ends, how many nodes there are, and some.
+type Long = (
+    &'static [u8],
+    &'static [u8],
+    u32,
+    &'static [u8],
+    usize,
+    &'static [Spot],
+);
+
+// As long as the tokens of a file may be, but for the arms.
+const LONG: [Long; 4] = [
+    (b"1", b"+1", 99_994, b"\n", 199_991, &OPERATORS),
+    (b"1", b".m()", 49_997, b"\n", 50_000, &CALLS),
+    (
+        b"if 1 then 1 ",
+        b"elseif 1 then 1 ",
+        30_000,
+        b"end\n",
+        180_009,
+        &ARMS,
+    ),
+    (b"1", b";1", 99_994, b"\n", 99_997, &ITEMS),
+];
+
+fn put_all(text: &mut Vec<u8>, long: &Long) -> Result<(), AllocError> {
+    text.extend_from_slice(b"actor Main\n  new create(env: Env) => ")?;
+    text.extend_from_slice(long.0)?;
+    for _ in 0..long.2 {
+        text.extend_from_slice(long.1)?;
+    }
+    text.extend_from_slice(long.3)
+}
+
+fn long_text(alloc: Global, long: &Long) -> Result<Vec<u8>, AllocError> {
     let mut text: Vec<u8> = Vec::new(alloc);
-    put_all(&mut text, row)?;
+    put_all(&mut text, long)?;
     Ok(text)
 }
 
-// A place, and the node there.
-type Spot = (u32, Row);
-
-// The first of these places that has another node.
-fn place_of_another(nodes: &[Node], spots: &[Spot]) -> Option<u32> {
+// The first of these nodes that is another one.
+fn other_spot(nodes: &[Node], spots: &[Spot]) -> Option<u32> {
     for (place, row) in spots {
-        if !is_node_at(nodes, *place, THIRD.number, row) {
+        if !is_node_at(nodes, *place, 1, row) {
             return Some(*place);
         }
     }
     None
 }
 
-/// A body, how many nodes there are, and the first place that has another one than it should.
-type LongBody = (Option<u32>, usize, Option<u32>);
-
-// The body of a text, in which these nodes should be.
-fn body_of(alloc: Global, text: &[u8], spots: &[Spot]) -> Result<LongBody, EmitStop> {
-    let mut nodes: List<Node> = List::new(alloc);
-    let body = nodes_of(alloc, &THIRD, text, &mut nodes)?;
-    Ok((body, nodes.len(), place_of_another(nodes.as_slice(), spots)))
+// How many nodes the core of a text has, and the first of these that is another one.
+fn nodes_of(alloc: Global, text: &[u8], spots: &[Spot]) -> Result<(usize, Option<u32>), Wrong> {
+    let core = core_of(alloc, text)?;
+    Ok((core.nodes().len(), other_spot(core.nodes(), spots)))
 }
 
-// The same of a long text.
-fn long_body(alloc: Global, row: Long, spots: &[Spot]) -> Result<LongBody, EmitStop> {
-    let text = long_text(alloc, row)?;
-    body_of(alloc, &text, spots)
-}
-
-// The term `1` and each operator have two nodes, and there are one more and a sequence and a body around them.
-const OPERATORS: [Spot; 8] = [
-    (0, ("number", 1, &[], 0, (0, 1))),
-    (1, ("number", 1, &[], 0, (2, 3))),
-    (2, ("+", 0, &[0, 1], 0, (0, 3))),
-    (4, ("+", 0, &[2, 3], 0, (0, 5))),
-    (199_995, ("number", 1, &[], 0, (199_996, 199_997))),
-    (199_996, ("+", 0, &[199_994, 199_995], 0, (0, 199_997))),
-    (199_997, ("seq", 0, &[199_996], 0, (0, 199_997))),
-    (199_998, ("body", 0, &[199_997], 0, (300, 304))),
-];
-
-#[test]
-fn a_long_chain_of_operators(rt: HostRuntime) {
-    let body = long_body(rt.alloc(), (b"1", b"+1", 99_998, b""), &OPERATORS);
-    assert_eq!(rt; body, Ok((Some(199_998), 199_999, None)));
+// The same of a long body.
+fn nodes_of_long(alloc: Global, long: &Long) -> Result<(usize, Option<u32>), Wrong> {
+    let text = long_text(alloc, long)?;
+    nodes_of(alloc, &text, long.5)
 }
 
 #[test]
-fn a_chain_of_operators_that_is_too_long(rt: HostRuntime) {
-    assert_eq!(rt;
-        long_body(rt.alloc(), (b"1", b"+1", 99_999, b""), &[]),
-        Err(EmitStop::Full)
-    );
-}
-
-const CALLS: [Spot; 6] = [
-    (0, ("number", 1, &[], 0, (0, 1))),
-    (1, ("call", 2, &[0], 0, (0, 5))),
-    (2, ("call", 2, &[1], 0, (0, 9))),
-    (49_998, ("call", 2, &[49_997], 0, (0, 199_993))),
-    (49_999, ("seq", 0, &[49_998], 0, (0, 199_993))),
-    (50_000, ("body", 0, &[49_999], 0, (300, 304))),
-];
-
-#[test]
-fn a_long_chain_of_calls(rt: HostRuntime) {
-    let body = long_body(rt.alloc(), (b"1", b".m()", 49_998, b""), &CALLS);
-    assert_eq!(rt; body, Ok((Some(50_000), 50_001, None)));
-}
-
-// Each arm has six nodes, except that the first has five, and the missing `else` has two.
-const ARMS: Long = (b"if 1 then 1 ", b"elseif 1 then 1 ", 30_000, b"end");
-
-// The conditions and branches of all arms come first, then the missing `else`, and then each `if` with its sequence, from the
-// last arm on.
-const ARM_NODES: [Spot; 11] = [
-    (0, ("number", 1, &[], 0, (3, 4))),
-    (1, ("seq", 0, &[0], 0, (3, 4))),
-    (3, ("seq", 0, &[2], 0, (10, 11))),
-    (120_000, ("number", 1, &[], 0, (480_003, 480_004))),
-    (120_003, ("seq", 0, &[120_002], 0, (480_010, 480_011))),
-    (120_005, ("seq", 0, &[120_004], 0, (480_012, 480_015))),
-    (
-        120_006,
-        ("if", 0, &[120_001, 120_003, 120_005], 0, (479_996, 480_015)),
-    ),
-    (120_007, ("seq", 0, &[120_006], 0, (479_996, 480_015))),
-    (180_006, ("if", 0, &[1, 3, 180_005], 0, (0, 480_015))),
-    (180_007, ("seq", 0, &[180_006], 0, (0, 480_015))),
-    (180_008, ("body", 0, &[180_007], 0, (300, 304))),
-];
-
-#[test]
-fn a_long_chain_of_arms(rt: HostRuntime) {
-    let body = long_body(rt.alloc(), ARMS, &ARM_NODES);
-    assert_eq!(rt; body, Ok((Some(180_008), 180_009, None)));
-}
-
-const ITEMS: [Spot; 4] = [
-    (0, ("number", 1, &[], 0, (0, 1))),
-    (1, ("number", 1, &[], 0, (2, 3))),
-    (99_998, ("number", 1, &[], 0, (199_996, 199_997))),
-    (100_000, ("body", 0, &[99_999], 0, (300, 304))),
-];
-
-// How many children the sequence of a long text has, and the last of them.
-fn items_of(
-    alloc: Global,
-    row: Long,
-    place: usize,
-) -> Result<Option<(usize, Option<u32>)>, EmitStop> {
-    let text = long_text(alloc, row)?;
-    let mut nodes: List<Node> = List::new(alloc);
-    let _body = nodes_of(alloc, &THIRD, &text, &mut nodes)?;
-    Ok(
-        nodes.get(place).map(|node| (
-            node.children.len(),
-            node.children.as_slice().last().copied(),
-        )),
-    )
-}
-
-const SEQUENCE: Long = (b"1", b";1", 99_998, b"");
-
-#[test]
-fn a_long_sequence(rt: HostRuntime) {
-    let body = long_body(rt.alloc(), SEQUENCE, &ITEMS);
-    assert_eq!(rt; body, Ok((Some(100_000), 100_001, None)));
-}
-
-#[test]
-fn a_long_sequence_has_all_its_items(rt: HostRuntime) {
-    assert_eq!(rt;
-        items_of(rt.alloc(), SEQUENCE, 99_999),
-        Ok(Some((99_999, Some(99_998))))
-    );
+fn long_bodies_have_these_nodes(rt: HostRuntime) {
+    for at in 0..LONG.len() {
+        let found = nodes_of_long(rt.alloc(), &LONG[at]);
+        assert_eq!(rt; found, Ok((LONG[at].4, None)), "row {at}");
+    }
 }

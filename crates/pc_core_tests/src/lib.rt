@@ -1,4 +1,5 @@
-//! Tests of what a tree means: its names, the bodies with their nodes, and its core.
+//! Tests of what a tree means that the program does not show: numbers of names and of nodes, what is in a node, and what
+//! conforms to what. What the program shows of names, bodies and cores is in the rows of `rows/`.
 #![tactic(auto)]
 
 #[cfg(test)]
@@ -8,22 +9,6 @@ mod children;
 #[cfg(test)]
 mod conforming;
 #[cfg(test)]
-mod faults;
-#[cfg(test)]
-mod inherited;
-#[cfg(test)]
-mod limits;
-#[cfg(test)]
-mod name_fault_cases;
-#[cfg(test)]
-mod parts;
-#[cfg(test)]
-mod program;
-#[cfg(test)]
-mod reading;
+mod names;
 #[cfg(test)]
 mod rows;
-#[cfg(test)]
-mod rows_of_files;
-#[cfg(test)]
-mod taken_over;

@@ -86,18 +86,3 @@ pub fn is_node_at(nodes: &[Node], place: u32, method: u32, row: &Row) -> bool {
         None => false,
     }
 }
-
-/// The first place at which the nodes are not these of this method, or how many there are.
-pub fn place_of_difference(nodes: &[Node], method: u32, rows: &[Row]) -> usize {
-    for place in 0..rows.len() {
-        match nodes.get(place) {
-            Some(node) => {
-                if !is_row(node, method, &rows[place]) {
-                    return place;
-                }
-            }
-            None => return place,
-        }
-    }
-    nodes.len()
-}
