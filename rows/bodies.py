@@ -66,8 +66,8 @@ ASSIGNMENT = [
 
 # A text of this many bytes, in column 21.
 TEXTS = [
-    (b'"' + b"a" * 4_096 + b'"', None),
-    (b'"' + b"a" * 4_097 + b'"', (8, b"a.pony:10:21: text too long\n")),
+    (4_096, None),
+    (4_097, (8, b"a.pony:10:21: text too long\n")),
 ]
 
 # A field has the initial value `p`, in column 11 of line 3.
@@ -81,10 +81,19 @@ INITIAL_VALUES = [
 ]
 
 
+def in_column(column, body):
+    """A source with this body in a column."""
+    return BEFORE + b" " * (column - 1) + body + AFTER
+
+
 def at(column, bodies):
     """Sources with these bodies in a column, each called by its body."""
-    indent = b" " * (column - 1)
-    return [(body.decode(), BEFORE + indent + body + AFTER, fault) for body, fault in bodies]
+    return [(body.decode(), in_column(column, body), fault) for body, fault in bodies]
+
+
+def text_of(size):
+    """A text of this many bytes, as it is written."""
+    return b'"' + b"a" * size + b'"'
 
 
 ROWS = [
@@ -92,6 +101,6 @@ ROWS = [
     *name_faults("a local", at(17, LOCALS)),
     *name_faults("a local is visible to the end of its sequence", at(16, GROUPS)),
     *name_faults("the left side comes first", at(21, ASSIGNMENT)),
-    *name_faults("a text", at(21, TEXTS)),
+    *name_faults("a text", [(f"of {size} bytes", in_column(21, text_of(size)), fault) for size, fault in TEXTS]),
     *name_faults("no parameter is visible in an initial value", INITIAL_VALUES),
 ]

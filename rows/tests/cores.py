@@ -8,7 +8,7 @@ class Core:
 
     def __init__(self, out):
         lines = [line.split() for line in out.decode().splitlines()]
-        self.entities, self.fields, self.methods, self.slots, self.nodes = ([it[1:] for it in lines if it[0] == sort] for sort in "efmsn")
+        self.entities, self.methods, self.slots, self.nodes = ([it[1:] for it in lines if it[0] == sort] for sort in "emsn")
 
     def has_body(self, method):
         """Whether a method has a body, whose node is its last."""
@@ -45,7 +45,12 @@ def methods_at(count, wanted):
 
 def counts(entities, nodes):
     """How many entities and nodes there are."""
-    return Form(f"{entities} entities and {nodes} nodes", lambda came, before: (len(Core(came).entities), len(Core(came).nodes)) == (entities, nodes))
+
+    def holds(came, before):
+        core = Core(came)
+        return (len(core.entities), len(core.nodes)) == (entities, nodes)
+
+    return Form(f"{entities} entities and {nodes} nodes", holds)
 
 
 def node_at(place, kind, method, start):

@@ -63,3 +63,5 @@ def look(results):
             differs = steps.difference(program, steps.Row(name, tuple(row)))
             is_right = differs is None if said is None else differs is not None and said in differs
             results.check(is_right, f"what is said of {name}", differs)
+        differs = steps.difference(program.with_name("none"), steps.Row("no program", (step(),)))
+        results.check(differs is not None and "there is no answer" in differs, "what is said of no program", differs)

@@ -1,5 +1,6 @@
 """A row: a program is called once or several times, and each call has its status, its text on out and its text on err."""
 
+import concurrent.futures
 import dataclasses
 import os
 import pathlib
@@ -112,7 +113,10 @@ def difference(program, row):
     answers = []
     for step in row.steps:
         files = {name: text(answers) if callable(text) else text for name, text in step.files.items()}
-        answers.append(call(program, step.words, files))
+        try:
+            answers.append(call(program, step.words, files))
+        except (OSError, subprocess.TimeoutExpired) as error:
+            return f"{' '.join(step.words)}: there is no answer: {error}"
         differs = step.differs(answers[-1], answers[:-1])
         if differs is not None:
             return f"{' '.join(step.words)}: {differs}"
@@ -120,7 +124,7 @@ def difference(program, row):
 
 
 def look(program, rows, results):
-    """Runs each row."""
-    for row in rows:
-        differs = difference(program, row)
-        results.check(differs is None, row.name, differs)
+    """Runs each row, as many at once as there are processors."""
+    with concurrent.futures.ThreadPoolExecutor(len(os.sched_getaffinity(0))) as pool:
+        for row, differs in zip(rows, pool.map(lambda row: difference(program, row), rows)):
+            results.check(differs is None, row.name, differs)

@@ -13,14 +13,16 @@ RUN = ("run", "a.pony", "a.sched")
 # The line of words that are refused.
 USAGE = b"usage: rcap COMMAND ARGUMENT ...\n"
 
-# How many characters of a source a name has.
-NAMED = 90
+# How many characters of a source a name has from its beginning, and how many from its end.
+FIRST_NAMED, LAST_NAMED = 60, 40
 
 
 def named(title, text):
     """The name of a row: the title of its table, and a text that is its own."""
     own = text if isinstance(text, str) else repr(text.decode("latin-1"))
-    return f"{title}: {own if len(own) <= NAMED else own[:NAMED] + '..'}"
+    if len(own) > FIRST_NAMED + LAST_NAMED:
+        own = f"{own[:FIRST_NAMED]}..{own[-LAST_NAMED:]}"
+    return f"{title}: {own}"
 
 
 def files(source, other=b""):
@@ -73,7 +75,8 @@ def refusals(title, words, rows):
 
 def spoken(title, source, rows):
     """A source, and words, each with the status and the line with which they are refused."""
-    return [Row(named(title, " ".join(words) or "no words"), (refused(words, source, b"", status, err),)) for words, status, err in rows]
+    made = [(" ".join(words) or "no words", refused(words, source, b"", status, err)) for words, status, err in rows]
+    return [Row(named(title, name), (step,)) for name, step in made]
 
 
 def cut(title, words, source, other, status, out, err):

@@ -5,7 +5,7 @@ use pc_test_inputs::{Wrong, core_of};
 use std::alloc::{AllocError, Global};
 
 /// Classes with constructors and without one, an actor, a primitive, a trait, and the class `E` with the bodies: its
-/// methods are 4 to 8, and the added `create` of `D` is 9. The texts have the numbers 3 `apply`, 5 `f`, 7 `m` and 8 `g`.
+/// methods are 4 to 8, and the added `create` of `D` is 9. The texts have the numbers 3 `apply`, 5 `f`, 7 `m` and 10 `g`.
 const FILE: &[u8] = b"\
 class C
   new create(n: U64) => None
@@ -66,7 +66,7 @@ const SECOND: [Row; 22] = [
     ("consume", 1, &[], 0, (285, 294)),
     ("this", 0, &[], 0, (279, 280)),
     ("field", 5, &[40], 0, (279, 280)),
-    ("set field", 8, &[39, 41], 0, (279, 294)),
+    ("set field", 10, &[39, 41], 0, (279, 294)),
     ("seq", 0, &[42], 0, (279, 294)),
     ("prim", 0, &[], 0, (295, 298)),
     ("seq", 0, &[44], 0, (295, 298)),
