@@ -16,8 +16,14 @@ CONTRACT = [
     ("pc_io", "Change"),
 ]
 
-# The definitions of commands that came after the limits on these counts had been set.
-LATER = [("pc_top", f"Commands/{name}") for name in ("Explain", "Events", "Places", "Outcomes")]
+# The definitions of commands that came after the limits on these counts had been set, by command.
+LATER_COMMANDS = {
+    "explain": [("pc_top", "Commands/Explain"), ("pc_core_commands", "Explain")],
+    "events": [("pc_top", "Commands/Events"), ("pc_core_commands", "Events")],
+    "places": [("pc_top", "Commands/Places")],
+    "outcomes": [("pc_top", "Commands/Outcomes"), ("pc_core_commands", "Outcomes")],
+}
+LATER = [it for files in LATER_COMMANDS.values() for it in files]
 
 # An import of definitions of a crate: from a file, a file of a folder, or a type of a file. Types that come from the code are
 # `declared`.

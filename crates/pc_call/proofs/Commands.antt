@@ -16,18 +16,23 @@ use Rattle.pc_refusals.specs.Source.{FileStage, SourceStage}
 use Rattle.pc_refusals.specs.Verdict.{EndsWith, Verdict}
 use Rattle.pc_top.specs.Commands.{IsVerdictOf}
 use Rattle.pc_top.specs.Commands.Check.{Derived, IsCheck}
-use Rattle.pc_top.specs.Commands.Events.{IsEvents, EventsTelling}
+use Rattle.pc_core_commands.specs.Events.{EventsTelling}
+use Rattle.pc_top.specs.Commands.Events.{IsEvents}
 use Rattle.pc_top.specs.Commands.Explain.{Explained, ExplainedStage, IsExplain}
-use Rattle.pc_top.specs.Commands.Judge.{IsJudge, accepted_text}
-use Rattle.pc_top.specs.Commands.Outcomes.{IsCount, IsOutcomes, Tabled}
+use Rattle.pc_core_commands.specs.Judge.{accepted_text}
+use Rattle.pc_top.specs.Commands.Judge.{IsJudge}
+use Rattle.pc_core_commands.specs.Outcomes.{IsCount}
+use Rattle.pc_top.specs.Commands.Outcomes.{IsOutcomes, Tabled}
 use Rattle.pc_top.specs.Commands.Places.{IsPlaces, Placed}
 use Rattle.pc_top.specs.Commands.Play.{IsPlay, Played}
-use Rattle.pc_top.specs.Commands.Run.{IsRun, Ran}
+use Rattle.pc_core_commands.specs.Run.{Ran}
+use Rattle.pc_top.specs.Commands.Run.{IsRun}
 use Rattle.pc_top.specs.Commands.Schedule.{IsSchedule, Scheduled}
 use Rattle.pc_top.specs.Commands.Sends.{IsSends, Sent}
 use Rattle.pc_top.specs.Commands.Show.{IsShow, Shown}
 use Rattle.pc_top.specs.Commands.Swap.{IsSwap}
-use Rattle.pc_top.specs.Commands.Trace.{IsTrace, Tracing}
+use Rattle.pc_core_commands.specs.Trace.{Tracing}
+use Rattle.pc_top.specs.Commands.Trace.{IsTrace}
 use Rattle.pc_top.specs.Commands.Upgrade.{IsUpgrade}
 use Rattle.pc_buffers.specs.Holding.{HoldsBeside}
 use Rattle.pc_call.specs.Inner.Shelves.{IsVerdictOn, shelf}

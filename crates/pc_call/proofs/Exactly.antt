@@ -15,8 +15,8 @@ use Rattle.pc_lists.specs.Texts.{Text}
 use Rattle.pc_refusals.specs.Verdict.{Verdict}
 use Rattle.pc_top.specs.Asked.{OfFile, OfSource}
 use Rattle.pc_top.specs.Commands.{HasNumber, infers, source_of}
-use Rattle.pc_top.specs.Commands.Outcomes.{IsCount, seeds_limit}
-use Rattle.pc_top.specs.Commands.Swap.{IsPlace}
+use Rattle.pc_core_commands.specs.Outcomes.{IsCount, seeds_limit}
+use Rattle.pc_core_commands.specs.Swap.{IsPlace}
 use Rattle.pc_top.specs.CoreOf.{IsDerivable, IsUnderivable}
 use Rattle.pc_top.specs.Exact.{IsDerivationOf, JudgedAreExact, ReadsBoth, ReadsSource, StatusesAreExact}
 use Rattle.pc_buffers.specs.Laying.{Buffer}

@@ -13,7 +13,8 @@ use Rattle.pc_refusals.specs.Source.{SourceStage, source_limit}
 use Rattle.pc_refusals.specs.Verdict.{EndsWith, Verdict}
 use Rattle.pc_refusals.specs.declared.typing.Accepted.{Accepted}
 use Rattle.pc_sched.specs.Limits.{schedule_limit}
-use Rattle.pc_top.specs.Commands.Swap.{IsSwap, Swapping, no_number, placed}
+use Rattle.pc_core_commands.specs.Swap.{Swapping}
+use Rattle.pc_top.specs.Commands.Swap.{IsSwap, no_number, placed}
 use Rattle.pc_top.specs.Shapes as shapes
 use Rattle.pc_top.specs.Shapes.{ByNumber, LastOfTurns, OfAccepted, OfDerivation, OfScheduled, OfTurns, spelled}
 use Rattle.pc_call.specs.Verdicts.{derivation_file, schedule_file, source_file}

@@ -7,7 +7,8 @@ use Rattle.pc_top.specs.Commands.Check.{IsCheck}
 use Rattle.pc_top.specs.Commands.Events.{IsEvents}
 use Rattle.pc_top.specs.Commands.Explain.{IsExplain}
 use Rattle.pc_top.specs.Commands.Judge.{IsJudge}
-use Rattle.pc_top.specs.Commands.Outcomes.{IsOutcomes, seeds_limit}
+use Rattle.pc_core_commands.specs.Outcomes.{seeds_limit}
+use Rattle.pc_top.specs.Commands.Outcomes.{IsOutcomes}
 use Rattle.pc_top.specs.Commands.Places.{IsPlaces}
 use Rattle.pc_top.specs.Commands.Play.{IsPlay}
 use Rattle.pc_top.specs.Commands.Run.{IsRun}

@@ -18,7 +18,7 @@ use Rattle.pc_refusals.specs.Source.Length.{fits}
 use Rattle.pc_refusals.specs.Verdict.{Verdict, done}
 use Rattle.pc_refusals.proofs.Lengths.{text_within}
 use Rattle.pc_top.specs.Commands.{IsVerdictOf, files_of}
-use Rattle.pc_top.specs.Commands.Judge.{accepted_text}
+use Rattle.pc_core_commands.specs.Judge.{accepted_text}
 use Rattle.pc_top.specs.Exact.{IsDerivationOf, JudgedAreExact, ReadsBoth}
 use Rattle.pc_top.specs.One.{TellsOf, UnfailedOf, VerdictIsOne}
 use Rattle.pc_top.specs.Shapes.{OfDerivation}

@@ -14,7 +14,8 @@ use Rattle.pc_refusals.specs.declared.source.Source.{Source}
 use Rattle.pc_refusals.specs.declared.stop.Stop.{Stop}
 use Rattle.pc_refusals.proofs.Ending.{both_answer, both_stop, last_stops}
 use Rattle.pc_refusals.proofs.TwoFiles.{second_gives, second_stops}
-use Rattle.pc_top.specs.Commands.Judge.{IsJudge, accepted_text}
+use Rattle.pc_core_commands.specs.Judge.{accepted_text}
+use Rattle.pc_top.specs.Commands.Judge.{IsJudge}
 use Rattle.pc_top.specs.Shapes.{UnreadDerivation}
 use Rattle.pc_top.proofs.Deriving.{never_longer}
 

@@ -1,16 +1,15 @@
 -- What the shapes of verdicts imply, whatever the last part of the command.
-use Rattle.std.proofs.Common.{◌≡◌, ◌≤◌, ℕ, List, length, Ok, Err, inl, inr, ap, subst, arith}
+use Rattle.std.proofs.Common.{◌≡◌, ℕ, List, Ok, Err, inl, inr, subst, arith}
 use Rattle.std.specs.Prelude.{◌⊎◌, IfSome, IsSome}
 use Rattle.pc_ann.specs.declared.annotation.Ann.{Ann}
 use Rattle.pc_deriv.specs.Limits.{derivation_limit}
 use Rattle.pc_lists.specs.Texts.{Text}
 use Rattle.pc_core.specs.CoreData.{CoreData}
 use Rattle.pc_deriv.specs.Faults.{IsText}
-use Rattle.pc_sched_lines.proofs.Spreads.{length-spread}
 use Rattle.pc_valid.specs.Valid.{Valid}
 use Rattle.pc_run.specs.Spreading.{spread}
-use Rattle.pc_sched.specs.Limits.{schedule_limit, turn_limit}
-use Rattle.pc_sched.specs.Schedules.{TurnList, total}
+use Rattle.pc_sched.specs.Limits.{schedule_limit}
+use Rattle.pc_sched.specs.Schedules.{TurnList}
 use Rattle.pc_sched.specs.declared.turns.Turn.{Turn}
 use Rattle.pc_refusals.specs.Accepting.{AcceptedStage}
 use Rattle.pc_refusals.specs.Derivation.{DerivationStage, Judging}
@@ -76,13 +75,6 @@ module _ (Last : LastOfTurns) (file schedule : Named) where
       accepted_one (OfTurns Last schedule) file laws known unfailed
       (λ a. one_from schedule schedule_limit (ScheduleStage schedule.name) (λ turns. Last schedule.name a.source.core (spread turns)) also too (one_schedule laws schedule.name)
       (λ d turns k. last schedule.name a.source.core (spread turns)))
-
--- The steps of a schedule are not too many.
-pub few_steps : (turns : List Turn) (list : List ℕ) → list ≡ spread turns → total turns ≤ turn_limit → length list ≤ turn_limit
-few_steps turns list is few =
-    let same = ap (λ (l : List ℕ). length l) is in
-    let count = length-spread turns in
-    omega (arith, same, count, few)
 
 -- ---- a source and a derivation
 

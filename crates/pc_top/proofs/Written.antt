@@ -23,7 +23,8 @@ use Rattle.pc_refusals.proofs.Lengths.{text_within}
 use Rattle.pc_refusals.proofs.Statuses.{accepted_refuses}
 use Rattle.pc_top.specs.Commands.{IsVerdictOf}
 use Rattle.pc_top.specs.Commands.Check.{Derived, IsCheck}
-use Rattle.pc_top.specs.Commands.Judge.{IsJudge, accepted_text}
+use Rattle.pc_core_commands.specs.Judge.{accepted_text}
+use Rattle.pc_top.specs.Commands.Judge.{IsJudge}
 use Rattle.pc_top.specs.Commands.Upgrade.{IsUpgrade}
 use Rattle.pc_top.specs.OnOut.{UpgradedIsAccepted, WrittenIsAccepted}
 use Rattle.pc_top.specs.Shapes.{OfDerivation}

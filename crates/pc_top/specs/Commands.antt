@@ -11,16 +11,19 @@ use Rattle.pc_refusals.specs.Verdict.{Verdict, refused}
 use Rattle.pc_top.specs.Commands.Check.{IsCheck, WritesDerivation}
 use Rattle.pc_top.specs.Commands.Events.{IsEvents, WritesEvents}
 use Rattle.pc_top.specs.Commands.Explain.{IsExplain, WritesExplained}
-use Rattle.pc_top.specs.Commands.Judge.{IsJudge, accepted_text}
+use Rattle.pc_core_commands.specs.Judge.{accepted_text}
+use Rattle.pc_top.specs.Commands.Judge.{IsJudge}
 use Rattle.pc_top.specs.Commands.Make.{IsMake, WritesMade}
-use Rattle.pc_top.specs.Commands.Outcomes.{IsCount, IsOutcomes, WritesOutcomes}
+use Rattle.pc_core_commands.specs.Outcomes.{IsCount}
+use Rattle.pc_top.specs.Commands.Outcomes.{IsOutcomes, WritesOutcomes}
 use Rattle.pc_top.specs.Commands.Places.{IsPlaces, WritesPlaces}
 use Rattle.pc_top.specs.Commands.Play.{IsPlay, WritesPlay}
 use Rattle.pc_top.specs.Commands.Run.{IsRun, WritesRun}
 use Rattle.pc_top.specs.Commands.Schedule.{IsSchedule, WritesSchedule}
 use Rattle.pc_top.specs.Commands.Sends.{IsSends, WritesSends}
 use Rattle.pc_top.specs.Commands.Show.{IsShow, WritesTree}
-use Rattle.pc_top.specs.Commands.Swap.{IsPlace, IsSwap, UnreadSwap, WritesSwap}
+use Rattle.pc_core_commands.specs.Swap.{IsPlace}
+use Rattle.pc_top.specs.Commands.Swap.{IsSwap, UnreadSwap, WritesSwap}
 use Rattle.pc_top.specs.Commands.Trace.{IsTrace, WritesTrace}
 use Rattle.pc_top.specs.Commands.Upgrade.{IsUpgrade, WritesUpgraded}
 use Rattle.pc_top.specs.Shapes.{UnreadDerivation, UnreadNumbered, UnreadScheduled}

@@ -1,6 +1,5 @@
 -- How the inner parts of a command end. Only the contracts of these parts use it; it is not needed to read the contract
 -- of `rcap`.
 pub mod Asking
-pub mod Explaining
 pub mod Numbering
 pub mod Scheduling

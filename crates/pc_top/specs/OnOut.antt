@@ -7,8 +7,9 @@ use Rattle.pc_refusals.specs.Named.{Files}
 use Rattle.pc_refusals.specs.Verdict.{done}
 use Rattle.pc_top.specs.Asked.{IsVerdict}
 use Rattle.pc_top.specs.Commands.{OnOutOf}
-use Rattle.pc_top.specs.Commands.Judge.{accepted_text}
-use Rattle.pc_top.specs.Commands.Swap.{IsPlace, WritesSwap}
+use Rattle.pc_core_commands.specs.Judge.{accepted_text}
+use Rattle.pc_core_commands.specs.Swap.{IsPlace}
+use Rattle.pc_top.specs.Commands.Swap.{WritesSwap}
 use Rattle.pc_top.specs.Commands.Trace.{WritesTrace}
 
 -- What the command of the words writes, if the bytes of its files are known: the source's derivation, `accepted`, the

@@ -19,7 +19,6 @@ mod play;
 mod run;
 mod schedule;
 mod sends;
-mod sent_lines;
 mod show;
 mod swap;
 mod trace;

@@ -15,12 +15,12 @@ use Rattle.pc_refusals.specs.Verdict.{EndsWith, Verdict}
 use Rattle.pc_ann.specs.declared.annotation.Ann.{Ann}
 use Rattle.pc_sched.specs.Limits.{schedule_limit}
 use Rattle.pc_top.specs.Commands.{FailedOf, IsVerdictOf, files_of}
-use Rattle.pc_top.specs.Commands.Events.{EventsTelling}
-use Rattle.pc_top.specs.Commands.Outcomes.{IsCount}
-use Rattle.pc_top.specs.Commands.Run.{Ran}
-use Rattle.pc_top.specs.Commands.Swap.{Swapping}
+use Rattle.pc_core_commands.specs.Events.{EventsTelling}
+use Rattle.pc_core_commands.specs.Outcomes.{IsCount}
+use Rattle.pc_core_commands.specs.Run.{Ran}
+use Rattle.pc_core_commands.specs.Swap.{Swapping}
 use Rattle.pc_top.specs.Commands.Swap.IsSwap.{no_number as no_place, placed}
-use Rattle.pc_top.specs.Commands.Trace.{Tracing}
+use Rattle.pc_core_commands.specs.Trace.{Tracing}
 use Rattle.pc_top.specs.One.{TellsOf, UnfailedOf, VerdictIsOne}
 use Rattle.pc_top.specs.Shapes.{ByNumber, LastOfTurns, OfDerivation, OfScheduled}
 use Rattle.pc_top.specs.Shapes.ByNumber.{no_number, spelled}

@@ -7,8 +7,8 @@ use Rattle.pc_args.specs.Numbers.{IsNumber, IsSeed, IsSize}
 use Rattle.pc_lists.specs.Texts.{Text}
 use Rattle.pc_refusal_lines.specs.Lines.{usage_line}
 use Rattle.pc_refusals.specs.Verdict.{Verdict, refused}
-use Rattle.pc_top.specs.Commands.Outcomes.{IsCount, seeds_limit}
-use Rattle.pc_top.specs.Commands.Swap.{IsPlace}
+use Rattle.pc_core_commands.specs.Outcomes.{IsCount, seeds_limit}
+use Rattle.pc_core_commands.specs.Swap.{IsPlace}
 use Rattle.pc_top.specs.Shapes.{ByNumber}
 use Rattle.pc_top.specs.Shapes.ByNumber.{no_number, spelled}
 use Rattle.pc_verdicts.proofs.Same.{Told}

@@ -33,8 +33,9 @@ use Rattle.pc_refusal_lines.specs.Lines.{many_actors_line, too_long_line}
 use Rattle.pc_refusals.specs.Named.{Named}
 use Rattle.pc_refusals.specs.Source.{source_limit}
 use Rattle.pc_refusals.specs.Verdict.{EndsWith, refused}
-use Rattle.pc_top.specs.Commands.Events.{IsEvents, EventsTelling}
-use Rattle.pc_top.specs.Commands.Events.EventsTelling.{tells, too_long, too_many}
+use Rattle.pc_core_commands.specs.Events.{EventsTelling}
+use Rattle.pc_top.specs.Commands.Events.{IsEvents}
+use Rattle.pc_core_commands.specs.Events.EventsTelling.{tells, too_long, too_many}
 use Rattle.pc_top.specs.CoresFormed.{CoresAreFormed}
 use Rattle.pc_top.proofs.Deriving.{accepted_core_safe, accepted_source, source_formed}
 use Rattle.pc_verdicts.proofs.Clocks.{carries_told, clocks_are_there, event_at, event_below}

@@ -20,11 +20,14 @@ use Rattle.pc_refusals.specs.Named.{Named, Reading, text_as}
 use Rattle.pc_refusals.specs.Source.{source_limit}
 use Rattle.pc_refusals.specs.Verdict.{done, headed, refused}
 use Rattle.pc_refusals.specs.declared.typing.Accepted.{Accepted}
-use Rattle.pc_top.specs.Commands.Make.{IsMade, IsMake, MadeRun, made_line, made_name, made_text}
+use Rattle.pc_core_commands.specs.Make.{made_line, made_name}
+use Rattle.pc_top.specs.Commands.Make.{IsMade, IsMake, MadeRun, made_text}
 use Rattle.pc_top.specs.Commands.Make.IsMake.{made, no_numbers}
 use Rattle.pc_top.specs.Commands.Play.{IsPlay, Played}
-use Rattle.pc_top.specs.Commands.Run.{IsRun, Ran}
-use Rattle.pc_top.specs.Commands.Schedule.{IsChosenLine, IsSchedule, Scheduled}
+use Rattle.pc_core_commands.specs.Run.{Ran}
+use Rattle.pc_top.specs.Commands.Run.{IsRun}
+use Rattle.pc_core_commands.specs.Schedule.{IsChosenLine}
+use Rattle.pc_top.specs.Commands.Schedule.{IsSchedule, Scheduled}
 use Rattle.pc_top.specs.Shapes.{OfAccepted}
 use Rattle.pc_top.specs.CoresFormed.{CoresAreFormed}
 use Rattle.pc_top.proofs.Deriving.{accepted_lacks_nothing}
@@ -68,7 +71,7 @@ module _ (law : CoresAreFormed) (never : AcceptedNeverLacks) where
   made_run : (seed size : ℕ) (a : Accepted) → NeverLacks a.source.core → Answers (MadeRun seed size a)
   made_run seed size a h =
       let w = ran_answers made_name a.source.core (spread (own_schedule size)) h in
-      (headed (made_line seed size a) w.0, (w.0, w.1, refl))
+      (headed (made_line seed size a.source.core) w.0, (w.0, w.1, refl))
 
   is_made : (seed size : ℕ) → Answers (IsMade seed size)
   is_made seed size =

@@ -12,8 +12,8 @@ use Rattle.pc_sched_lines.specs.Lines.{IsLine, line_of}
 use Rattle.pc_sched_lines.specs.Rows.{HasOtherActor, RowsOf}
 use Rattle.pc_sched_lines.proofs.Spelling.{is_line}
 use Rattle.pc_semantics.specs.Text.{steps_of}
-use Rattle.pc_top.specs.Commands.Run.{Ran}
-use Rattle.pc_top.proofs.RunEnds.{has_verdict}
+use Rattle.pc_core_commands.specs.Run.{Ran}
+use Rattle.pc_core_commands.proofs.RunEnds.{has_verdict}
 use Rattle.pc_verdicts.proofs.Stages.{Answers}
 
 pub ran_answers : (name : Text) (core : CoreData) (list : List ℕ) → NeverLacks core → Answers (Ran name core list)

@@ -39,7 +39,8 @@ use Rattle.pc_tree.specs.declared.kinds.EntityKind.TheVariants as kind
 use Rattle.pc_refusals.specs.Named.{Named}
 use Rattle.pc_refusals.specs.Source.{source_limit}
 use Rattle.pc_refusals.specs.Verdict.{done}
-use Rattle.pc_top.specs.Commands.Sends.{IsSends, Sent, table_text}
+use Rattle.pc_core_commands.specs.Sends.{table_text}
+use Rattle.pc_top.specs.Commands.Sends.{IsSends, Sent}
 use Rattle.pc_top.specs.CoresFormed.{CoresAreFormed}
 use Rattle.pc_top.proofs.Deriving.{accepted_source, source_formed}
 use Rattle.pc_verdicts.proofs.Chains.{Led, led_more, led_told, more, one}

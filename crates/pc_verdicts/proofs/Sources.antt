@@ -16,11 +16,12 @@ use Rattle.pc_refusals.specs.Source.{Elaborating, FileStage, SourceStage, source
 use Rattle.pc_refusals.specs.Source.Elaborating.{elaborated, misnamed, misused}
 use Rattle.pc_refusals.specs.Verdict.{Verdict, done}
 use Rattle.pc_refusals.specs.declared.source.Source.{Source}
-use Rattle.pc_top.specs.Commands.Explain.{CoreText, Explained, ExplainedStage, Explaining, IsExplain, fault_end}
-use Rattle.pc_top.specs.Commands.Explain.CoreText.{accepted, explained}
+use Rattle.pc_core_commands.specs.Explain.{CoreText, Explaining, fault_end}
+use Rattle.pc_top.specs.Commands.Explain.{Explained, ExplainedStage, IsExplain}
+use Rattle.pc_core_commands.specs.Explain.CoreText.{accepted, explained}
 use Rattle.pc_top.specs.Commands.Explain.ExplainedStage.{has_none, has_tree}
-use Rattle.pc_top.specs.Commands.Explain.Explaining.{has_core as core_explained, has_fault}
-use Rattle.pc_top.specs.Commands.Judge.{accepted_text}
+use Rattle.pc_core_commands.specs.Explain.Explaining.{has_core as core_explained, has_fault}
+use Rattle.pc_core_commands.specs.Judge.{accepted_text}
 use Rattle.pc_top.specs.Commands.Places.{IsPlaces, Placed}
 use Rattle.pc_top.specs.Commands.Show.{IsShow, Shown}
 use Rattle.pc_top.specs.CoresFormed.{CoresAreFormed}

@@ -1,5 +1,5 @@
 -- `swap` has a verdict.
-use Rattle.std.proofs.Common.{◌≡◌, ◌≢◌, ◌≤◌, ◌+◌, ◌-◌, ℕ, Bool, true, false, List, [], ◌∷◌, ◌++◌, length, map, None, Ok, Err, inl, inr, refl, sym, ap, subst, arith}
+use Rattle.std.proofs.Common.{◌≡◌, ◌≢◌, ◌≤◌, ◌+◌, ◌-◌, ℕ, Bool, true, false, List, [], ◌∷◌, ◌++◌, length, map, None, Ok, Err, inl, inr, refl, sym, subst, arith}
 use Rattle.std.specs.Prelude.{IsSome}
 use Rattle.std.specs.List.{AllByRecursion}
 use Rattle.std.proofs.lemmas.Bool.{cases_eq, cases_lt}
@@ -28,14 +28,15 @@ use Rattle.pc_refusals.specs.Named.{Named}
 use Rattle.pc_refusals.specs.Source.{source_limit}
 use Rattle.pc_refusals.specs.Verdict.{EndsWith, refused}
 use Rattle.pc_refusals.proofs.Scheduled.{few_turns, schedule_says}
-use Rattle.pc_top.specs.Commands.Swap.{IsPlace, IsSwap, IsSwapAt, Neighbours, StandAt, SwapText, Swapping, kept_line}
+use Rattle.pc_core_commands.specs.Swap.{IsPlace, Neighbours, StandAt, SwapText, Swapping, kept_line}
+use Rattle.pc_top.specs.Commands.Swap.{IsSwap, IsSwapAt}
 use Rattle.pc_top.specs.Commands.Swap.IsSwap.{no_number, placed}
-use Rattle.pc_top.specs.Commands.Swap.SwapText.{exchanged, stay}
-use Rattle.pc_top.specs.Commands.Swap.Swapping.{no_place, tells, too_long}
+use Rattle.pc_core_commands.specs.Swap.SwapText.{exchanged, stay}
+use Rattle.pc_core_commands.specs.Swap.Swapping.{no_place, tells, too_long}
 use Rattle.pc_top.specs.CoresFormed.{CoresAreFormed}
 use Rattle.pc_top.proofs.Deriving.{accepted_core_safe, accepted_lacks_nothing}
-use Rattle.pc_top.proofs.Neighbouring.{length_exchanged, turns_at}
-use Rattle.pc_top.proofs.RunEnds.{run_ends}
+use Rattle.pc_core_commands.proofs.Neighbouring.{length_exchanged, turns_at}
+use Rattle.pc_core_commands.proofs.RunEnds.{run_ends}
 use Rattle.pc_verdicts.proofs.Numbers.{Read, place_read}
 use Rattle.pc_verdicts.proofs.Runs.{Small, line_is_there, small_append, small_steps}
 use Rattle.pc_verdicts.proofs.Shapes.{scheduled_answers}

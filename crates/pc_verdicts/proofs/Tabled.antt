@@ -20,8 +20,9 @@ use Rattle.pc_semantics.specs.Text.{end_of, lines}
 use Rattle.pc_refusals.specs.Named.{Named}
 use Rattle.pc_refusals.specs.Source.{source_limit}
 use Rattle.pc_refusals.specs.Verdict.{refused}
-use Rattle.pc_top.specs.Commands.Outcomes.{IsCount, IsOutcomes, Tabled, OutcomesTelling, many_bytes_line, many_steps_line}
-use Rattle.pc_top.specs.Commands.Outcomes.OutcomesTelling.{many_bytes, many_steps, tells}
+use Rattle.pc_core_commands.specs.Outcomes.{IsCount, OutcomesTelling, many_bytes_line, many_steps_line}
+use Rattle.pc_top.specs.Commands.Outcomes.{IsOutcomes, Tabled}
+use Rattle.pc_core_commands.specs.Outcomes.OutcomesTelling.{many_bytes, many_steps, tells}
 use Rattle.pc_top.specs.Shapes.{OfAccepted}
 use Rattle.pc_top.specs.CoresFormed.{CoresAreFormed}
 use Rattle.pc_verdicts.proofs.Numbers.{count_read, number_answers}

@@ -36,8 +36,9 @@ use Rattle.pc_refusals.specs.Named.{Named}
 use Rattle.pc_refusals.specs.Source.{source_limit}
 use Rattle.pc_refusals.specs.Verdict.{EndsWith, refused}
 use Rattle.pc_run_events.specs.TouchLines.{trace_text}
-use Rattle.pc_top.specs.Commands.Trace.{IsTrace, Tracing}
-use Rattle.pc_top.specs.Commands.Trace.Tracing.{tells, too_long, too_many}
+use Rattle.pc_core_commands.specs.Trace.{Tracing}
+use Rattle.pc_top.specs.Commands.Trace.{IsTrace}
+use Rattle.pc_core_commands.specs.Trace.Tracing.{tells, too_long, too_many}
 use Rattle.pc_top.specs.CoresFormed.{CoresAreFormed}
 use Rattle.pc_top.proofs.Deriving.{accepted_core_safe}
 use Rattle.pc_verdicts.proofs.Clocks.{clocks_are_there, event_at, event_below}

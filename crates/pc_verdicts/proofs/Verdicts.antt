@@ -14,7 +14,7 @@ use Rattle.pc_refusals.specs.Named.{Named, named}
 use Rattle.pc_refusals.specs.Source.{source_limit}
 use Rattle.pc_refusals.specs.Verdict.{refused}
 use Rattle.pc_top.specs.Commands.{IsVerdictOf}
-use Rattle.pc_top.specs.Commands.Judge.{accepted_text}
+use Rattle.pc_core_commands.specs.Judge.{accepted_text}
 use Rattle.pc_top.specs.One.{TellsOf}
 use Rattle.pc_top.specs.CoresFormed.{CoresAreFormed}
 use Rattle.pc_verdicts.proofs.Derived.{check_answers}

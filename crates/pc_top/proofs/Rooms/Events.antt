@@ -1,5 +1,5 @@
 -- The room of `events`.
-use Rattle.std.proofs.Common.{◌≡◌, ◌⊎◌, ℕ, List, [], Ok, Err, inl, inr, refl, subst, arith}
+use Rattle.std.proofs.Common.{◌≡◌, ◌⊎◌, ℕ, List, [], Ok, Err, inl, inr, refl, subst}
 use Rattle.std.specs.Prelude.{IfSome}
 use Rattle.std.specs.Io.KnownBytes.{Appends}
 use Rattle.pc_lists.specs.Texts.{Text}
@@ -13,42 +13,25 @@ use Rattle.pc_refusals.specs.Named.{Files, Named, named}
 use Rattle.pc_refusals.specs.Verdict.{EndsWith, Verdict, IsAccepting, done}
 use Rattle.pc_refusals.proofs.LastStages.{ends_cases, ends_one, ends_status}
 use Rattle.pc_refusals.proofs.Statuses.{IsLate}
-use Rattle.pc_top.specs.Commands.Events.{IsEvents, EventsTelling, AreEventsOfRun, WritesEvents}
-use Rattle.pc_top.specs.Commands.Events.EventsTelling.{tells, too_long, too_many}
+use Rattle.pc_core_commands.specs.Events.{EventsTelling, AreEventsOfRun}
+use Rattle.pc_top.specs.Commands.Events.{IsEvents, WritesEvents}
 use Rattle.pc_top.specs.Shapes.{LastOfTurns, OfTurns}
 use Rattle.pc_top.proofs.Accepted.{both_by}
 use Rattle.pc_top.proofs.Begins.{begins}
 use Rattle.pc_top.proofs.Room.{Room, inferring}
-use Rattle.pc_top.proofs.Rooms.Events.One.{one_telling}
+use Rattle.pc_core_commands.proofs.EventsTold.{events_cut, events_say, telling_late}
+use Rattle.pc_core_commands.proofs.OneEvents.{one_telling}
 use Rattle.pc_top.proofs.Shapes.{scheduled_one, scheduled_says, turns_late}
-pub mod One
-pub mod Stops
 
 abbrev Last : LastOfTurns
 Last name core list = EndsWith (EventsTelling name core list)
 
 -- ---- its statuses
 
-refusal_late : {name : Text} {core : CoreData} {list : List ℕ} {v : Verdict} → EventsTelling name core list (Err v) → IsLate v.status
-refusal_late (too_long n h) = inr (inr (inl refl))
-refusal_late (too_many n h) = inr (inl (omega arith, omega arith))
-
 told_late : (name : Text) (core : CoreData) (list : List ℕ) (v : Verdict) → Last name core list v → IsLate v.status
-told_late name core list = ends_status (λ text. text) (EventsTelling name core list) IsLate (inl refl) (λ w h. refusal_late h)
+told_late name core list = ends_status (λ text. text) (EventsTelling name core list) IsLate (inl refl) (λ w h. telling_late h)
 
 -- ---- what is on out
-
-told_by : {name : Text} {core : CoreData} {list : List ℕ} {text : Text} → EventsTelling name core list (Ok text) → (events : List RunEvent) × AreEventsOfRun core list events × (text ≡ events_text_of_run core events)
-told_by (tells list text h is) = (list, h, is)
-
-eight_refuses : IsAccepting 8 → ⊥
-eight_refuses (inl e) = omega (arith, e)
-eight_refuses (inr e) = omega (arith, e)
-
--- if a text ended the run
-cut_by : {name : Text} {core : CoreData} {list : List ℕ} {v : Verdict} → EventsTelling name core list (Err v) → IsAccepting v.status → (v.status ≡ 12) × (v.out ≡ [])
-cut_by (too_long n h) e = (refl, refl)
-cut_by (too_many n h) e = absurd (eight_refuses e)
 
 -- Out grew by the report on the run, or by nothing, and then the status is 12.
 abbrev Wrote : Change → ℕ → Text → Text → Type 0
@@ -60,11 +43,11 @@ wrote_by : (out : Change) (v : Verdict) (name : Text) (core : CoreData) (list : 
     → ((text : Text) × EventsTelling name core list (Ok text) × (v ≡ done text)) ⊎ EventsTelling name core list (Err v)
     → Wrote out v.status source schedule
 wrote_by out v name core list source schedule e o by (inl (text, h, is)) =
-    let t = told_by h in
+    let t = events_say h in
     let grew : Appends out.before out.now text = subst (λ (w : Verdict). Appends out.before out.now w.out) is o in
     inl (by t.0 t.1 (subst (λ (x : Text). Appends out.before out.now x) t.2 grew))
 wrote_by out v name core list source schedule e o by (inr h) =
-    let c = cut_by h e in
+    let c = events_cut h e in
     inr (c.0, subst (λ (t : Text). Appends out.before out.now t) c.1 o)
 
 wrote_on_out : (file schedule : Named) (v : Verdict) (out : Change) → IsEvents file schedule v → IsAccepting v.status → Appends out.before out.now v.out

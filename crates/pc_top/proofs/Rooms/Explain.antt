@@ -1,13 +1,10 @@
 -- The room of `explain`, whose source need not have a derivation.
-use Rattle.std.proofs.Common.{◌≡◌, ℕ, Ok, Err, refl, sym, ap, subst, ◌∙◌, arith}
-use Rattle.std.specs.Prelude.{IfErr, IfSome, Result}
+use Rattle.std.proofs.Common.{◌≡◌, ℕ, Ok, Err, refl, sym, ap, subst, ◌∙◌}
+use Rattle.std.specs.Prelude.{IfSome, Result}
 use Rattle.std.specs.Io.KnownBytes.{Appends}
 use Rattle.pc_lists.specs.Texts.{Text}
 use Rattle.pc_args.specs.Asked.{explain, make}
 use Rattle.pc_io.specs.Change.{Change}
-use Rattle.pc_names.specs.Names.{IsNotMemory}
-use Rattle.pc_names.specs.declared.fault.NameFault.{NameFault}
-use Rattle.pc_names.specs.declared.fault.NameFault.TheVariants as fault
 use Rattle.pc_tree.specs.Tree as t
 use Rattle.pc_refusals.specs.Named.{Files, IsReadingOf, Named, Reading, named, whole}
 use Rattle.pc_refusals.specs.Source.{FileStage, source_limit}
@@ -15,9 +12,10 @@ use Rattle.pc_refusals.specs.Verdict.{IsAccepting, Verdict}
 use Rattle.pc_refusals.proofs.LastStages.{from_status, passed}
 use Rattle.pc_refusals.proofs.OneSource.{one_from}
 use Rattle.pc_refusals.proofs.Statuses.{IsOther, IsOwn, file_other, other_not_one, other_own, other_refuses}
-use Rattle.pc_top.specs.Commands.Explain.{Explained, ExplainedStage, Explaining, IsExplain, WritesExplained, fault_end}
+use Rattle.pc_core_commands.specs.Explain.{Explaining}
+use Rattle.pc_top.specs.Commands.Explain.{Explained, ExplainedStage, IsExplain, WritesExplained}
 use Rattle.pc_top.specs.Commands.Explain.ExplainedStage.{has_none, has_tree}
-use Rattle.pc_top.specs.Commands.Explain.Explaining.{has_core, has_fault}
+use Rattle.pc_core_commands.proofs.Explained.{IsOtherEnd, explaining_other}
 use Rattle.pc_top.proofs.Accepted.{of_told}
 use Rattle.pc_top.proofs.Deriving.{file_says}
 use Rattle.pc_top.proofs.Room.{NotOne, Room, looks_for_none, zero_not_one, zero_own}
@@ -26,23 +24,6 @@ pub mod Ends
 pub mod One
 
 -- ---- its statuses
-
--- What a refusal has.
-abbrev IsOtherEnd : Result Text Verdict → Type 0
-IsOtherEnd end = IfErr end (λ v. IsOther v.status)
-
-fault_other : (name bytes : Text) (file : t.File) (f : NameFault) → IsNotMemory f → IsOtherEnd (fault_end name bytes file f)
-fault_other name bytes file (fault.Double s) o = tt
-fault_other name bytes file (fault.Unknown s) o = tt
-fault_other name bytes file fault.NoMain o = tt
-fault_other name bytes file (fault.BadMain s) o = tt
-fault_other name bytes file (fault.Cycle s) o = tt
-fault_other name bytes file (fault.TooMany w s) o = (omega arith, omega arith)
-fault_other name bytes file fault.Memory o = absurd (o refl)
-
-explaining_other : (name bytes : Text) (file : t.File) (end : Result Text Verdict) → Explaining name bytes file end → IsOtherEnd end
-explaining_other name bytes file _ (has_core l s k) = tt
-explaining_other name bytes file _ (has_fault f o h) = fault_other name bytes file f o
 
 end_other : (name : Text) (r : Reading) (end : Result Text Verdict) → ExplainedStage name r end → IsOtherEnd end
 end_other name _ _ (has_tree {bytes = b} {file = f} {end = e} a k) = explaining_other name b f e k

@@ -18,7 +18,7 @@ use Rattle.pc_refusals.specs.declared.stop.Stop.{Stop}
 use Rattle.pc_refusals.specs.declared.stop.Stop.TheVariants.{Refused, File, Sink, Memory}
 use Rattle.pc_refusals.proofs.Statuses.{IsOther, source_other}
 use Rattle.pc_io.specs.Change.{Change}
-use Rattle.pc_top.specs.Commands.Judge.{accepted_text}
+use Rattle.pc_core_commands.specs.Judge.{accepted_text}
 use Rattle.pc_top.specs.Inner.Asking.{JudgeAsks}
 use Rattle.pc_top.specs.Referee.{JudgedAll}
 use Rattle.pc_top.proofs.Accepted.{source_whole}

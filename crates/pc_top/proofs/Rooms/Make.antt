@@ -1,5 +1,5 @@
 -- The room of `make`.
-use Rattle.std.proofs.Common.{◌≡◌, ℕ, ◌++◌, length, refl, sym, ap, ap₂, subst, ◌∙◌}
+use Rattle.std.proofs.Common.{◌≡◌, ◌<◌, ℕ, ◌++◌, length, refl, sym, ap, ap₂, subst, ◌∙◌, arith}
 use Rattle.std.specs.Io.KnownBytes.{Appends}
 use Rattle.std.proofs.lemmas.Option.{none-some}
 use Rattle.pc_lists.specs.Texts.{Text}
@@ -11,21 +11,25 @@ use Rattle.pc_io.specs.Change.{Change}
 use Rattle.pc_run.specs.Spreading.{spread}
 use Rattle.pc_semantics.specs.Text.{run_text}
 use Rattle.pc_refusal_lines.specs.Lines.{counts_line}
-use Rattle.pc_refusals.specs.Named.{Files, text_as}
+use Rattle.pc_refusals.specs.Named.{FailedAt, Files, text_as}
 use Rattle.pc_refusals.specs.Verdict.{Verdict, IsAccepting, headed}
 use Rattle.pc_refusals.specs.declared.typing.Accepted.{Accepted}
 use Rattle.pc_refusals.proofs.OneSource.{SourceLaws}
 use Rattle.pc_refusals.proofs.Statuses.{IsLate, IsOwn}
 use Rattle.pc_top.specs.Asked.{OfMade}
-use Rattle.pc_top.specs.Commands.Make.{IsMade, IsMake, MadeRun, WritesMade, made_line, made_name, made_text}
+use Rattle.pc_core_commands.specs.Make.{made_line, made_name}
+use Rattle.pc_top.specs.Commands.Make.{IsMade, IsMake, MadeRun, WritesMade, made_text}
 use Rattle.pc_top.specs.Commands.Make.IsMake.{made, no_numbers}
 use Rattle.pc_top.specs.CoreOf.{CoreOf, IsDerivable, IsUnderivable}
 use Rattle.pc_top.proofs.Begins.{Begins, begins, begins_accepts, begins_exact, begins_own, begins_refuses}
 use Rattle.pc_top.proofs.Premises.{Laws, Refusing}
 use Rattle.pc_top.proofs.Room.{Room, two_not_one, two_own, two_refuses}
-use Rattle.pc_top.proofs.Rooms.Run.{one_ran, ran_late, ran_says}
+use Rattle.pc_core_commands.proofs.Ran.{one_ran, ran_late, ran_says}
 use Rattle.pc_top.proofs.Shapes.{accepted_one, accepted_says}
-pub mod Ends
+
+-- a text that is in no file is read without a failure
+pub never_failed : (name text n : Text) → FailedAt (text_as name text) n → ⊥
+never_failed name text n f = let rose : 0 < 0 = f.1 in omega (arith, rose)
 
 made_late : (seed size : ℕ) (a : Accepted) (v : Verdict) → MadeRun seed size a v → IsLate v.status
 made_late seed size a v (w, r, is) = subst IsLate (sym (ap (λ (x : Verdict). x.status) is)) (ran_late made_name a.source.core (spread (schedule size)) w r)
@@ -38,7 +42,7 @@ made_begins a b = begins (MadeRun a b) (text_as made_name (made_text a b)) (made
 module _ (laws : Laws) where
   one_made_run : (seed size : ℕ) (a : Accepted) (v w : Verdict) → MadeRun seed size a v → MadeRun seed size a w → v ≡ w
   one_made_run seed size a v w (x, r, is) (y, s, was) =
-      is ∙ (ap (headed (made_line seed size a)) (one_ran made_name a.source.core (spread (schedule size)) x y r s) ∙ sym was)
+      is ∙ (ap (headed (made_line seed size a.source.core)) (one_ran made_name a.source.core (spread (schedule size)) x y r s) ∙ sym was)
 
   one_made : (a b : ℕ) (v w : Verdict) → IsMade a b v → IsMade a b w → v ≡ w
   one_made a b = accepted_one (MadeRun a b) (text_as made_name (made_text a b)) laws refl refl (one_made_run a b)
@@ -85,8 +89,8 @@ made_on_out a b v out is e o =
     let Holds : Text → Type 0 = λ text. (core : CoreData) × CoreOf text core × Appends out.before out.now (counts_line a b (length core.nodes) ++ run_text core (spread (schedule b))) in
     accepted_says (MadeRun a b) (text_as made_name (made_text a b)) Holds v e
     (λ x of_bytes valid m.
-    let grew : Appends out.before out.now (made_line a b x ++ m.0.out) = subst (λ (w : Verdict). Appends out.before out.now w.out) m.2 o in
-    (x.source.core, of_bytes, subst (λ (t : Text). Appends out.before out.now (made_line a b x ++ t)) (ran_says m.1) grew)) is
+    let grew : Appends out.before out.now (made_line a b x.source.core ++ m.0.out) = subst (λ (w : Verdict). Appends out.before out.now w.out) m.2 o in
+    (x.source.core, of_bytes, subst (λ (t : Text). Appends out.before out.now (made_line a b x.source.core ++ t)) (ran_says m.1) grew)) is
 
 make_on_out : (seed size : Text) (v : Verdict) (out : Change) → IsMake seed size v → IsAccepting v.status → Appends out.before out.now v.out
     → (a b : ℕ) × IsSeed seed a × IsSize size b × WritesMade out a b

@@ -1,18 +1,15 @@
 -- The room of `schedule`.
-use Rattle.std.proofs.Common.{◌≡◌, ℕ, List, inl, refl, sym, ap, subst, ◌∙◌}
+use Rattle.std.proofs.Common.{◌≡◌, ℕ, inl, refl, sym, ap, subst, ◌∙◌}
 use Rattle.std.specs.Io.KnownBytes.{Appends}
 use Rattle.pc_args.specs.Asked.{schedule_of}
 use Rattle.pc_args.specs.Numbers.{IsSeed}
-use Rattle.pc_choose.specs.Laws.{ListsAreOne}
-use Rattle.pc_choose.specs.Lists.{Chosen}
-use Rattle.pc_core.specs.CoreData.{CoreData}
 use Rattle.pc_lists.specs.Texts.{Text}
-use Rattle.pc_sched_lines.specs.Lines.{IsLine, LinesAreOne}
 use Rattle.pc_refusals.specs.Named.{Files, named}
 use Rattle.pc_refusals.specs.Verdict.{Verdict, done}
 use Rattle.pc_refusals.specs.declared.typing.Accepted.{Accepted}
 use Rattle.pc_refusals.proofs.Statuses.{IsLate}
-use Rattle.pc_top.specs.Commands.Schedule.{IsChosenLine, Scheduled, WritesSchedule}
+use Rattle.pc_core_commands.proofs.Chosen.{one_line}
+use Rattle.pc_top.specs.Commands.Schedule.{Scheduled, WritesSchedule}
 use Rattle.pc_top.proofs.NumberRoom.{numbered}
 use Rattle.pc_top.proofs.Premises.{Laws}
 use Rattle.pc_top.proofs.Room.{Room}
@@ -21,14 +18,6 @@ use Rattle.pc_top.proofs.Shapes.{accepted_says}
 -- the seed that a word spells
 pub one_seed : (word : Text) (n m : ℕ) → IsSeed word n → IsSeed word m → n ≡ m
 one_seed word n m p q = p.0.2 ∙ sym q.0.2
-
--- the list that a seed chooses
-pub one_list : ListsAreOne → (core : CoreData) (seed : ℕ) (one other : List ℕ) → Chosen core seed one → Chosen core seed other → other ≡ one
-one_list law core seed one other c d = let l = law core seed in l.one other d ∙ sym (l.one one c)
-
-one_line : ListsAreOne → LinesAreOne → (core : CoreData) (seed : ℕ) (one other : Text) → IsChosenLine seed core one → IsChosenLine seed core other → one ≡ other
-one_line law line core seed one other c d =
-    line c.0 one other c.2 (subst (λ (list : List ℕ). IsLine list other) (one_list law core seed c.0 d.0 c.1 d.1) d.2)
 
 scheduled_late : (n : ℕ) (a : Accepted) (v : Verdict) → Scheduled n a v → IsLate v.status
 scheduled_late n a v s = inl (ap (λ (w : Verdict). w.status) s.2)

@@ -7,7 +7,8 @@ use Rattle.pc_refusals.specs.Named.{Files, named}
 use Rattle.pc_refusals.specs.Verdict.{Verdict}
 use Rattle.pc_refusals.specs.declared.typing.Accepted.{Accepted}
 use Rattle.pc_refusals.proofs.Statuses.{IsLate}
-use Rattle.pc_top.specs.Commands.Sends.{Sent, WritesSends, table_text}
+use Rattle.pc_core_commands.specs.Sends.{table_text}
+use Rattle.pc_top.specs.Commands.Sends.{Sent, WritesSends}
 use Rattle.pc_top.proofs.Begins.{begins}
 use Rattle.pc_top.proofs.Room.{Room, inferring}
 use Rattle.pc_top.proofs.Rooms.Sends.One.{one_sent}

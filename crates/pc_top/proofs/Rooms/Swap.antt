@@ -11,30 +11,25 @@ use Rattle.pc_refusals.specs.Named.{Files, Named, named}
 use Rattle.pc_refusals.specs.Verdict.{EndsWith, Verdict, IsAccepting, done}
 use Rattle.pc_refusals.proofs.LastStages.{ends_cases, ends_one, ends_status}
 use Rattle.pc_refusals.proofs.Statuses.{IsLate}
-use Rattle.pc_top.specs.Commands.Swap.{IsPlace, IsSwap, IsSwapAt, Neighbours, StandAt, SwapText, Swapping, WritesSwap}
+use Rattle.pc_core_commands.specs.Swap.{IsPlace, Neighbours, StandAt, SwapText, Swapping}
+use Rattle.pc_top.specs.Commands.Swap.{IsSwap, IsSwapAt, WritesSwap}
 use Rattle.pc_top.specs.Commands.Swap.IsSwap.{placed, no_number}
-use Rattle.pc_top.specs.Commands.Swap.Swapping.{tells, no_place, too_long}
 use Rattle.pc_top.specs.Shapes.{LastOfTurns, OfTurns}
 use Rattle.pc_top.proofs.Accepted.{both_by}
 use Rattle.pc_top.proofs.Begins.{begins}
 use Rattle.pc_top.proofs.Premises.{Laws}
 use Rattle.pc_top.proofs.Room.{Goes, Room, inferring, two_refuses}
-use Rattle.pc_top.proofs.Rooms.Swap.One.{one_place, one_swapping}
+use Rattle.pc_core_commands.proofs.OneSwap.{one_place, one_swapping}
+use Rattle.pc_core_commands.proofs.SwapTold.{swap_cut, swap_says, swapping_late}
 use Rattle.pc_top.proofs.Shapes.{scheduled_one, scheduled_says, turns_late}
-pub mod One
-pub mod Told
 
 abbrev Last : ℕ → LastOfTurns
 Last place name core list = EndsWith (Swapping name core list place)
 
 -- ---- its statuses
 
-refusal_late : {name : Text} {core : CoreData} {list : List ℕ} {place : ℕ} {v : Verdict} → Swapping name core list place (Err v) → IsLate v.status
-refusal_late (no_place past) = inr (inr (inr refl))
-refusal_late (too_long t n a h) = inr (inr (inl refl))
-
 swapped_late : (place : ℕ) (name : Text) (core : CoreData) (list : List ℕ) (v : Verdict) → Last place name core list v → IsLate v.status
-swapped_late place name core list = ends_status (λ text. text) (Swapping name core list place) IsLate (inl refl) (λ w h. refusal_late h)
+swapped_late place name core list = ends_status (λ text. text) (Swapping name core list place) IsLate (inl refl) (λ w h. swapping_late h)
 
 goes : (files : Files) (source schedule place : Text) (v : Verdict) → IsSwap (named files source) (named files schedule) place v → Goes files (swap source schedule place) source refl refl v
 goes files source schedule place v (placed n p is) =
@@ -55,18 +50,6 @@ module _ (laws : Laws) (file schedule : Named) (known : IsSome file.known) (unfa
 
 -- ---- what is on out
 
-told_by : {name : Text} {core : CoreData} {list : List ℕ} {place : ℕ} {text : Text} → Swapping name core list place (Ok text) → (t : Neighbours) × StandAt list place t × SwapText core t text
-told_by (tells t text a h) = (t, a, h)
-
-fifteen_refuses : IsAccepting 15 → ⊥
-fifteen_refuses (inl e) = omega (arith, e)
-fifteen_refuses (inr e) = omega (arith, e)
-
--- if a text ended the run
-cut_by : {name : Text} {core : CoreData} {list : List ℕ} {place : ℕ} {v : Verdict} → Swapping name core list place (Err v) → IsAccepting v.status → (v.status ≡ 12) × (v.out ≡ [])
-cut_by (no_place past) e = absurd (fifteen_refuses e)
-cut_by (too_long t n a h) e = (refl, refl)
-
 -- Out grew by the report on the turns, or by nothing, and then the status is 12.
 abbrev Wrote : Change → ℕ → ℕ → Text → Text → Type 0
 Wrote out status place source schedule = WritesSwap out source schedule place ⊎ ((status ≡ 12) × Appends out.before out.now [])
@@ -75,10 +58,10 @@ wrote_by : (out : Change) (place : ℕ) (v : Verdict) (name : Text) (core : Core
     → ((t : Neighbours) → StandAt list place t → (text : Text) → SwapText core t text → Appends out.before out.now text → WritesSwap out source schedule place)
     → ((text : Text) × Swapping name core list place (Ok text) × (v ≡ done text)) ⊎ Swapping name core list place (Err v) → Wrote out v.status place source schedule
 wrote_by out place v name core list source schedule e o by (inl (text, h, is)) =
-    let t = told_by h in
+    let t = swap_says h in
     inl (by t.0 t.1 text t.2 (subst (λ (w : Verdict). Appends out.before out.now w.out) is o))
 wrote_by out place v name core list source schedule e o by (inr h) =
-    let c = cut_by h e in
+    let c = swap_cut h e in
     inr (c.0, subst (λ (t : Text). Appends out.before out.now t) c.1 o)
 
 at_on_out : (file schedule : Named) (place : ℕ) (v : Verdict) (out : Change) → IsSwapAt file schedule place v → IsAccepting v.status → Appends out.before out.now v.out

@@ -1,36 +1,19 @@
 -- `events SRC SCHED`.
-use Rattle.std.specs.Prelude.{ℕ, ◌≡◌, List, Result, Ok, Err}
+use Rattle.std.specs.Prelude.{List}
 use Rattle.std.specs.Io.KnownBytes.{Appends}
 use Rattle.pc_io.specs.Change.{Change}
 use Rattle.pc_core.specs.CoreData.{CoreData}
 use Rattle.pc_run.specs.Spreading.{spread}
-use Rattle.pc_run_events.specs.Events.{AllEvents, touches_in}
 use Rattle.pc_run_events.specs.Lines.{events_text_of_run}
-use Rattle.pc_run_events.specs.Names.{AllNamed}
 use Rattle.pc_run_events.specs.declared.events.RunEvent.{RunEvent}
 use Rattle.pc_sched.specs.Schedules.{TurnList}
 use Rattle.pc_sched.specs.declared.turns.Turn.{Turn}
-use Rattle.pc_trace.specs.Traces.{AllTouches, RanOn, TooLongAt, TooManyAt, VerdictIs}
-use Rattle.pc_trace.specs.declared.touch.Verdict.TheVariants.{Ordered}
 use Rattle.pc_lists.specs.Texts.{Text}
-use Rattle.pc_refusal_lines.specs.Lines.{many_actors_line, too_long_line}
 use Rattle.pc_refusals.specs.Named.{Named}
-use Rattle.pc_refusals.specs.Verdict.{EndsWith, Verdict, refused}
+use Rattle.pc_refusals.specs.Verdict.{EndsWith, Verdict}
+use Rattle.pc_core_commands.specs.Events.{AreEventsOfRun, EventsTelling}
 use Rattle.pc_top.specs.CoreOf.{CoreOf}
 use Rattle.pc_top.specs.Shapes.{OfScheduled}
-
--- These are all events of a run that are more than plain steps, in order and with their clocks; no step ended the run.
--- The accesses among them are those of a trace, and of any two that conflict, the earlier one comes before the later
--- one. What they name exists.
-abbrev pub AreEventsOfRun : CoreData → List ℕ → List RunEvent → Type 0
-AreEventsOfRun core list events = RanOn core list × AllEvents core list events × AllTouches core list (touches_in events) × VerdictIs core list Ordered × AllNamed core events
-
--- The text of a run: 12 if a step would make a text that is too long, and 8 if one would make too many actors.
-pub data EventsTelling (name : Text) (core : CoreData) (list : List ℕ) : Result Text Verdict → Type 0 where
-  tells : (events : List RunEvent) (text : Text) → AreEventsOfRun core list events → text ≡ events_text_of_run core events
-      → EventsTelling name core list (Ok text)
-  too_long : (n : ℕ) → TooLongAt core list n → EventsTelling name core list (Err (refused 12 (too_long_line name n)))
-  too_many : (n : ℕ) → TooManyAt core list n → EventsTelling name core list (Err (refused 8 (many_actors_line name n)))
 
 -- The verdict of `events` on this source and this schedule.
 abbrev pub IsEvents : Named → Named → Verdict → Type 0

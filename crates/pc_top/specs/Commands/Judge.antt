@@ -1,13 +1,9 @@
 -- `judge SRC DERIV`.
-use Rattle.std.specs.Prelude.{◌++◌, codes}
-use Rattle.pc_lists.specs.Texts.{Text, line_end}
 use Rattle.pc_refusals.specs.Derivation.{in_parts}
 use Rattle.pc_refusals.specs.Named.{Named}
 use Rattle.pc_refusals.specs.Verdict.{Verdict}
+use Rattle.pc_core_commands.specs.Judge.{accepted_text}
 use Rattle.pc_top.specs.Shapes.{OfDerivation}
-
-abbrev pub accepted_text : Text
-accepted_text = codes "accepted" ++ line_end
 
 -- The verdict of `judge` on this source and this derivation, which is read in parts: `accepted`, or the verdict on the
 -- first fault.

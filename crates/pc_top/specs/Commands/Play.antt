@@ -10,15 +10,11 @@ use Rattle.pc_semantics.specs.Text.{run_text}
 use Rattle.pc_refusals.specs.Named.{Named}
 use Rattle.pc_refusals.specs.Verdict.{Verdict}
 use Rattle.pc_refusals.specs.declared.typing.Accepted.{Accepted}
-use Rattle.pc_top.specs.Commands.Run.{Ran}
+use Rattle.pc_core_commands.specs.Play.{RanChosen}
 use Rattle.pc_top.specs.CoreOf.{CoreOf}
 use Rattle.pc_top.specs.Shapes.{ByNumber, OfAccepted}
 
--- The run of the list that the seed chooses.
-abbrev pub RanChosen : Text → (seed : ℕ) → CoreData → Verdict → Type 0
-RanChosen name seed core v = (list : List ℕ) × Chosen core seed list × Ran name core list v
-
--- The same for an accepted source. A line on err names it by this name.
+-- The run of the list that the seed chooses, for an accepted source. A line on err names it by this name.
 abbrev pub Played : Text → (seed : ℕ) → Accepted → Verdict → Type 0
 Played name seed accepted = RanChosen name seed accepted.source.core
 

@@ -1,21 +1,16 @@
 -- `schedule SRC SEED`.
-use Rattle.std.specs.Prelude.{ℕ, ◌≡◌, List}
+use Rattle.std.specs.Prelude.{ℕ, ◌≡◌}
 use Rattle.std.specs.Io.KnownBytes.{Appends}
 use Rattle.pc_io.specs.Change.{Change}
 use Rattle.pc_args.specs.Numbers.{IsSeed}
-use Rattle.pc_choose.specs.Lists.{Chosen}
 use Rattle.pc_core.specs.CoreData.{CoreData}
 use Rattle.pc_lists.specs.Texts.{Text}
-use Rattle.pc_sched_lines.specs.Lines.{IsLine}
 use Rattle.pc_refusals.specs.Named.{Named}
 use Rattle.pc_refusals.specs.Verdict.{Verdict, done}
 use Rattle.pc_refusals.specs.declared.typing.Accepted.{Accepted}
+use Rattle.pc_core_commands.specs.Schedule.{IsChosenLine}
 use Rattle.pc_top.specs.CoreOf.{CoreOf}
 use Rattle.pc_top.specs.Shapes.{ByNumber, OfAccepted}
-
--- The list of steps that the seed chooses, as one line of a schedule.
-abbrev pub IsChosenLine : (seed : ℕ) → CoreData → Text → Type 0
-IsChosenLine seed core text = (list : List ℕ) × Chosen core seed list × IsLine list text
 
 -- Done, with this line.
 abbrev pub Scheduled : (seed : ℕ) → Accepted → Verdict → Type 0

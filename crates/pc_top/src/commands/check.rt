@@ -1,9 +1,5 @@
 //! `check SRC`.
-ghost use Rattle.std.specs.Prelude.{◌≡◌, ◌≤◌, IfOk, length};
-ghost use Rattle.pc_deriv.specs.Faults.{IsText};
-ghost use Rattle.pc_deriv.specs.Limits.{derivation_node_limit, derivation_slot_limit};
-ghost use Rattle.pc_deriv.specs.Text.{deriv_text};
-ghost use Rattle.pc_deriv.specs.declared.version.Version.TheVariants as version;
+ghost use Rattle.std.specs.Prelude.{◌≡◌, ◌≤◌};
 ghost use Rattle.pc_lists.specs.Texts.{Text};
 ghost use Rattle.pc_refusals.specs.Inner.Answering.{AnswersText};
 ghost use Rattle.pc_refusals.specs.Named.{FailedAt, files_change, named};
@@ -12,21 +8,10 @@ ghost use Rattle.pc_top.specs.Commands.Check.{IsCheck};
 use crate::accepting::accept_source;
 use crate::laws::cores_of_sources_are_formed;
 use pc_caps::List;
-use pc_deriv::write;
+use pc_core_commands::write_derivation;
 use pc_io::Files;
-use pc_refusals::{Accepted, Stop};
-use std::alloc::{AllocError, Global};
-
-// The text of a derivation. Its source is let go before the text is made.
-fn write_derivation(alloc: Global, accepted: Accepted) -> Result<List<u8>, AllocError>
-    requires { (length accepted.ann.slots ≤ derivation_slot_limit) × (length accepted.ann.notes ≤ derivation_node_limit) }
-    ensures text { IfOk result (λ bytes. bytes ≡ deriv_text version.One accepted.ann) }
-    ensures read_back { IfOk result (λ bytes. IsText bytes accepted.ann) }
-{
-    let Accepted { source, ann } = accepted;
-    drop(source);
-    write(alloc, &ann)
-}
+use pc_refusals::Stop;
+use std::alloc::Global;
 
 /// Checks the source with this name, and returns the text of its derivation.
 pub fn check_source<F: Files>(alloc: Global, files: &mut F, source: &str) -> Result<List<u8>, Stop>

@@ -6,30 +6,21 @@ ghost use Rattle.pc_refusals.specs.Inner.Answering.{EndsCommand};
 ghost use Rattle.pc_refusals.specs.Inner.Stages.{PartEnds};
 ghost use Rattle.pc_refusals.specs.Named.{text_as};
 ghost use Rattle.pc_refusals.specs.Source.{source_limit};
-ghost use Rattle.pc_top.specs.Commands.Make.{IsMade, IsMake, ReadsNumbers, made_name, made_text};
+ghost use Rattle.pc_core_commands.specs.Make.{made_name};
+ghost use Rattle.pc_top.specs.Commands.Make.{IsMade, IsMake, made_text};
 
-use super::run::run_turns;
 use crate::accepting::accept_text;
 use crate::laws::cores_of_sources_are_formed;
-use pc_args::{seed_of, size_of};
-use pc_gen::{make, schedule_of};
+use pc_core_commands::{read_numbers, run_generated};
+use pc_gen::make;
 use pc_io::{Bytes, Sink};
 use pc_print::print;
-use pc_refusals::{Accepted, Stop, make_counts_line, put_text, refuse_words};
+use pc_refusals::{Accepted, Stop, refuse_words};
 use pc_types::accepted_never_lacks;
 use std::alloc::Global;
 
-/// How lines name the source and the schedule of a generated program.
+/// How lines name the source of a generated program.
 const NAME: &str = "make";
-
-// The seed and the size that these words denote.
-fn read_numbers(seed: &str, size: &str) -> Option<(u64, u32)>
-    ensures { ReadsNumbers seed.now size.now result }
-{
-    let seed = seed_of(seed)?;
-    let size = size_of(size)?;
-    Some((seed, size))
-}
 
 // Generates the program for this seed and this size, prints it, and takes the text through the stages of a source.
 fn accept_made(alloc: Global, seed: u64, size: u32) -> Result<Accepted, Stop>
@@ -54,11 +45,7 @@ fn run_made<O: Sink>(alloc: Global, out: &mut O, seed: u64, size: u32) -> Result
     cores_of_sources_are_formed();
     accepted_never_lacks();
     let accepted = accept_made(alloc, seed, size)?;
-    let turns = schedule_of(alloc, size)?;
-    let core = &accepted.source.core;
-    let line = make_counts_line(alloc, seed, size, core.nodes().len())?;
-    put_text(out, line.as_slice())?;
-    run_turns(alloc, out, NAME, core, turns.as_slice())
+    run_generated(alloc, out, seed, size, &accepted.source.core)
 }
 
 /// Generates a program from a number and runs it: writes the line of its numbers, and then what the run writes.

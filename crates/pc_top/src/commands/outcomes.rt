@@ -1,83 +1,19 @@
 //! `outcomes SRC COUNT`.
-ghost use Rattle.std.specs.Prelude.{◌≡◌, ◌<◌, ◌≤◌, ◌^◌, IfOk};
+ghost use Rattle.std.specs.Prelude.{◌≡◌, ◌≤◌};
 ghost use Rattle.pc_lists.specs.Texts.{Text};
-ghost use Rattle.pc_args.specs.Numbers.{Reads};
-ghost use Rattle.pc_run.specs.Ends.{NeverLacks};
 ghost use Rattle.pc_refusals.specs.Inner.Answering.{AnswersText};
-ghost use Rattle.pc_refusals.specs.Inner.Stages.{StageEnds};
 ghost use Rattle.pc_refusals.specs.Named.{files_change, named};
-ghost use Rattle.pc_top.specs.Commands.Outcomes as spec;
-ghost use Rattle.pc_top.specs.Commands.Outcomes.{IsCount, IsOutcomes, OutcomesTelling};
+ghost use Rattle.pc_top.specs.Commands.Outcomes.{IsOutcomes};
 ghost use Rattle.pc_top.specs.Shapes.{UnreadNumbered};
 
 use crate::laws::cores_of_sources_are_formed;
 use crate::numbered::accept_numbered;
-use pc_args::number_of;
 use pc_caps::List;
-use pc_core::Core;
-use pc_io::{Bytes, Files};
-use pc_outcomes::{OutcomesFault, outcomes, text_of};
+use pc_core_commands::{count_of, write_outcomes};
+use pc_io::Files;
 use pc_refusals::Stop;
 use pc_types::accepted_never_lacks;
-use std::alloc::{AllocError, Global};
-
-/// The greatest number of digits of a count.
-const COUNT_DIGITS: usize = 5;
-
-/// The largest count.
-const MOST_SEEDS: u64 = 10_000;
-
-// The count that a text denotes: one to five digits, of a number from 1 to 10,000.
-fn count_of(text: &str) -> Option<u64>
-    ensures { Reads (IsCount text.now) result }
-{
-    let count = number_of(text, COUNT_DIGITS)?;
-    if count < 1 || count > MOST_SEEDS {
-        return None;
-    }
-    Some(count)
-}
-
-// `SRC: the plays of seeds 0 to S have more than 100000000 steps`, with a line end.
-fn make_many_steps_line(alloc: Global, name: &str, seed: u32) -> Result<Bytes, AllocError>
-    ensures { IfOk result (λ line. line ≡ spec.many_steps_line name.now seed) }
-{
-    let text = format!(in alloc;
-        "{name}: the plays of seeds 0 to {seed} have more than 100000000 steps\n"
-    )?;
-    Bytes::copy_of(alloc, text.as_bytes())
-}
-
-// `SRC: the texts of seeds 0 to S have more than 67108864 bytes`, with a line end.
-fn make_many_bytes_line(alloc: Global, name: &str, seed: u32) -> Result<Bytes, AllocError>
-    ensures { IfOk result (λ line. line ≡ spec.many_bytes_line name.now seed) }
-{
-    let text = format!(in alloc;
-        "{name}: the texts of seeds 0 to {seed} have more than 67108864 bytes\n"
-    )?;
-    Bytes::copy_of(alloc, text.as_bytes())
-}
-
-// The text of the table of a core's outcomes, or the seed that passes a limit. A line on err names the source by this
-// name.
-fn write_outcomes(alloc: Global, name: &str, core: &Core, count: u32) -> Result<List<u8>, Stop>
-    requires few { count < 2 ^ 31 }
-    requires never_lacks { NeverLacks core.now }
-    ensures { StageEnds (OutcomesTelling name.now core.now count) result }
-{
-    match outcomes(alloc, core, count) {
-        Ok(entries) => Ok(text_of(alloc, count, entries.as_slice())?),
-        Err(OutcomesFault::Steps(seed)) => Err(Stop::Refused {
-            status: 8,
-            line: make_many_steps_line(alloc, name, seed)?,
-        }),
-        Err(OutcomesFault::Texts(seed)) => Err(Stop::Refused {
-            status: 8,
-            line: make_many_bytes_line(alloc, name, seed)?,
-        }),
-        Err(OutcomesFault::Memory) => Err(Stop::Memory),
-    }
-}
+use std::alloc::Global;
 
 /// Plays a source by the seeds below a count: returns each different outcome once, in the order of first seeds, with
 /// the number of seeds that have it.

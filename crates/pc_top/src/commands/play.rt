@@ -3,47 +3,19 @@ ghost use Rattle.std.specs.Prelude.{◌≡◌, ◌≤◌};
 ghost use Rattle.pc_lists.specs.Texts.{Text};
 ghost use Rattle.pc_args.specs.Numbers.{IsSeed};
 ghost use Rattle.pc_io.specs.Change.{change};
-ghost use Rattle.pc_run.specs.Ends.{NeverLacks};
 ghost use Rattle.pc_refusals.specs.Inner.Answering.{EndsCommand};
 ghost use Rattle.pc_refusals.specs.Named.{files_change, named};
-ghost use Rattle.pc_top.specs.Commands.Play.{IsPlay, RanChosen};
+ghost use Rattle.pc_top.specs.Commands.Play.{IsPlay};
 ghost use Rattle.pc_top.specs.Shapes.{UnreadNumbered};
 
 use crate::laws::cores_of_sources_are_formed;
 use crate::numbered::accept_numbered;
 use pc_args::seed_of;
-use pc_core::Core;
+use pc_core_commands::play_core;
 use pc_io::{Files, Sink};
-use pc_play::play;
-use pc_refusals::{Stop, make_too_long_line};
-use pc_run::RunFault;
+use pc_refusals::Stop;
 use pc_types::accepted_never_lacks;
 use std::alloc::Global;
-
-// Runs a core, none of whose steps lacks anything, by the list that a seed chooses. A line on err names the source by
-// this name.
-fn play_core<O: Sink>(
-    alloc: Global,
-    out: &mut O,
-    name: &str,
-    core: &Core,
-    seed: u64,
-) -> Result<(), Stop>
-    requires never_lacks { NeverLacks core.now }
-    ensures later { O.faults out.old ≤ O.faults out.new }
-    ensures ends { EndsCommand (RanChosen name.now seed core.now) (λ n. ⊥)
-        (change (O.written out.old) (O.written out.new) (O.faults out.old) (O.faults out.new)) result }
-{
-    match play(alloc, core, seed, out) {
-        Ok(_) => Ok(()),
-        Err(RunFault::TooLong(step)) => Err(Stop::Refused {
-            status: 12,
-            line: make_too_long_line(alloc, name, step as u64)?,
-        }),
-        Err(RunFault::Sink) => Err(Stop::Sink),
-        Err(RunFault::Memory) => Err(Stop::Memory),
-    }
-}
 
 /// Runs a source by the list of steps that a seed chooses, without keeping the list: writes the texts that are printed,
 /// and the line of the run's numbers.

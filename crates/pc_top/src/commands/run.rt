@@ -2,23 +2,16 @@
 ghost use Rattle.std.specs.Prelude.{◌≡◌, ◌≤◌};
 ghost use Rattle.pc_lists.specs.Texts.{Text};
 ghost use Rattle.pc_io.specs.Change.{change};
-ghost use Rattle.pc_run.specs.Ends.{NeverLacks};
-ghost use Rattle.pc_run.specs.Spreading.{spread};
-ghost use Rattle.pc_sched.specs.Limits.{turn_limit};
-ghost use Rattle.pc_sched.specs.Schedules.{total};
 ghost use Rattle.pc_refusals.specs.Inner.Answering.{EndsCommand};
 ghost use Rattle.pc_refusals.specs.Named.{files_change, named};
-ghost use Rattle.pc_top.specs.Commands.Run.{IsRun, Ran};
+ghost use Rattle.pc_top.specs.Commands.Run.{IsRun};
 ghost use Rattle.pc_top.specs.Shapes.{UnreadScheduled};
 
 use crate::laws::cores_of_sources_are_formed;
 use crate::scheduled::read_scheduled;
-use pc_core::Core;
+use pc_core_commands::run_turns;
 use pc_io::{Files, Sink};
-use pc_machine::start;
-use pc_refusals::{Stop, make_too_long_line};
-use pc_run::{RunFault, run};
-use pc_sched::Turn;
+use pc_refusals::Stop;
 use pc_types::accepted_never_lacks;
 use std::alloc::Global;
 
@@ -47,30 +40,4 @@ pub fn run_source<F: Files, O: Sink>(
         &read.accepted.source.core,
         read.turns.as_slice(),
     )
-}
-
-/// Runs a core, none of whose steps lacks anything, by the turns of the schedule with this name.
-pub fn run_turns<O: Sink>(
-    alloc: Global,
-    out: &mut O,
-    name: &str,
-    core: &Core,
-    turns: &[Turn],
-) -> Result<(), Stop>
-    requires few { total turns.now ≤ turn_limit }
-    requires never_lacks { NeverLacks core.now }
-    ensures later { O.faults out.old ≤ O.faults out.new }
-    ensures ends { EndsCommand (Ran name.now core.now (spread turns.now)) (λ n. ⊥)
-        (change (O.written out.old) (O.written out.new) (O.faults out.old) (O.faults out.new)) result }
-{
-    let mut machine = start(alloc, core)?;
-    match run(alloc, &mut machine, turns, out) {
-        Ok(_) => Ok(()),
-        Err(RunFault::TooLong(step)) => Err(Stop::Refused {
-            status: 12,
-            line: make_too_long_line(alloc, name, step as u64)?,
-        }),
-        Err(RunFault::Sink) => Err(Stop::Sink),
-        Err(RunFault::Memory) => Err(Stop::Memory),
-    }
 }

@@ -1,31 +1,16 @@
 //! `sends SRC`.
-ghost use Rattle.std.specs.Prelude.{◌≡◌, ◌≤◌, IfOk};
+ghost use Rattle.std.specs.Prelude.{◌≡◌, ◌≤◌};
 ghost use Rattle.pc_lists.specs.Texts.{Text};
-ghost use Rattle.pc_valid.specs.Valid.{Valid};
 ghost use Rattle.pc_refusals.specs.Inner.Answering.{AnswersText};
 ghost use Rattle.pc_refusals.specs.Named.{FailedAt, files_change, named};
-ghost use Rattle.pc_top.specs.Commands.Sends.{IsSends, IsSendsText};
+ghost use Rattle.pc_top.specs.Commands.Sends.{IsSends};
 
-use super::sent_lines::write_table;
 use crate::accepting::accept_source;
-use pc_ann::Ann;
 use pc_caps::List;
-use pc_core::Core;
+use pc_core_commands::write_sends;
 use pc_io::Files;
-use pc_noted_receivers::entities;
 use pc_refusals::Stop;
-use pc_sends::sends;
-use std::alloc::{AllocError, Global};
-
-// The text of who sends what in a core, made with its valid annotation.
-fn write_sends(alloc: Global, core: &Core, ann: &Ann) -> Result<List<u8>, AllocError>
-    requires { Valid core.now ann.now }
-    ensures { IfOk result (IsSendsText core.now ann.now) }
-{
-    let noted = entities(alloc, core, ann)?;
-    let table = sends(alloc, core, noted.as_slice())?;
-    write_table(alloc, core, &table)
-}
+use std::alloc::Global;
 
 /// Lists who sends what in the source with this name, over every run at once: returns a line for each entity and each
 /// method that its methods may send, and then a line for each behaviour and constructor of an actor that nothing ever

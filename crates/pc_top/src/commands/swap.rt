@@ -1,117 +1,19 @@
 //! `swap SRC SCHED PLACE`.
-ghost use Rattle.std.specs.Prelude.{◌≡◌, ◌<◌, ◌≤◌, ◌^◌, IfOk, length};
+ghost use Rattle.std.specs.Prelude.{◌≡◌, ◌≤◌};
 ghost use Rattle.pc_lists.specs.Texts.{Text};
-ghost use Rattle.pc_args.specs.Numbers.{IsNumber, Reads};
-ghost use Rattle.pc_run.specs.Spreading.{spread};
-ghost use Rattle.pc_sched.specs.Limits.{turn_limit};
-ghost use Rattle.pc_sched.specs.Schedules.{total};
-ghost use Rattle.pc_semantics.specs.Safety.{Safe};
 ghost use Rattle.pc_refusals.specs.Inner.Answering.{AnswersText};
-ghost use Rattle.pc_refusals.specs.Inner.Stages.{StageEnds};
 ghost use Rattle.pc_refusals.specs.Named.{files_change, named};
-ghost use Rattle.pc_top.specs.Commands.Swap as spec;
-ghost use Rattle.pc_top.specs.Commands.Swap.{IsPlace, IsSwap, IsSwapAt, Swapping, UnreadSwap};
+ghost use Rattle.pc_top.specs.Commands.Swap.{IsSwap, IsSwapAt, UnreadSwap};
 ghost use Rattle.pc_top.specs.Shapes.{UnreadScheduled};
 
 use crate::laws::cores_of_sources_are_formed;
 use crate::scheduled::read_scheduled;
 use pc_caps::List;
-use pc_core::Core;
+use pc_core_commands::{place_of, swap_scheduled};
 use pc_io::Files;
-use pc_refusals::{Stop, make_no_place_line, make_too_long_line, refuse_words};
+use pc_refusals::{Stop, refuse_words};
 use pc_regions::valid_is_safe;
-use pc_sched::Turn;
-use pc_sched_lines::{line_of, steps_of};
-use pc_swap::{Kept, SwapFault, swap};
-use std::alloc::{AllocError, Global};
-
-/// The greatest number of digits of a place.
-const PLACE_DIGITS: usize = 7;
-
-/// The last place that can be written with these digits.
-const LAST_PLACE: u32 = 9_999_999;
-
-// The number that a text denotes with one to seven digits, if it is below 2^32.
-fn number_of(text: &str) -> Option<u32>
-    ensures { Reads (λ n. IsNumber 7 text.now n × (n < 2 ^ 32)) result }
-{
-    match text.as_bytes() {
-        [b'+', ..] => None,
-        bytes if bytes.len() > PLACE_DIGITS => None,
-        _ => text.parse::<u32>().ok(),
-    }
-}
-
-// The place that a text denotes: one to seven digits, of a number of at least 1.
-fn place_of(text: &str) -> Option<u32>
-    ensures { Reads (IsPlace text.now) result }
-{
-    let place = number_of(text)?;
-    if place < 1 || place > LAST_PLACE {
-        return None;
-    }
-    Some(place)
-}
-
-// The line for a reason.
-fn make_kept_line(alloc: Global, kept: Kept) -> Result<List<u8>, AllocError>
-    ensures { IfOk result (λ line. line ≡ spec.kept_line kept) }
-{
-    let line = match kept {
-        Kept::SameActor => "kept: same actor\n",
-        Kept::NotMoved => "kept: not moved\n",
-        Kept::OneMailbox => "kept: one mailbox\n",
-        Kept::BothSpawn => "kept: both spawn\n",
-    };
-    List::from_slice(alloc, line.as_bytes())
-}
-
-// The text for the turns at a place of a list and after it, for the schedule with this name.
-fn swap_list(
-    alloc: Global,
-    name: &str,
-    core: &Core,
-    list: &[u32],
-    place: u32,
-) -> Result<List<u8>, Stop>
-    requires safe { Safe core.now }
-    requires few { length list.now ≤ turn_limit }
-    requires first { 1 ≤ place }
-    ensures { StageEnds (Swapping name.now core.now list.now place) result }
-{
-    if list.len() <= place as usize {
-        return Err(Stop::Refused {
-            status: 15,
-            line: make_no_place_line(alloc, name, place)?,
-        });
-    }
-    match swap(alloc, core, list, place) {
-        Ok(new) => Ok(line_of(alloc, new.as_slice())?),
-        Err(SwapFault::Kept(kept)) => Ok(make_kept_line(alloc, kept)?),
-        Err(SwapFault::TooLong(step)) => Err(Stop::Refused {
-            status: 12,
-            line: make_too_long_line(alloc, name, step as u64)?,
-        }),
-        Err(SwapFault::Memory) => Err(Stop::Memory),
-    }
-}
-
-// The same for the turns of the schedule with this name.
-fn swap_scheduled(
-    alloc: Global,
-    name: &str,
-    core: &Core,
-    turns: &[Turn],
-    place: u32,
-) -> Result<List<u8>, Stop>
-    requires safe { Safe core.now }
-    requires few { total turns.now ≤ turn_limit }
-    requires first { 1 ≤ place }
-    ensures { StageEnds (Swapping name.now core.now (spread turns.now) place) result }
-{
-    let list = steps_of(alloc, turns)?;
-    swap_list(alloc, name, core, list.as_slice(), place)
-}
+use std::alloc::Global;
 
 // The exchange at a place.
 fn swap_at<F: Files>(

@@ -8,9 +8,9 @@ ghost use Rattle.pc_top.specs.Shapes.{UnreadDerivation};
 
 use crate::source::read_source;
 use pc_caps::List;
-use pc_deriv::write2;
+use pc_core_commands::upgrade_annotation;
 use pc_io::Files;
-use pc_refusals::{Stop, judge_annotation, read_derivation};
+use pc_refusals::{Stop, read_derivation};
 use std::alloc::Global;
 
 /// Judges a derivation of a source, which is read as a whole, and returns the text of its annotation in version 2. The
@@ -28,8 +28,5 @@ pub fn upgrade_derivation<F: Files>(
 {
     let read = read_source(alloc, files, source)?;
     let ann = read_derivation(alloc, files, derivation)?;
-    judge_annotation(alloc, source, derivation, &read, &ann)?;
-    drop(read);
-    let text = write2(alloc, &ann)?;
-    Ok(text)
+    upgrade_annotation(alloc, source, derivation, read, &ann)
 }

@@ -1,8 +1,7 @@
 -- From the results of the parts of `explain` to how it ends.
-use Rattle.std.proofs.Common.{◌≡◌, ◌≤◌, length, Ok, Err, inr, true, false, refl, ap, subst}
+use Rattle.std.proofs.Common.{◌≡◌, ◌≤◌, length, Ok, Err, inr, refl, subst}
 use Rattle.std.specs.Prelude.{IfErr, Result}
 use Rattle.pc_elab.specs.Cores.{IsFirstFault}
-use Rattle.pc_explain_names.specs.Names.{names_text}
 use Rattle.pc_lists.specs.Texts.{Text}
 use Rattle.pc_names.specs.Names.{IsNotMemory}
 use Rattle.pc_names.specs.declared.fault.NameFault.{NameFault}
@@ -11,20 +10,18 @@ use Rattle.pc_tree.specs.Tree as t
 use Rattle.pc_refusals.specs.After.After.{goes}
 use Rattle.pc_refusals.specs.FromFile.FromFile.{goes_on, refuses}
 use Rattle.pc_refusals.specs.Inner.Answering.{AnswersText}
-use Rattle.pc_refusals.specs.Inner.Refusals.{IsNameStop}
 use Rattle.pc_refusals.specs.Inner.Stages.{StageEnds, StageStops}
-use Rattle.pc_refusals.specs.NameFaults.{name_line, name_status}
 use Rattle.pc_refusals.specs.Named.{FailedAt, IsReadingOf, Named, whole}
 use Rattle.pc_refusals.specs.Source.{SyntaxStage, source_limit}
 use Rattle.pc_refusals.specs.Source.Length.{fits}
 use Rattle.pc_refusals.specs.Source.Lexing.{lexed}
-use Rattle.pc_refusals.specs.Verdict.{Verdict, refused}
+use Rattle.pc_refusals.specs.Verdict.{refused}
 use Rattle.pc_refusals.specs.declared.stop.Stop.{Stop}
 use Rattle.pc_refusals.specs.declared.stop.Stop.TheVariants.{File, Memory, Refused, Sink}
-use Rattle.pc_refusals.proofs.Stops.{name_stops, stops_as}
-use Rattle.pc_top.specs.Commands.Explain.{ExplainedStage, Explaining, IsExplain, IsFileFault, fault_end, is_not_explained}
+use Rattle.pc_refusals.proofs.Stops.{stops_as}
+use Rattle.pc_core_commands.specs.Explain.{Explaining, IsFileFault}
+use Rattle.pc_top.specs.Commands.Explain.{ExplainedStage, IsExplain}
 use Rattle.pc_top.specs.Commands.Explain.ExplainedStage.{has_none, has_tree}
-use Rattle.pc_top.specs.Commands.Explain.Explaining.{has_fault}
 use Rattle.pc_top.proofs.Facts.{member_fault}
 
 -- ---- a fault of a tree
@@ -34,27 +31,6 @@ pub members_fault : {C : Type 0} (file : t.File) (r : Result C NameFault) → If
     → IfErr r (λ f. IsNotMemory f → IsFileFault file f)
 members_fault file (Ok core) h = tt
 members_fault file (Err f) h = λ o. inr (member_fault file f o h)
-
-module _ (name bytes : Text) (file : t.File) (f : NameFault) (of : IsNotMemory f → IsFileFault file f) where
-  -- it is refused
-  refused_end : is_not_explained f ≡ true → fault_end name bytes file f ≡ Err (refused (name_status f) (name_line name bytes f))
-  refused_end e = rw e refl
-
-  pub fault_stops : (s : Stop) → is_not_explained f ≡ true → IsNameStop name bytes f s → StageStops (Explaining name bytes file) s
-  fault_stops s e h =
-      name_stops (Explaining name bytes file) name bytes f s (λ o. subst (λ (end : Result Text Verdict). Explaining name bytes file end) (refused_end e) (has_fault f o (of o))) h
-
-  -- it is explained
-  explained_end : is_not_explained f ≡ false → fault_end name bytes file f ≡ Ok (names_text name bytes file f)
-  explained_end e = rw e refl
-
-  is_of_file : is_not_explained f ≡ false → IsNotMemory f
-  is_of_file e m = let yes : is_not_explained f ≡ true = ap is_not_explained m in cc
-
-  pub fault_says : (text : Text) → is_not_explained f ≡ false → text ≡ names_text name bytes file f → Explaining name bytes file (Ok text)
-  fault_says text e is =
-      let o = is_of_file e in
-      rw is (subst (λ (end : Result Text Verdict). Explaining name bytes file end) (explained_end e) (has_fault f o (of o)))
 
 -- ---- a source that was read
 

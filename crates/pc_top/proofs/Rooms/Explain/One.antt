@@ -16,10 +16,11 @@ use Rattle.pc_refusals.specs.Named.{Reading, whole}
 use Rattle.pc_refusals.specs.Source.{FileStage}
 use Rattle.pc_refusals.specs.Verdict.{Verdict}
 use Rattle.pc_refusals.proofs.OneSource.{differ, ok_same, one_file}
-use Rattle.pc_top.specs.Commands.Explain.{CoreText, Explaining, ExplainedStage, IsFileFault, fault_end}
-use Rattle.pc_top.specs.Commands.Explain.CoreText.{accepted, explained}
+use Rattle.pc_core_commands.specs.Explain.{CoreText, Explaining, IsFileFault, fault_end}
+use Rattle.pc_top.specs.Commands.Explain.{ExplainedStage}
+use Rattle.pc_core_commands.specs.Explain.CoreText.{accepted, explained}
 use Rattle.pc_top.specs.Commands.Explain.ExplainedStage.{has_none, has_tree}
-use Rattle.pc_top.specs.Commands.Explain.Explaining.{has_core, has_fault}
+use Rattle.pc_core_commands.specs.Explain.Explaining.{has_core, has_fault}
 use Rattle.pc_top.proofs.Deriving.{file_says}
 use Rattle.pc_top.proofs.Premises.{Laws}
 

@@ -1,7 +1,6 @@
 -- `play` does what `run` does for the line that `schedule` writes.
 use Rattle.std.proofs.Common.{◌≡◌, ◌≤◌, ◌∙◌, ℕ, List, length, Option, Some, Ok, inl, refl, sym, ap, subst}
 use Rattle.std.specs.Prelude.{IfSome, IsSome}
-use Rattle.std.proofs.lemmas.Option.{none-some}
 use Rattle.pc_args.specs.Asked.{Asked, play, run}
 use Rattle.pc_args.specs.Numbers.{IsSeed}
 use Rattle.pc_choose.specs.Lists.{Chosen}
@@ -12,7 +11,6 @@ use Rattle.pc_run.specs.Ends.{NeverLacks}
 use Rattle.pc_run.specs.Spreading.{spread}
 use Rattle.pc_sched.specs.Limits.{schedule_limit}
 use Rattle.pc_sched_lines.specs.Lines.{IsLine}
-use Rattle.pc_semantics.specs.declared.outcome.Outcome.TheVariants.{TooLong}
 use Rattle.pc_types.specs.Laws.{AcceptedNeverLacks}
 use Rattle.pc_refusals.specs.Accepting.{AcceptedStage}
 use Rattle.pc_refusals.specs.After.After.{goes}
@@ -25,10 +23,11 @@ use Rattle.pc_refusals.specs.Verdict.{Verdict, done}
 use Rattle.pc_refusals.specs.declared.typing.Accepted.{Accepted}
 use Rattle.pc_refusals.proofs.LastStages.{passed}
 use Rattle.pc_refusals.proofs.Statuses.{accepted_refuses}
+use Rattle.pc_core_commands.proofs.Ran.{ran_same}
 use Rattle.pc_top.specs.Commands.{IsVerdictOf}
 use Rattle.pc_top.specs.Commands.Play.{IsPlay}
-use Rattle.pc_top.specs.Commands.Run.{IsRun, Ran}
-use Rattle.pc_top.specs.Commands.Run.Ran.{cut, whole as whole_run}
+use Rattle.pc_core_commands.specs.Run.{Ran}
+use Rattle.pc_top.specs.Commands.Run.{IsRun}
 use Rattle.pc_top.specs.Commands.Schedule.{IsSchedule, Scheduled}
 use Rattle.pc_top.specs.CoresFormed.{CoresAreFormed}
 use Rattle.pc_top.specs.One.{TellsOf, UnfailedOf, VerdictIsOne}
@@ -38,18 +37,7 @@ use Rattle.pc_top.specs.Shapes.ByNumber.{spelled}
 use Rattle.pc_top.proofs.Accepted.{source_whole}
 use Rattle.pc_top.proofs.Deriving.{accepted_lacks_nothing, accepted_source, source_says}
 use Rattle.pc_top.proofs.NumberRoom.{numbered_says}
-use Rattle.pc_top.proofs.RunEnds.{has_verdict}
-
--- ---- two runs of one list
-
-abbrev pub Same : Verdict → Verdict → Type 0
-Same v w = (v.status ≡ w.status) × (v.out ≡ w.out)
-
-ran_same : (name other : Text) (core : CoreData) (list : List ℕ) (v w : Verdict) → Ran name core list v → Ran other core list w → Same v w
-ran_same name other core list _ _ (whole_run h) (whole_run k) = (refl, refl)
-ran_same name other core list _ _ (whole_run h) (cut n k) = absurd (none-some (n, TooLong) (sym h ∙ k))
-ran_same name other core list _ _ (cut n h) (whole_run k) = absurd (none-some (n, TooLong) (sym k ∙ h))
-ran_same name other core list _ _ (cut n h) (cut m k) = (refl, refl)
+use Rattle.pc_core_commands.proofs.RunEnds.{has_verdict}
 
 -- ---- what `schedule` was done with
 

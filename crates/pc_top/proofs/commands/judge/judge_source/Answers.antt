@@ -3,7 +3,7 @@ use Rattle.std.proofs.lemmas.Result.{err_from_is_err_and}
 use Rattle.pc_refusals.specs.Derivation.{in_parts}
 use Rattle.pc_refusals.specs.Named.{file_at, files_change, named}
 use Rattle.pc_refusals.specs.Source.{SourceStage, source_limit}
-use Rattle.pc_top.specs.Commands.Judge.{accepted_text}
+use Rattle.pc_core_commands.specs.Judge.{accepted_text}
 use Rattle.pc_top.specs.Shapes.{OfJudged, UnreadDerivation}
 use Rattle.pc_top.proofs.Judging.{derivation_refused, derivation_told}
 use Rattle.pc_top.proofs.Rooms.Judge.{judged_all, source_not_done}

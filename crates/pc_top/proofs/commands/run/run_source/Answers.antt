@@ -11,7 +11,8 @@ use Rattle.pc_refusals.specs.Source.{source_limit}
 use Rattle.pc_refusals.specs.declared.typing.Accepted.{Accepted}
 use Rattle.pc_refusals.proofs.Ending.{both_end, both_stop, stop_ends}
 use Rattle.pc_refusals.proofs.Scheduled.{few_turns}
-use Rattle.pc_top.specs.Commands.Run.{IsRun, Ran}
+use Rattle.pc_core_commands.specs.Run.{Ran}
+use Rattle.pc_top.specs.Commands.Run.{IsRun}
 use Rattle.pc_top.specs.Shapes.{UnreadScheduled}
 use Rattle.pc_top.proofs.Deriving.{accepted_lacks_nothing}
 use Rattle.pc_top.proofs.commands.run.run_source.Goals as goal

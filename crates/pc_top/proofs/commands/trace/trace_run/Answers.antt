@@ -11,7 +11,7 @@ use Rattle.pc_refusals.specs.Verdict.{EndsWith}
 use Rattle.pc_refusals.specs.declared.typing.Accepted.{Accepted}
 use Rattle.pc_refusals.proofs.Ending.{both_answer, both_stop, last_ends}
 use Rattle.pc_refusals.proofs.Scheduled.{few_turns}
-use Rattle.pc_top.specs.Commands.Trace.{Tracing}
+use Rattle.pc_core_commands.specs.Trace.{Tracing}
 use Rattle.pc_top.specs.Shapes.{UnreadScheduled}
 use Rattle.pc_top.proofs.Deriving.{accepted_core_safe}
 use Rattle.pc_top.proofs.commands.trace.trace_run.Goals as goal

@@ -1,4 +1,4 @@
-use Rattle.std.proofs.Common.{Ok, Err, ap, inl, inr}
+use Rattle.std.proofs.Common.{inl, inr}
 use Rattle.std.proofs.lemmas.Result.{err_from_is_err_and}
 use Rattle.pc_ann.specs.declared.annotation.Ann.{Ann}
 use Rattle.pc_deriv.specs.Limits.{derivation_limit}
@@ -7,10 +7,10 @@ use Rattle.pc_deriv.specs.declared.version.Version.TheVariants as version
 use Rattle.pc_refusals.specs.Derivation.{DerivationStage, Judging}
 use Rattle.pc_refusals.specs.Named.{files_change, named}
 use Rattle.pc_refusals.specs.Source.{SourceStage, source_limit}
-use Rattle.pc_refusals.specs.Verdict.{EndsAs, done}
+use Rattle.pc_refusals.specs.Verdict.{EndsAs}
 use Rattle.pc_refusals.specs.declared.source.Source.{Source}
 use Rattle.pc_refusals.proofs.Derivations.{few}
-use Rattle.pc_refusals.proofs.Ending.{both_answer, both_stop, last_stops, part_stops}
+use Rattle.pc_refusals.proofs.Ending.{both_answer, both_stop, part_stops}
 use Rattle.pc_refusals.proofs.TwoFiles.{both_later, both_same, second_gives, second_stops}
 use Rattle.pc_top.specs.Shapes.{OfJudged, UnreadDerivation}
 use Rattle.pc_top.proofs.Deriving.{never_longer}
@@ -36,23 +36,8 @@ returns-in_err-ann-clause-answers g c =
     (g.F.Files.faults c.args.files.now) (g.F.Files.faults c.read_source.new.files) (g.F.Files.faults c.read_derivation.new.files) (g.F.Files.taken c.read_source.new.files) (g.F.Files.taken c.read_derivation.new.files) (g.F.Files.taken c.read_derivation.new.files)
     c.in_ok-read.read (never_longer s c.in_ok-read.read) c.in_ok-read.ensures.stage (c.in_ok-read.ensures.same d) (c.in_ok-read.ensures.later d) (c.in_err-ann.ensures.later d) _ c.in_err-ann.ensures.stage))
 
-pub returns-in_err-judge_annotation-clause-answers : goal.returns-in_err-judge_annotation-clause-answers
-returns-in_err-judge_annotation-clause-answers g c =
-    let p = err_from_is_err_and c.from_residual-in_err-judge_annotation.result c.from_residual-in_err-judge_annotation.ensures.1 in
-    let s = c.args.source.now in
-    let d = c.args.derivation.now in
-    let files = files_change (g.F.Files.bytes c.args.files.now) (g.F.Files.faults c.args.files.now) (g.F.Files.faults c.read_derivation.new.files) (g.F.Files.taken c.read_derivation.new.files) in
-    let read = c.in_ok-read.read in
-    let ann = c.in_ok-ann.ann in
-    rw (p.1, p.2)
-    (both_answer source_limit derivation_limit (SourceStage s) (DerivationStage d) (λ (x : Source) (note : Ann). EndsAs (λ _. deriv_text version.Two note) (Judging s d x note)) (UnreadDerivation (named files s) (named files d)) (named files s) (named files d) read ann
-    (second_gives source_limit derivation_limit (SourceStage s) (DerivationStage d) s d (g.F.Files.bytes c.args.files.now) (g.F.Files.bytes c.read_source.new.files)
-    (g.F.Files.faults c.args.files.now) (g.F.Files.faults c.read_source.new.files) (g.F.Files.faults c.read_derivation.new.files) (g.F.Files.taken c.read_source.new.files) (g.F.Files.taken c.read_derivation.new.files) (g.F.Files.taken c.read_derivation.new.files)
-    c.in_ok-read.read (never_longer s c.in_ok-read.read) c.in_ok-read.ensures.stage (c.in_ok-read.ensures.same d) (c.in_ok-read.ensures.later d) (c.in_ok-ann.ensures.later d) ann c.in_ok-ann.ensures.stage) (Err _)
-    (last_stops (λ _. deriv_text version.Two ann) (Judging s d read ann) (λ n. ⊥) _ c.in_err-judge_annotation.ensures))
-
-pub write2-requires : goal.write2-requires
-write2-requires g c = few c.in_ok-ann.ensures.stage.2
+pub upgrade_annotation-requires : goal.upgrade_annotation-requires
+upgrade_annotation-requires g c = few c.in_ok-ann.ensures.stage.2
 
 pub returns-clause-answers : goal.returns-clause-answers
 returns-clause-answers g c =
@@ -64,26 +49,13 @@ returns-clause-answers g c =
     both_answer source_limit derivation_limit (SourceStage s) (DerivationStage d) (λ (x : Source) (note : Ann). EndsAs (λ _. deriv_text version.Two note) (Judging s d x note)) (UnreadDerivation (named files s) (named files d)) (named files s) (named files d) read ann
     (second_gives source_limit derivation_limit (SourceStage s) (DerivationStage d) s d (g.F.Files.bytes c.args.files.now) (g.F.Files.bytes c.read_source.new.files)
     (g.F.Files.faults c.args.files.now) (g.F.Files.faults c.read_source.new.files) (g.F.Files.faults c.read_derivation.new.files) (g.F.Files.taken c.read_source.new.files) (g.F.Files.taken c.read_derivation.new.files) (g.F.Files.taken c.read_derivation.new.files)
-    c.in_ok-read.read (never_longer s c.in_ok-read.read) c.in_ok-read.ensures.stage (c.in_ok-read.ensures.same d) (c.in_ok-read.ensures.later d) (c.in_ok-ann.ensures.later d) ann c.in_ok-ann.ensures.stage) (Ok c.in_ok-text.text)
-    (Ok tt, c.in_ok-judge_annotation.ensures, ap done c.in_ok-text.ensures.text)
+    c.in_ok-read.read (never_longer s c.in_ok-read.read) c.in_ok-read.ensures.stage (c.in_ok-read.ensures.same d) (c.in_ok-read.ensures.later d) (c.in_ok-ann.ensures.later d) ann c.in_ok-ann.ensures.stage) c.upgrade_annotation.result c.upgrade_annotation.ensures
 
 pub returns-in_err-ann-clause-later : goal.returns-in_err-ann-clause-later
 returns-in_err-ann-clause-later g c = both_later _ _ _ c.in_ok-read.ensures.later c.in_err-ann.ensures.later
 
 pub returns-in_err-ann-clause-same : goal.returns-in_err-ann-clause-same
 returns-in_err-ann-clause-same g c = both_same _ _ _ c.in_ok-read.ensures.same c.in_err-ann.ensures.same
-
-pub returns-in_err-judge_annotation-clause-later : goal.returns-in_err-judge_annotation-clause-later
-returns-in_err-judge_annotation-clause-later g c = both_later _ _ _ c.in_ok-read.ensures.later c.in_ok-ann.ensures.later
-
-pub returns-in_err-judge_annotation-clause-same : goal.returns-in_err-judge_annotation-clause-same
-returns-in_err-judge_annotation-clause-same g c = both_same _ _ _ c.in_ok-read.ensures.same c.in_ok-ann.ensures.same
-
-pub returns-in_err-text-clause-later : goal.returns-in_err-text-clause-later
-returns-in_err-text-clause-later g c = both_later _ _ _ c.in_ok-read.ensures.later c.in_ok-ann.ensures.later
-
-pub returns-in_err-text-clause-same : goal.returns-in_err-text-clause-same
-returns-in_err-text-clause-same g c = both_same _ _ _ c.in_ok-read.ensures.same c.in_ok-ann.ensures.same
 
 pub returns-clause-later : goal.returns-clause-later
 returns-clause-later g c = both_later _ _ _ c.in_ok-read.ensures.later c.in_ok-ann.ensures.later

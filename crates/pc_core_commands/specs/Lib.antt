@@ -1,0 +1,12 @@
+pub mod Events
+pub mod Explain
+pub mod Inner
+pub mod Judge
+pub mod Make
+pub mod Outcomes
+pub mod Play
+pub mod Run
+pub mod Schedule
+pub mod Sends
+pub mod Swap
+pub mod Trace

@@ -1,0 +1,31 @@
+-- `make SEED SIZE`: the numbers among its words, and the run of the program that is made of them.
+use Rattle.std.specs.Prelude.{ℕ, ◌≡◌, Option, Some, None, length, codes}
+use Rattle.pc_args.specs.Numbers.{IsSeed, IsSize}
+use Rattle.pc_core.specs.CoreData.{CoreData}
+use Rattle.pc_gen.specs.Schedule.{schedule}
+use Rattle.pc_run.specs.Spreading.{spread}
+use Rattle.pc_lists.specs.Texts.{Text}
+use Rattle.pc_refusal_lines.specs.Lines.{counts_line}
+use Rattle.pc_refusals.specs.Verdict.{Verdict, headed}
+use Rattle.pc_core_commands.specs.Run.{Ran}
+
+-- how lines name the source and the schedule of a generated program
+abbrev pub made_name : Text
+made_name = codes "make"
+
+-- the line of its numbers, if this is its core
+abbrev pub made_line : (seed size : ℕ) → CoreData → Text
+made_line seed size core = counts_line seed size (length core.nodes)
+
+-- Its run by its own schedule, after the line of its numbers.
+abbrev pub RanMade : (seed size : ℕ) → CoreData → Verdict → Type 0
+RanMade seed size core v = (w : Verdict) × Ran made_name core (spread (schedule size)) w × (v ≡ headed (made_line seed size core) w)
+
+-- The words are not a seed and a size.
+abbrev pub SpellsNone : Text → Text → Type 0
+SpellsNone seed size = (a b : ℕ) → IsSeed seed a → IsSize size b → ⊥
+
+-- The seed and the size that the words denote, or none if they do not denote both.
+abbrev pub ReadsNumbers : Text → Text → Option (ℕ × ℕ) → Type 0
+ReadsNumbers seed size None = SpellsNone seed size
+ReadsNumbers seed size (Some p) = IsSeed seed p.0 × IsSize size p.1
