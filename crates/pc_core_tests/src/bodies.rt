@@ -155,7 +155,8 @@ fn other_body(core: &Core, bodies: &[Body]) -> Option<Found> {
     for body in bodies {
         let end = end_of(core.nodes(), body);
         let number = body_of(core, body.0);
-        if end != body.1.saturating_add(body.2.len() as u32) || number != end.checked_sub(1) {
+        let wanted = (body.1 as usize).saturating_add(body.2.len());
+        if end as usize != wanted || number != end.checked_sub(1) {
             return Some((body.0, end, number));
         }
     }
