@@ -72,7 +72,7 @@ impl From<AllocError> for Differs {
 }
 
 // How a sink has something else than these calls with this text.
-fn unlike(sink: &CountedSink, called: Called<'_>) -> Option<Unlike> {
+fn difference_of(sink: &CountedSink, called: Called<'_>) -> Option<Unlike> {
     if sink.calls() != called.1 {
         return Some(Unlike::Calls(sink.calls()));
     }
@@ -87,10 +87,10 @@ fn did(status: u8, out: &CountedSink, err: &CountedSink, row: &Row<'_>) -> Resul
     if status != row.3 {
         return Err(Differs::Status(status));
     }
-    if let Some(unlike) = unlike(out, row.4) {
+    if let Some(unlike) = difference_of(out, row.4) {
         return Err(Differs::Out(unlike));
     }
-    match unlike(err, row.5) {
+    match difference_of(err, row.5) {
         Some(unlike) => Err(Differs::Line(unlike)),
         None => Ok(()),
     }
