@@ -23,6 +23,70 @@ actor Main
     env.out.print(P(1).string())
 """
 
+# An entity that takes over a body runs it with its own names. Main takes 75 steps: 3 before the items, 35 for each of the two calls,
+# one between them, and the return. Of a call's 35 steps 11 make the object and 17 are the body's.
+OWN_NAMES = b"""\
+trait Counts
+  fun word(): String => _name + size().string()
+class A is Counts
+  let _name: String = "a"
+  fun size(): U64 => 1
+class B is Counts
+  let _name: String = "b"
+  fun size(): U64 => 2
+actor Main
+  new create(env: Env) =>
+    env.out.print(A().word())
+    env.out.print(B().word())
+"""
+
+# Main takes 23 steps, and each of the others 8 for its constructor and 16 for the behaviour.
+TOLD = b"""\
+trait tag Tells
+  be tell() => _out.print(name())
+actor A is Tells
+  let _out: OutStream
+  new create(out: OutStream) => _out = out
+  fun name(): String => "a"
+actor B is Tells
+  let _out: OutStream
+  new create(out: OutStream) => _out = out
+  fun name(): String => "b"
+actor Main
+  new create(env: Env) =>
+    A(env.out).tell()
+    let b: Tells = B(env.out)
+    b.tell()
+"""
+
+# An own method comes before the body of an interface. Main takes 60 steps: 8 for each of the two locals, 12 for each of the three
+# calls, one between two items, 3 before them, and the return.
+OF_AN_INTERFACE = b"""\
+interface Speaks
+  fun word(): String => "one"
+class A is Speaks
+class B is Speaks
+  fun word(): String => "other"
+primitive P is Speaks
+actor Main
+  new create(env: Env) =>
+    let a: Speaks = A
+    let b: Speaks = B
+    env.out.print(a.word())
+    env.out.print(b.word())
+    env.out.print(P.word())
+"""
+
+COUNTS = b"""\
+actor Main
+  new create(env: Env) =>
+    while true do env.out.print("") end
+"""
+
+# After four steps, each round of the loop takes 12, and the tenth of them sends: in 900,000 turns that is 74,999 texts, each of
+# which is a turn of the stream and a line.
+COUNTED = b"\n" * 74_999 + b"steps 974999 skipped 25001 actors 2 objects 3 waiting 0\n"
+
 RUNS = [
     ("a greeting", HELLO, b"1*10 0", b"hi\nsteps 11 skipped 0 actors 2 objects 3 waiting 0\n"),
     ("no turns", HELLO, b"", b"steps 0 skipped 0 actors 2 objects 3 waiting 1\n"),
@@ -44,6 +108,10 @@ RUNS = [
     ),
     ("truth values", TRUTHS, b"1*21 0*2", b"true\nfalse\nsteps 23 skipped 0 actors 2 objects 3 waiting 0\n"),
     ("calls by a name alone", APPLIED, b"1*44 0*2", b"c\n2\nsteps 46 skipped 0 actors 2 objects 4 waiting 0\n"),
+    ("the names in a body are those of the class", OWN_NAMES, b"1*75 0*2", b"a1\nb2\nsteps 77 skipped 0 actors 2 objects 5 waiting 0\n"),
+    ("each actor has the behaviour", TOLD, b"1*23 2*24 3*24 0*2", b"a\nb\nsteps 73 skipped 0 actors 4 objects 5 waiting 0\n"),
+    ("an own method", OF_AN_INTERFACE, b"1*60 0*3", b"one\nother\none\nsteps 63 skipped 0 actors 2 objects 5 waiting 0\n"),
+    ("a million turns", COUNTS, b"1*900000 0*100000", COUNTED),
 ]
 
 NUMBER = b"""\

@@ -23,12 +23,6 @@ pub enum NotRun {
     NoSchedule(SchedFault),
 }
 
-impl From<Wrong> for NotRun {
-    fn from(wrong: Wrong) -> NotRun {
-        NotRun::NoProgram(wrong)
-    }
-}
-
 /// What a run of a program returns.
 pub type Answer = Result<Result<Report, RunFault>, NotRun>;
 
@@ -67,7 +61,10 @@ fn run_core(
 fn run_accepted(alloc: Global, program: &[u8], turns: &[Turn], out: &mut MemSink) -> Answer
     requires few { total turns.now ≤ turn_limit }
 {
-    let core = core_of(alloc, program)?;
+    let core = match core_of(alloc, program) {
+        Ok(core) => core,
+        Err(wrong) => return Err(NotRun::NoProgram(wrong)),
+    };
     if is_accepted(alloc, &core) {
         Ok(run_core(alloc, &core, turns, out))
     } else {

@@ -1,77 +1,25 @@
 //! Machines of accepted programs after the steps of lists of actors.
 ghost use Rattle.std.specs.Prelude.{◌≤◌, length};
-ghost use Rattle.pc_valid.specs.Valid.{Valid};
 ghost use Rattle.pc_machine.specs.Limits.{list_limit};
 
-use pc_ann::Ann;
 use pc_check::check;
 use pc_core::Core;
 use pc_machine::Machine;
-use pc_safe::{accepted_is_safe, accepted_runs};
-use pc_semantics::Access;
+use pc_safe::{SafeFault, accepted_is_safe, accepted_runs};
+use pc_test_inputs::programs::{HELLO, READERS};
 use pc_test_inputs::{Wrong, core_of};
 use std::alloc::{AllocError, Global};
 
-/// What is seen of a machine.
-#[derive(Clone, Copy, Debug, PartialEq)]
-pub struct Seen {
-    /// How many actors there are.
-    pub actors: u32,
-    /// How many texts were printed.
-    pub printed: usize,
-    /// How many messages wait.
-    pub waiting: u64,
-    /// What two actors are about to touch.
-    pub accesses: (Option<Access>, Option<Access>),
-}
+/// A field of an object, and whether it is written.
+type Touched = (u32, bool);
 
-// What is seen of a machine, and of two of its actors.
-fn seen_of(machine: &Machine<'_>, two: (u32, u32)) -> Seen {
-    Seen {
-        actors: machine.actors(),
-        printed: machine.printed().len(),
-        waiting: machine.waiting(),
-        accesses: (machine.access(two.0), machine.access(two.1)),
-    }
-}
-
-// What is seen of the machine after a list of actors, as `accepted_runs` returns it.
-fn seen_in_run(
-    alloc: Global,
-    core: &Core,
-    ann: &Ann,
-    actors: &[u32],
-    two: (u32, u32),
-) -> Option<Seen>
-    requires valid { Valid core.now ann.now }
-    requires few { length actors.now ≤ list_limit }
-{
-    match accepted_runs(alloc, core, ann, actors) {
-        Ok(machine) => Some(seen_of(&machine, two)),
-        Err(_) => None,
-    }
-}
-
-// The same as `accepted_is_safe` returns it.
-fn seen_in_safe_run(
-    alloc: Global,
-    core: &Core,
-    ann: &Ann,
-    actors: &[u32],
-    two: (u32, u32),
-) -> Option<Seen>
-    requires valid { Valid core.now ann.now }
-    requires few { length actors.now ≤ list_limit }
-{
-    match accepted_is_safe(alloc, core, ann, actors) {
-        Ok(machine) => Some(seen_of(&machine, two)),
-        Err(_) => None,
-    }
-}
+/// What is seen of a machine and of two of its actors: how many actors there are, how many texts are printed and how many
+/// messages wait, and what both actors are about to touch, if it is one field of one object in the same way.
+type Seen = (u32, usize, u64, Option<Touched>);
 
 /// Why nothing is seen.
-#[derive(Clone, Copy, Debug, PartialEq, Eq)]
-pub enum NotSeen {
+#[derive(Clone, Copy, Debug, PartialEq)]
+enum NotSeen {
     /// The program is not run.
     NoRun(Wrong),
     /// The list is not run to its end.
@@ -80,23 +28,26 @@ pub enum NotSeen {
     Unequal,
 }
 
-impl From<Wrong> for NotSeen {
-    fn from(wrong: Wrong) -> NotSeen {
-        NotSeen::NoRun(wrong)
+// What is seen of the machine after a list of actors, as a function returns it.
+fn seen_of(
+    ran: Result<Machine<'_>, SafeFault<'_>>,
+    (one, other): (u32, u32),
+) -> Result<Seen, NotSeen> {
+    match ran {
+        Ok(machine) => {
+            let touched = match (machine.access(one), machine.access(other)) {
+                (Some(one), Some(other)) if one == other => Some((one.field, one.write)),
+                (Some(_), Some(_)) | (None, _) | (_, None) => None,
+            };
+            let printed = machine.printed().len();
+            Ok((machine.actors(), printed, machine.waiting(), touched))
+        }
+        Err(_) => Err(NotSeen::Cut),
     }
 }
 
-// What is seen in both ways.
-fn seen_as_one(one: Option<Seen>, other: Option<Seen>) -> Result<Seen, NotSeen> {
-    if one == other {
-        one.ok_or(NotSeen::Cut)
-    } else {
-        Err(NotSeen::Unequal)
-    }
-}
-
-// What is seen of an accepted core.
-fn seen_in_both(
+// What is seen of an accepted core, if `accepted_runs` and `accepted_is_safe` agree.
+fn seen_in_core(
     alloc: Global,
     core: &Core,
     actors: &[u32],
@@ -107,11 +58,25 @@ fn seen_in_both(
     match check(alloc, core) {
         Ok(ann) => {
             let _notes = &ann.notes;
-            let run = seen_in_run(alloc, core, &ann, actors, two);
-            seen_as_one(run, seen_in_safe_run(alloc, core, &ann, actors, two))
+            let run = seen_of(accepted_runs(alloc, core, &ann, actors), two);
+            let safe = seen_of(accepted_is_safe(alloc, core, &ann, actors), two);
+            if run == safe {
+                run
+            } else {
+                Err(NotSeen::Unequal)
+            }
         }
         Err(_) => Err(NotSeen::NoRun(Wrong::NotAccepted)),
     }
+}
+
+// The list of actors for these turns, each an actor and a number of steps.
+fn list_of(alloc: Global, turns: &[(u32, u32)]) -> Result<Vec<u32>, AllocError> {
+    let mut list = Vec::new(alloc);
+    for (actor, times) in turns {
+        list.resize(list.len().saturating_add(*times as usize), *actor)?;
+    }
+    Ok(list)
 }
 
 // The same of a program.
@@ -124,35 +89,47 @@ fn seen_in_program(
     if actors.len() > 4_000_000 {
         return Err(NotSeen::NoRun(Wrong::PastLimit));
     }
-    let core = core_of(alloc, program)?;
-    seen_in_both(alloc, &core, actors, two)
-}
-
-fn push_turn(list: &mut Vec<u32>, actor: u32, times: u32) -> Result<(), AllocError> {
-    for _ in 0..times {
-        list.push(actor)?;
+    match core_of(alloc, program) {
+        Ok(core) => seen_in_core(alloc, &core, actors, two),
+        Err(wrong) => Err(NotSeen::NoRun(wrong)),
     }
-    Ok(())
 }
 
-// The list of actors for these turns, each an actor and a number of steps.
-fn list_of(alloc: Global, turns: &[(u32, u32)]) -> Result<Vec<u32>, AllocError> {
-    let mut list = Vec::new(alloc);
-    for (actor, times) in turns {
-        push_turn(&mut list, *actor, *times)?;
-    }
-    Ok(list)
-}
-
-/// What is seen of the machine and of two of its actors after turns, if `accepted_runs` and `accepted_is_safe` agree.
-pub fn seen_after(
-    alloc: Global,
-    program: &[u8],
-    turns: &[(u32, u32)],
-    two: (u32, u32),
-) -> Result<Seen, NotSeen> {
-    match list_of(alloc, turns) {
-        Ok(actors) => seen_in_program(alloc, program, &actors, two),
+// What is seen of the program of a row, after its turns.
+fn seen_after(alloc: Global, row: &Row) -> Result<Seen, NotSeen> {
+    match list_of(alloc, row.1) {
+        Ok(actors) => seen_in_program(alloc, row.0, &actors, row.2),
         Err(_) => Err(NotSeen::NoRun(Wrong::OutOfMemory)),
     }
+}
+
+/// A program, its turns, two of its actors, and what is seen after them.
+type Row = (&'static [u8], &'static [(u32, u32)], (u32, u32), Seen);
+
+// The text waits for the stream and is then printed; and two actors are about to read the field of one object.
+const ROWS: [Row; 3] = [
+    (HELLO, &[(1, 10)], (0, 1), (2, 0, 1, None)),
+    (HELLO, &[(1, 10), (0, 1)], (0, 1), (2, 1, 0, None)),
+    (
+        READERS,
+        &[(1, 43), (2, 13), (3, 13), (2, 9), (3, 9)],
+        (2, 3),
+        (4, 0, 0, Some((0, false))),
+    ),
+];
+
+// The place of the first of these rows that differs, and what is seen.
+fn wrong_row(alloc: Global, rows: &[Row]) -> Option<(usize, Result<Seen, NotSeen>)> {
+    for at in 0..rows.len() {
+        let seen = seen_after(alloc, &rows[at]);
+        if seen != Ok(rows[at].3) {
+            return Some((at, seen));
+        }
+    }
+    None
+}
+
+#[test]
+fn what_is_printed_waits_or_is_about_to_be_touched_is_seen(rt: HostRuntime) {
+    assert_eq!(rt; wrong_row(rt.alloc(), &ROWS), None);
 }
