@@ -43,10 +43,6 @@ enum Act {
     Refuses(Place, u32),
 }
 
-fn reserves(heap: &mut Heap, maker: u32, fields: u32) -> bool {
-    heap.count() < 4_194_304 && fields <= 512 && heap.reserve(maker, fields).is_ok()
-}
-
 fn takes(
     heap: &mut Heap,
     address: Address,
@@ -80,7 +76,9 @@ fn refuses(heap: &mut Heap, address: Address, field: u32) -> bool {
 fn goes(heap: &mut Heap, act: Act) -> bool {
     match act {
         Act::Counts(count) => heap.count() == count,
-        Act::Reserves(maker, fields) => reserves(heap, maker, fields),
+        Act::Reserves(maker, fields) => {
+            heap.count() < 4_194_304 && fields <= 512 && heap.reserve(maker, fields).is_ok()
+        }
         Act::Makes(maker, entity, fields, serial) => {
             made(heap, maker, entity, fields) == Some(at((maker, serial)))
         }
@@ -101,12 +99,18 @@ fn wrong_act(heap: &mut Heap, acts: &[Act]) -> Option<usize> {
     None
 }
 
-// The same, one after another, in a new heap.
-fn wrong_in_heap(alloc: Global, acts: &[Act]) -> Option<usize> {
-    let mut heap = Heap::new(alloc);
-    wrong_act(&mut heap, acts)
+// The places of the first of these lists that has such an act, and of the act. Each list has a new heap.
+fn wrong_list(alloc: Global, lists: &[&[Act]]) -> Option<(usize, usize)> {
+    for at in 0..lists.len() {
+        let mut heap = Heap::new(alloc);
+        if let Some(act) = wrong_act(&mut heap, lists[at]) {
+            return Some((at, act));
+        }
+    }
+    None
 }
 
+// An object has its entity and its fields.
 const ONE_OBJECT: [Act; 12] = [
     Act::Counts(0),
     Act::Makes(4, 6, 1, 0),
@@ -122,11 +126,7 @@ const ONE_OBJECT: [Act; 12] = [
     Act::IsOf((4, 1), None),
 ];
 
-#[test]
-fn an_object_has_its_entity_and_its_fields(rt: HostRuntime) {
-    assert_eq!(rt; wrong_in_heap(rt.alloc(), &ONE_OBJECT), None);
-}
-
+// Each maker counts its own objects.
 const SERIALS: [Act; 9] = [
     Act::Makes(1, 3, 0, 0),
     Act::Makes(0, 2, 2, 0),
@@ -139,11 +139,7 @@ const SERIALS: [Act; 9] = [
     Act::Holds((0, 1), 510, None),
 ];
 
-#[test]
-fn each_maker_counts_its_own_objects(rt: HostRuntime) {
-    assert_eq!(rt; wrong_in_heap(rt.alloc(), &SERIALS), None);
-}
-
+// Room that is not used is no object.
 const ROOM: [Act; 8] = [
     Act::Reserves(2, 3),
     Act::IsOf((2, 0), None),
@@ -155,11 +151,7 @@ const ROOM: [Act; 8] = [
     Act::Counts(2),
 ];
 
-#[test]
-fn room_that_is_not_used_is_no_object(rt: HostRuntime) {
-    assert_eq!(rt; wrong_in_heap(rt.alloc(), &ROOM), None);
-}
-
+// There is no field after the last of many.
 const MANY_FIELDS: [Act; 5] = [
     Act::Makes(4, 6, 300, 0),
     Act::Takes((4, 0), 299, 7, None),
@@ -168,11 +160,7 @@ const MANY_FIELDS: [Act; 5] = [
     Act::Holds((4, 0), 0, None),
 ];
 
-#[test]
-fn there_is_no_field_after_the_last_of_many(rt: HostRuntime) {
-    assert_eq!(rt; wrong_in_heap(rt.alloc(), &MANY_FIELDS), None);
-}
-
+// The fields of one object are no fields of another.
 const FIELDS_APART: [Act; 7] = [
     Act::Makes(0, 6, 300, 0),
     Act::Makes(1, 6, 300, 0),
@@ -184,6 +172,7 @@ const FIELDS_APART: [Act; 7] = [
 ];
 
 #[test]
-fn the_fields_of_one_object_are_no_fields_of_another(rt: HostRuntime) {
-    assert_eq!(rt; wrong_in_heap(rt.alloc(), &FIELDS_APART), None);
+fn acts_on_a_heap_have_the_results_that_they_state(rt: HostRuntime) {
+    let lists: [&[Act]; 5] = [&ONE_OBJECT, &SERIALS, &ROOM, &MANY_FIELDS, &FIELDS_APART];
+    assert_eq!(rt; wrong_list(rt.alloc(), &lists), None);
 }

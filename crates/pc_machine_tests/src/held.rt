@@ -1,5 +1,5 @@
 //! Values as the tables of the tests write them.
-use pc_heap::{Address, Text, Value};
+use pc_heap::{Address, Value};
 
 /// A value that a field or a slot holds.
 #[derive(Clone, Copy, PartialEq)]
@@ -17,16 +17,12 @@ pub fn is_written(value: &Value, held: Held<'_>) -> bool {
     match value {
         Value::Num(number) => held == Held::Number(*number),
         Value::Truth(truth) => held == Held::Truth(*truth),
-        Value::Text(text) => is_text(text, held),
+        Value::Text(text) => match held {
+            Held::Text(bytes) => text.has_bytes(bytes),
+            Held::Number(_) | Held::Truth(_) | Held::Prim(_) | Held::Object(_) => false,
+        },
         Value::Prim(entity) => held == Held::Prim(*entity),
         Value::At(address) => held == Held::Object(*address),
-    }
-}
-
-fn is_text(text: &Text, held: Held<'_>) -> bool {
-    match held {
-        Held::Text(bytes) => text.has_bytes(bytes),
-        Held::Number(_) | Held::Truth(_) | Held::Prim(_) | Held::Object(_) => false,
     }
 }
 

@@ -1,28 +1,25 @@
 //! A constructor that is run to its end. What runs out of memory is done once more.
 use crate::heaps::made;
 use crate::held::{Held, holds};
-use pc_core::{Core, Method};
+use pc_core::Core;
 use pc_heap::{Address, Heap, Value};
 use pc_semantics::{Frame, Outcome, Slots, Stack, Task, Tasks};
 use pc_tasks::{is_inside, run_inside};
 use pc_test_inputs::{Wrong, core_of};
 use std::alloc::{AllocError, Global};
 
-/// How a constructor ended.
-#[derive(Clone, Copy)]
-pub struct Ended {
-    /// How many steps there were.
-    pub steps: u32,
-    /// How the last step ended.
-    pub last: Outcome,
-    /// Whether it is at its Return, with one value on the stack.
-    pub is_at_return: bool,
-    /// The place of the first slot after its parameter that does not hold what it should.
-    pub wrong_slot: Option<usize>,
+/// How a constructor ends.
+#[derive(Clone, Copy, Debug, PartialEq)]
+pub enum End {
+    /// It comes to its Return, with one value on the stack, after a step that moved. The place of the first slot after
+    /// its parameter that does not hold what it should.
+    Returns(Option<usize>),
+    /// It comes to a step with this number, counted from 1, which is its last and ends like this.
+    Stops(u32, Outcome),
 }
 
 /// Why a constructor did not come to its end.
-#[derive(Clone, Copy, Debug, PartialEq, Eq)]
+#[derive(Clone, Copy, Debug, PartialEq)]
 pub enum Unended {
     /// There is no constructor, for this reason.
     NoMain(Wrong),
@@ -34,11 +31,9 @@ pub enum Unended {
     Endless,
 }
 
-impl From<Wrong> for Unended {
-    fn from(wrong: Wrong) -> Unended {
-        Unended::NoMain(wrong)
-    }
-}
+/// A text, how many fields its Main has, what the slots after the parameter of its constructor should hold at the end, and
+/// how the constructor ends.
+pub type Ending = (&'static [u8], u32, &'static [Held<'static>], End);
 
 // What is observed of a frame: how many values it has, its first task, and how many of its slots, of which there are at
 // most 64, hold something.
@@ -92,23 +87,14 @@ fn last_outcome(
     Err(Unended::Endless)
 }
 
-fn slot_holds(frame: &Frame, slot: usize, wanted: Held<'_>) -> bool {
-    holds(frame.slots.get(slot), Some(wanted))
-}
-
 // The place of the first slot after the parameter of a constructor that does not hold the value that it should.
 fn wrong_slot(frame: &Frame, wanted: &[Held<'_>]) -> Option<usize> {
     for place in 0..wanted.len() {
-        if !slot_holds(frame, place + 2, wanted[place]) {
+        if !holds(frame.slots.get(place + 2), Some(wanted[place])) {
             return Some(place);
         }
     }
     None
-}
-
-// Whether a frame is at its Return, with one value on the stack.
-fn is_at_return(frame: &Frame) -> bool {
-    frame.tasks.top() == Some(Task::Return) && frame.stack.len() == 1
 }
 
 fn run(
@@ -117,49 +103,28 @@ fn run(
     heap: &mut Heap,
     frame: &mut Frame,
     wanted: &[Held<'_>],
-) -> Result<Ended, Unended> {
+) -> Result<End, Unended> {
     let (steps, last) = last_outcome(alloc, core, heap, frame)?;
-    Ok(Ended {
-        steps,
-        last,
-        is_at_return: is_at_return(frame),
-        wrong_slot: wrong_slot(frame, wanted),
-    })
+    let is_at_return = frame.tasks.top() == Some(Task::Return) && frame.stack.len() == 1;
+    if last == Outcome::Moved && is_at_return {
+        Ok(End::Returns(wrong_slot(frame, wanted)))
+    } else {
+        Ok(End::Stops(steps, last))
+    }
 }
 
-// This many slots, of which the first holds an object.
-fn slots_of(alloc: Global, this: Address, count: u32) -> Result<Slots, AllocError> {
-    let mut held = Vec::new(alloc);
-    held.push(Some(Value::At(this)))?;
-    Ok(Slots::new(held, (count as usize).saturating_sub(1)))
-}
-
-// The frame of the constructor of an object, about to begin.
+// The frame of the constructor of an object, about to begin. Its first slot holds the object.
 fn frame_of(alloc: Global, this: Address, slots: u32, body: u32) -> Result<Frame, AllocError> {
     let mut tasks = Tasks::new(alloc);
     tasks.push(Task::Eval(body))?;
+    let mut held = Vec::new(alloc);
+    held.push(Some(Value::At(this)))?;
     Ok(Frame {
         method: 1,
-        slots: slots_of(alloc, this, slots)?,
+        slots: Slots::new(held, (slots as usize).saturating_sub(1)),
         stack: Stack::new(alloc),
         tasks,
     })
-}
-
-fn begun(alloc: Global, this: Address, method: &Method) -> Result<Frame, Unended> {
-    let body = method.body.ok_or(Unended::NoMain(Wrong::NotThere))?;
-    if let Ok(frame) = frame_of(alloc, this, method.slots, body) {
-        return Ok(frame);
-    }
-    frame_of(alloc, this, method.slots, body).or(Err(Unended::OutOfMemory))
-}
-
-// The object of Main, with this many fields.
-fn main_object(heap: &mut Heap, fields: u32) -> Option<Address> {
-    match made(heap, 1, 6, fields) {
-        Some(this) => Some(this),
-        None => made(heap, 1, 6, fields),
-    }
 }
 
 // How the constructor of a core's Main ends, over a heap without objects.
@@ -169,41 +134,37 @@ fn run_main(
     heap: &mut Heap,
     fields: u32,
     wanted: &[Held<'_>],
-) -> Result<Ended, Unended> {
-    let this = main_object(heap, fields).ok_or(Unended::OutOfMemory)?;
+) -> Result<End, Unended> {
+    let this = made(heap, 1, 6, fields).ok_or(Unended::OutOfMemory)?;
     let method = core.method_at(1).ok_or(Unended::NoMain(Wrong::NotThere))?;
-    match begun(alloc, this, method) {
+    let body = method.body.ok_or(Unended::NoMain(Wrong::NotThere))?;
+    match frame_of(alloc, this, method.slots, body) {
         Ok(mut frame) => run(alloc, core, heap, &mut frame, wanted),
-        Err(unended) => Err(unended),
+        Err(_) => Err(Unended::OutOfMemory),
     }
 }
 
-fn run_core(
-    alloc: Global,
-    core: &Core,
-    fields: u32,
-    wanted: &[Held<'_>],
-) -> Result<Ended, Unended> {
+// How the constructor of Main ends, if Main is the only entity of a text.
+fn end_of(alloc: Global, ending: &Ending) -> Result<End, Unended> {
+    let core = match core_of(alloc, ending.0) {
+        Ok(core) => core,
+        Err(wrong) => return Err(Unended::NoMain(wrong)),
+    };
     let mut heap = Heap::new(alloc);
-    run_main(alloc, core, &mut heap, fields, wanted)
+    run_main(alloc, &core, &mut heap, ending.1, ending.2)
 }
 
-/// The core of a program, tried once more if there is none.
-pub fn core_again(alloc: Global, program: &[u8]) -> Result<Core, Wrong> {
-    if let Ok(core) = core_of(alloc, program) {
-        return Ok(core);
+/// The place of the first of these texts whose constructor ends in another way, on the second try if memory ran out before
+/// the first step, and how it ends.
+pub fn wrong_ending(alloc: Global, endings: &[Ending]) -> Option<(usize, Result<End, Unended>)> {
+    for at in 0..endings.len() {
+        let mut end = end_of(alloc, &endings[at]);
+        if matches!(end, Err(Unended::NoMain(_) | Unended::OutOfMemory)) {
+            end = end_of(alloc, &endings[at]);
+        }
+        if end != Ok(endings[at].3) {
+            return Some((at, end));
+        }
     }
-    core_of(alloc, program)
-}
-
-/// How the constructor of Main ends, if Main has this many fields and is the only entity of this text. The slots after
-/// its parameter should then hold these values.
-pub fn end_of(
-    alloc: Global,
-    text: &[u8],
-    fields: u32,
-    wanted: &[Held<'_>],
-) -> Result<Ended, Unended> {
-    let core = core_again(alloc, text)?;
-    run_core(alloc, &core, fields, wanted)
+    None
 }

@@ -1,47 +1,20 @@
 //! Programs run step by step. The numbers of steps are counted by hand, from the tasks of each node.
-use crate::turns::{Turn, Unlike, seen_after};
+use crate::turns::{Program, Turn, wrong_program};
 use pc_heap::Address;
 use pc_machine::{Access, Lack, Outcome};
 use pc_test_inputs::programs::HELLO;
-use std::alloc::Global;
-
-// Checks that a program takes these turns and prints these texts.
-fn runs(alloc: Global, text: &[u8], turns: &[Turn], printed: &[&[u8]]) -> Result<(), Unlike> {
-    let seen = seen_after(alloc, text, turns, printed, 0)?;
-    if seen.is_printed {
-        Ok(())
-    } else {
-        Err(Unlike::Prints)
-    }
-}
-
-// How the step of an actor ends after these turns of a program, unless memory runs out.
-fn end_of(
-    alloc: Global,
-    text: &[u8],
-    turns: &[Turn],
-    actor: u32,
-) -> Result<Option<Outcome>, Unlike> {
-    let seen = seen_after(alloc, text, turns, &[], actor)?;
-    Ok(seen.outcome)
-}
 
 // The take, the body, the sequence, the call, the text, the field, the local, the read, the invocation and the return;
 // and then the stream prints. There is no actor 7.
 const HELLO_TURNS: [Turn; 7] = [
-    (0, 5, 0, (2, 3, 1, 0)),
-    (1, 1, 1, (2, 3, 0, 0)),
-    (7, 5, 0, (2, 3, 0, 0)),
-    (1, 7, 7, (2, 3, 0, 0)),
-    (1, 1, 1, (2, 3, 1, 0)),
-    (1, 5, 1, (2, 3, 1, 0)),
-    (0, 5, 1, (2, 3, 0, 1)),
+    (0, 5, (0, Outcome::Skipped), ((2, 3, 1, 0), None)),
+    (1, 1, (1, Outcome::Moved), ((2, 3, 0, 0), None)),
+    (7, 5, (0, Outcome::Skipped), ((2, 3, 0, 0), None)),
+    (1, 7, (7, Outcome::Moved), ((2, 3, 0, 0), None)),
+    (1, 1, (1, Outcome::Moved), ((2, 3, 1, 0), None)),
+    (1, 5, (1, Outcome::Skipped), ((2, 3, 1, 0), None)),
+    (0, 5, (1, Outcome::Skipped), ((2, 3, 0, 1), None)),
 ];
-
-#[test]
-fn a_text_is_printed(rt: HostRuntime) {
-    assert_eq!(rt; runs(rt.alloc(), HELLO, &HELLO_TURNS, &[b"hi"]), Ok(()));
-}
 
 const SPAWN: &[u8] = b"actor A
   new create(n: U64) =>
@@ -53,17 +26,12 @@ actor Main
 
 // The sixth step makes an actor with its object and its message, which it takes in its own turn.
 const SPAWN_TURNS: [Turn; 5] = [
-    (2, 5, 0, (2, 3, 1, 0)),
-    (1, 5, 5, (2, 3, 0, 0)),
-    (1, 1, 1, (3, 4, 1, 0)),
-    (1, 9, 1, (3, 4, 1, 0)),
-    (2, 9, 5, (3, 4, 0, 0)),
+    (2, 5, (0, Outcome::Skipped), ((2, 3, 1, 0), None)),
+    (1, 5, (5, Outcome::Moved), ((2, 3, 0, 0), None)),
+    (1, 1, (1, Outcome::Moved), ((3, 4, 1, 0), None)),
+    (1, 9, (1, Outcome::Skipped), ((3, 4, 1, 0), None)),
+    (2, 9, (5, Outcome::Skipped), ((3, 4, 0, 0), None)),
 ];
-
-#[test]
-fn an_actor_is_made_and_takes_its_message(rt: HostRuntime) {
-    assert_eq!(rt; runs(rt.alloc(), SPAWN, &SPAWN_TURNS, &[]), Ok(()));
-}
 
 const CALL: &[u8] = b"actor Main
   new create(env: Env) =>
@@ -73,12 +41,10 @@ const CALL: &[u8] = b"actor Main
 ";
 
 // Nine steps up to the invocation of the function, seven in it with its return, and six after it.
-const CALL_TURNS: [Turn; 2] = [(1, 99, 22, (2, 3, 1, 0)), (0, 9, 1, (2, 3, 0, 1))];
-
-#[test]
-fn a_function_is_called(rt: HostRuntime) {
-    assert_eq!(rt; runs(rt.alloc(), CALL, &CALL_TURNS, &[b"42"]), Ok(()));
-}
+const CALL_TURNS: [Turn; 2] = [
+    (1, 99, (22, Outcome::Skipped), ((2, 3, 1, 0), None)),
+    (0, 9, (1, Outcome::Skipped), ((2, 3, 0, 1), None)),
+];
 
 const MAKE: &[u8] = b"class C
   var n: U64
@@ -92,16 +58,11 @@ actor Main
 
 // Seven steps make the object. The constructor's frame has a body, a sequence and a write, and returns the object.
 const MAKE_TURNS: [Turn; 4] = [
-    (1, 6, 6, (2, 3, 0, 0)),
-    (1, 1, 1, (2, 4, 0, 0)),
-    (1, 99, 20, (2, 4, 1, 0)),
-    (0, 9, 1, (2, 4, 0, 1)),
+    (1, 6, (6, Outcome::Moved), ((2, 3, 0, 0), None)),
+    (1, 1, (1, Outcome::Moved), ((2, 4, 0, 0), None)),
+    (1, 99, (20, Outcome::Skipped), ((2, 4, 1, 0), None)),
+    (0, 9, (1, Outcome::Skipped), ((2, 4, 0, 1), None)),
 ];
-
-#[test]
-fn an_object_is_made_and_its_field_is_read(rt: HostRuntime) {
-    assert_eq!(rt; runs(rt.alloc(), MAKE, &MAKE_TURNS, &[b"7"]), Ok(()));
-}
 
 // The writing and the reading of the field of the object that Main makes.
 const WRITING: Access = Access {
@@ -122,66 +83,53 @@ const READING: Access = Access {
     write: false,
 };
 
-// Turns of the program above, and what Main is about to touch after them.
-const TOUCHED: [(&[Turn], Option<Access>); 3] = [
-    (&[], None),
-    (&[(1, 12, 12, (2, 4, 0, 0))], Some(WRITING)),
-    (&[(1, 20, 20, (2, 4, 0, 0))], Some(READING)),
+// Before its writing and its reading, Main is about to touch the field.
+const TOUCHED_TURNS: [Turn; 3] = [
+    (1, 0, (0, Outcome::Moved), ((2, 3, 1, 0), None)),
+    (1, 12, (12, Outcome::Moved), ((2, 4, 0, 0), Some(WRITING))),
+    (1, 8, (8, Outcome::Moved), ((2, 4, 0, 0), Some(READING))),
 ];
-
-/// What Main is about to touch after turns, if they have their results.
-type Touching = Result<Option<Access>, Unlike>;
-
-fn touched_after(alloc: Global, turns: &[Turn]) -> Touching {
-    let seen = seen_after(alloc, MAKE, turns, &[], 1)?;
-    Ok(seen.access)
-}
-
-// The place of the first of these rows after which Main is about to touch something else, and what.
-fn wrong_touch(alloc: Global, rows: &[(&[Turn], Option<Access>)]) -> Option<(usize, Touching)> {
-    for at in 0..rows.len() {
-        let touched = touched_after(alloc, rows[at].0);
-        if touched != Ok(rows[at].1) {
-            return Some((at, touched));
-        }
-    }
-    None
-}
-
-#[test]
-fn before_its_writing_and_its_reading_an_actor_is_about_to_touch_a_field(rt: HostRuntime) {
-    assert_eq!(rt; wrong_touch(rt.alloc(), &TOUCHED), None);
-}
 
 const LACK: &[u8] = b"actor Main
   new create(env: Env) =>
     1 + true
 ";
 
-// A step that lacks something changes nothing, however often.
-const LACK_TURNS: [Turn; 2] = [(1, 99, 6, (2, 3, 0, 0)), (1, 99, 0, (2, 3, 0, 0))];
+const LACKS_VALUE: Outcome = Outcome::Lacks(Lack::Value);
 
-#[test]
-fn a_step_that_lacks_something_changes_nothing(rt: HostRuntime) {
-    let outcome = Outcome::Lacks(Lack::Value);
-    assert_eq!(rt; end_of(rt.alloc(), LACK, &LACK_TURNS, 1), Ok(Some(outcome)));
-}
+// A step that lacks something changes nothing, however often.
+const LACK_TURNS: [Turn; 3] = [
+    (1, 99, (6, LACKS_VALUE), ((2, 3, 0, 0), None)),
+    (1, 99, (0, LACKS_VALUE), ((2, 3, 0, 0), None)),
+    (1, 1, (0, LACKS_VALUE), ((2, 3, 0, 0), None)),
+];
 
 const NO_METHOD: &[u8] = b"actor Main
   new create(env: Env) =>
     env.missing()
 ";
 
+const LACKS_METHOD: Outcome = Outcome::Lacks(Lack::Method);
+
 // The take, the body, the sequence, the call and the receiver.
-const NO_METHOD_TURNS: [Turn; 1] = [(1, 99, 5, (2, 3, 0, 0))];
+const NO_METHOD_TURNS: [Turn; 2] = [
+    (1, 99, (5, LACKS_METHOD), ((2, 3, 0, 0), None)),
+    (1, 1, (0, LACKS_METHOD), ((2, 3, 0, 0), None)),
+];
+
+const PROGRAMS: [Program; 7] = [
+    (HELLO, &HELLO_TURNS, &[b"hi"]),
+    (SPAWN, &SPAWN_TURNS, &[]),
+    (CALL, &CALL_TURNS, &[b"42"]),
+    (MAKE, &MAKE_TURNS, &[b"7"]),
+    (MAKE, &TOUCHED_TURNS, &[]),
+    (LACK, &LACK_TURNS, &[]),
+    (NO_METHOD, &NO_METHOD_TURNS, &[]),
+];
 
 #[test]
-fn a_call_of_a_method_that_is_not_there_lacks_it(rt: HostRuntime) {
-    let outcome = Outcome::Lacks(Lack::Method);
-    assert_eq!(rt;
-        end_of(rt.alloc(), NO_METHOD, &NO_METHOD_TURNS, 1),
-        Ok(Some(outcome))
-    );
+fn each_turn_moves_and_changes_what_it_should(rt: HostRuntime) {
+    assert_eq!(rt; wrong_program(rt.alloc(), &PROGRAMS), None);
 }
 
 const LONG: &[u8] = b"class C
@@ -201,12 +149,22 @@ actor Main
 
 // A million steps: eight, 27,026 rounds of the loop with 37 each, and 30 of another round, after the message.
 const LONG_TURNS: [Turn; 2] = [
-    (1, 1_000_000, 1_000_000, (2, 27_030, 27_027, 0)),
-    (0, 1_000_000, 27_027, (2, 27_030, 0, 27_027)),
+    (
+        1,
+        1_000_000,
+        (1_000_000, Outcome::Moved),
+        ((2, 27_030, 27_027, 0), None),
+    ),
+    (
+        0,
+        1_000_000,
+        (27_027, Outcome::Skipped),
+        ((2, 27_030, 0, 27_027), None),
+    ),
 ];
 
 #[test]
 fn a_million_steps_are_taken(rt: HostRuntime) {
-    let outcome = Outcome::Skipped;
-    assert_eq!(rt; end_of(rt.alloc(), LONG, &LONG_TURNS, 0), Ok(Some(outcome)));
+    let programs: [Program; 1] = [(LONG, &LONG_TURNS, &[b"x"])];
+    assert_eq!(rt; wrong_program(rt.alloc(), &programs), None);
 }

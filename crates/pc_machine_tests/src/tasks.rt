@@ -1,20 +1,7 @@
 //! The tasks that stay inside a frame: constructors of small texts, run to their ends.
 use crate::held::Held;
-use crate::running::{Unended, end_of};
+use crate::running::{End, Ending, wrong_ending};
 use pc_semantics::{Lack, Outcome};
-use std::alloc::Global;
-
-/// How a last step ends, whether it leads to the Return, and the first local that does not hold what it should.
-type Left = (Outcome, bool, Option<usize>);
-
-/// The Return is reached, with the right values in all locals.
-const DONE: Result<Left, Unended> = Ok((Outcome::Moved, true, None));
-
-// How the constructor of a text ends, of a Main with this many fields, whose locals should then hold these values.
-fn leaves(alloc: Global, text: &[u8], fields: u32, locals: &[Held<'_>]) -> Result<Left, Unended> {
-    let ended = end_of(alloc, text, fields, locals)?;
-    Ok((ended.last, ended.is_at_return, ended.wrong_slot))
-}
 
 // The value None.
 const NONE: Held<'static> = Held::Prim(0);
@@ -34,11 +21,6 @@ const NUMBERS_LOCALS: [Held<'static>; 5] = [
     Held::Number(9),
     Held::Number(0),
 ];
-
-#[test]
-fn numbers_wrap_and_a_division_by_0_gives_0(rt: HostRuntime) {
-    assert_eq!(rt; leaves(rt.alloc(), NUMBERS, 0, &NUMBERS_LOCALS), DONE);
-}
 
 const TRUTHS: &[u8] = b"actor Main
   new create(env: Env) =>
@@ -60,11 +42,6 @@ const TRUTHS_LOCALS: [Held<'static>; 7] = [
     Held::Truth(false),
 ];
 
-#[test]
-fn values_are_compared_by_what_they_are(rt: HostRuntime) {
-    assert_eq!(rt; leaves(rt.alloc(), TRUTHS, 0, &TRUTHS_LOCALS), DONE);
-}
-
 const SIDES: &[u8] = b"actor Main
   new create(env: Env) =>
     var n = 0
@@ -80,11 +57,6 @@ const SIDES_LOCALS: [Held<'static>; 5] = [
     Held::Truth(true),
     Held::Truth(true),
 ];
-
-#[test]
-fn a_right_side_is_done_where_the_left_one_does_not_decide(rt: HostRuntime) {
-    assert_eq!(rt; leaves(rt.alloc(), SIDES, 0, &SIDES_LOCALS), DONE);
-}
 
 const TURNS: &[u8] = b"actor Main
   new create(env: Env) =>
@@ -107,11 +79,6 @@ const TURNS_LOCALS: [Held<'static>; 6] = [
     NONE,
 ];
 
-#[test]
-fn slots_are_written_round_a_loop_and_consumed(rt: HostRuntime) {
-    assert_eq!(rt; leaves(rt.alloc(), TURNS, 0, &TURNS_LOCALS), DONE);
-}
-
 const FIELDS: &[u8] = b"actor Main
   var f: U64
   var g: String
@@ -128,11 +95,6 @@ const FIELDS_LOCALS: [Held<'static>; 4] = [
     Held::Number(7),
     Held::Text(b"x"),
 ];
-
-#[test]
-fn fields_are_written_and_read(rt: HostRuntime) {
-    assert_eq!(rt; leaves(rt.alloc(), FIELDS, 2, &FIELDS_LOCALS), DONE);
-}
 
 // The text doubles until it has 4,096 bytes.
 const DOUBLES: &[u8] = b"actor Main
@@ -177,11 +139,6 @@ const SEAMS_LOCALS: [Held<'static>; 5] = [
     Held::Truth(true),
 ];
 
-#[test]
-fn texts_are_equal_wherever_they_were_joined(rt: HostRuntime) {
-    assert_eq!(rt; leaves(rt.alloc(), SEAMS, 0, &SEAMS_LOCALS), DONE);
-}
-
 const UNSET: &[u8] = b"actor Main
   var f: U64
   new create(env: Env) =>
@@ -202,40 +159,40 @@ const PLACE: &[u8] = b"actor Main
     let a = 1
     a.f = 2";
 
-// A text, how many fields its Main has, which step of its constructor is the last, and how it ends.
-type Ending = (&'static [u8], u32, u32, Outcome);
+/// The Return is reached, with the right values in all locals.
+const DONE: End = End::Returns(None);
+
+const DONE_WELL: [Ending; 6] = [
+    // Numbers wrap, and a division by 0 gives 0.
+    (NUMBERS, 0, &NUMBERS_LOCALS, DONE),
+    // Values are compared by what they are.
+    (TRUTHS, 0, &TRUTHS_LOCALS, DONE),
+    // A right side is done where the left one does not decide.
+    (SIDES, 0, &SIDES_LOCALS, DONE),
+    // Slots are written round a loop and consumed.
+    (TURNS, 0, &TURNS_LOCALS, DONE),
+    // Fields are written and read.
+    (FIELDS, 2, &FIELDS_LOCALS, DONE),
+    // Texts are equal wherever they were joined.
+    (SEAMS, 0, &SEAMS_LOCALS, DONE),
+];
+
+#[test]
+fn a_constructor_returns_with_the_right_values_in_its_locals(rt: HostRuntime) {
+    assert_eq!(rt; wrong_ending(rt.alloc(), &DONE_WELL), None);
+}
 
 // Evaluating a node takes one step, and so does each task after its children. A round of the loop of DOUBLES has 22
 // steps, of which 7 are for the condition; there are 10 before its 12 rounds, and 13 after them.
-const ENDINGS: [Ending; 5] = [
-    (DOUBLES, 0, 287, Outcome::TooLong),
-    (UNSET, 1, 6, Outcome::Lacks(Lack::Field)),
-    (GONE, 0, 12, Outcome::Lacks(Lack::Slot)),
-    (KINDS, 0, 7, Outcome::Lacks(Lack::Value)),
-    (PLACE, 0, 10, Outcome::Lacks(Lack::Object)),
+const STOPPED: [Ending; 5] = [
+    (DOUBLES, 0, &[], End::Stops(287, Outcome::TooLong)),
+    (UNSET, 1, &[], End::Stops(6, Outcome::Lacks(Lack::Field))),
+    (GONE, 0, &[], End::Stops(12, Outcome::Lacks(Lack::Slot))),
+    (KINDS, 0, &[], End::Stops(7, Outcome::Lacks(Lack::Value))),
+    (PLACE, 0, &[], End::Stops(10, Outcome::Lacks(Lack::Object))),
 ];
-
-/// How many steps there are, and how the last one ends.
-type Last = Result<(u32, Outcome), Unended>;
-
-fn last_of(alloc: Global, text: &[u8], fields: u32) -> Last {
-    let ended = end_of(alloc, text, fields, &[])?;
-    Ok((ended.steps, ended.last))
-}
-
-// The place of the first of these texts whose constructor ends in another way, and how it ends.
-fn wrong_ending(alloc: Global, endings: &[Ending]) -> Option<(usize, Last)> {
-    for at in 0..endings.len() {
-        let (text, fields, steps, outcome) = endings[at];
-        let last = last_of(alloc, text, fields);
-        if last != Ok((steps, outcome)) {
-            return Some((at, last));
-        }
-    }
-    None
-}
 
 #[test]
 fn a_step_that_does_not_move_says_why(rt: HostRuntime) {
-    assert_eq!(rt; wrong_ending(rt.alloc(), &ENDINGS), None);
+    assert_eq!(rt; wrong_ending(rt.alloc(), &STOPPED), None);
 }

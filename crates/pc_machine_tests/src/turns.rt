@@ -1,4 +1,4 @@
-//! Turns of a machine, and what is seen after them.
+//! Turns of a machine, and what is seen after them. A step that runs out of memory is done once more.
 use pc_core::Core;
 use pc_machine::{Access, Machine, Outcome, start};
 use pc_test_inputs::{Wrong, core_of};
@@ -7,20 +7,26 @@ use std::alloc::{AllocError, Global};
 /// The numbers of actors, objects, waiting messages and printed texts.
 pub type Counts = (u32, u64, u64, usize);
 
-/// The turn of an actor: the actor, how many steps it is given, how many of them move before one does not, and how many
-/// of each thing there are then.
-pub type Turn = (u32, u32, u32, Counts);
+/// What is seen after the turn of an actor: how many of each thing there are, and what the actor is about to touch.
+pub type Seen = (Counts, Option<Access>);
 
-/// What is seen of a machine and of one of its actors.
-#[derive(Clone, Copy)]
-pub struct Seen {
-    /// Whether the printed texts are the expected ones.
-    pub is_printed: bool,
-    /// What the actor is about to touch.
-    pub access: Option<Access>,
-    /// How its next step ends, unless memory runs out.
-    pub outcome: Option<Outcome>,
+/// The turn of an actor: the actor, how many steps it is given, how many of them move before one does not, how the last
+/// one ends, and what is seen then.
+pub type Turn = (u32, u32, (u32, Outcome), Seen);
+
+/// A program, turns of it, and the first texts that it prints. How many it prints is seen after each turn.
+pub type Program = (&'static [u8], &'static [Turn], &'static [&'static [u8]]);
+
+/// Why a step has no outcome.
+#[derive(Clone, Copy, Debug, PartialEq)]
+pub enum Undone {
+    /// Memory ran out, and something visible changed.
+    Changed,
+    /// Memory ran out twice.
+    OutOfMemory,
 }
+
+type Ran = Result<(u32, Outcome), Undone>;
 
 /// Why turns of a program do not have the results that they state.
 #[derive(Clone, Copy, Debug, PartialEq)]
@@ -29,20 +35,14 @@ pub enum Unlike {
     NoMachine(Wrong),
     /// The machine begins with these numbers.
     Begins(Counts),
-    /// The turn at this place has this many steps that move, and then there are these numbers.
-    Turn(usize, u32, Counts),
+    /// The turn at this place goes like this, and then this is seen.
+    Turn(usize, Ran, Seen),
     /// Other texts are printed.
     Prints,
 }
 
-impl From<Wrong> for Unlike {
-    fn from(wrong: Wrong) -> Unlike {
-        Unlike::NoMachine(wrong)
-    }
-}
-
-/// A step, if the machine is small enough for one.
-pub fn step(machine: &mut Machine<'_>, actor: u32) -> Result<Outcome, AllocError> {
+// A step, if the machine is small enough for one.
+fn step(machine: &mut Machine<'_>, actor: u32) -> Result<Outcome, AllocError> {
     if machine.objects() < 4_194_304 && machine.waiting() < 4_194_304 {
         machine.step(actor)
     } else {
@@ -50,97 +50,100 @@ pub fn step(machine: &mut Machine<'_>, actor: u32) -> Result<Outcome, AllocError
     }
 }
 
-/// How many actors, objects, waiting messages and printed texts a machine has.
-pub fn counts(machine: &Machine<'_>) -> Counts {
+fn seen_of(machine: &Machine<'_>, actor: u32) -> Seen {
     let texts = machine.printed().len();
-    (
+    let counts = (
         machine.actors(),
         machine.objects(),
         machine.waiting(),
         texts,
-    )
+    );
+    (counts, machine.access(actor))
 }
 
-fn moves(machine: &mut Machine<'_>, actor: u32) -> bool {
-    match step(machine, actor) {
-        Ok(outcome) => outcome == Outcome::Moved,
-        Err(_) => false,
+// How a step of an actor ends, tried once more if memory ran out, if nothing visible changes in between.
+fn end_of(machine: &mut Machine<'_>, actor: u32) -> Result<Outcome, Undone> {
+    let before = seen_of(machine, actor);
+    if let Ok(first) = step(machine, actor) {
+        return Ok(first);
     }
+    if seen_of(machine, actor) != before {
+        return Err(Undone::Changed);
+    }
+    step(machine, actor).or(Err(Undone::OutOfMemory))
 }
 
-// How many of these steps of an actor move before one does not.
-fn moved(machine: &mut Machine<'_>, actor: u32, steps: u32) -> u32 {
-    for done in 0..steps {
-        if !moves(machine, actor) {
-            return done;
+// How many of these steps of an actor move before one does not, and how the last one ends.
+fn run(machine: &mut Machine<'_>, actor: u32, steps: u32) -> Ran {
+    for moved in 0..steps {
+        let outcome = end_of(machine, actor)?;
+        if outcome != Outcome::Moved {
+            return Ok((moved, outcome));
         }
     }
-    steps
+    Ok((steps, Outcome::Moved))
 }
 
-// Checks that these turns have the results that they state, one after another.
-fn all_go(machine: &mut Machine<'_>, turns: &[Turn]) -> Result<(), Unlike> {
-    for at in 0..turns.len() {
-        let (actor, steps, wanted, after) = turns[at];
-        let moves = moved(machine, actor, steps);
-        if moves != wanted || counts(machine) != after {
-            return Err(Unlike::Turn(at, moves, counts(machine)));
-        }
-    }
-    Ok(())
-}
-
-/// Whether these texts were printed, in order.
-pub fn has_printed(machine: &Machine<'_>, texts: &[&[u8]]) -> bool {
+// Whether these are the first texts that were printed, in order.
+fn has_printed(machine: &Machine<'_>, texts: &[&[u8]]) -> bool {
     let printed = machine.printed().as_slice();
-    printed.len() == texts.len()
+    printed.len() >= texts.len()
         && printed
             .iter()
             .zip(texts)
             .all(|(one, other)| one.as_slice() == *other)
 }
 
-// What is seen of a machine with two actors, three objects and a waiting message, and of an actor, after these turns.
-fn seen_of(
-    machine: &mut Machine<'_>,
-    turns: &[Turn],
-    printed: &[&[u8]],
-    actor: u32,
-) -> Result<Seen, Unlike> {
-    if counts(machine) != (2, 3, 1, 0) {
-        return Err(Unlike::Begins(counts(machine)));
+// Checks that a machine begins with two actors, three objects and a waiting message, and that the turns of a program have
+// the results that they state, one after another.
+fn goes(machine: &mut Machine<'_>, program: &Program) -> Result<(), Unlike> {
+    let (counts, _) = seen_of(machine, 0);
+    if counts != (2, 3, 1, 0) {
+        return Err(Unlike::Begins(counts));
     }
-    all_go(machine, turns)?;
-    Ok(Seen {
-        is_printed: has_printed(machine, printed),
-        access: machine.access(actor),
-        outcome: step(machine, actor).ok(),
-    })
+    let turns = program.1;
+    for at in 0..turns.len() {
+        let (actor, steps, wanted, after) = turns[at];
+        let ran = run(machine, actor, steps);
+        let seen = seen_of(machine, actor);
+        if ran != Ok(wanted) || seen != after {
+            return Err(Unlike::Turn(at, ran, seen));
+        }
+    }
+    if has_printed(machine, program.2) {
+        Ok(())
+    } else {
+        Err(Unlike::Prints)
+    }
 }
 
 // The same of a core's machine.
-fn seen_in_core(
-    alloc: Global,
-    core: &Core,
-    turns: &[Turn],
-    printed: &[&[u8]],
-    actor: u32,
-) -> Result<Seen, Unlike> {
+fn goes_in_core(alloc: Global, core: &Core, program: &Program) -> Result<(), Unlike> {
     match start(alloc, core) {
-        Ok(mut machine) => seen_of(&mut machine, turns, printed, actor),
+        Ok(mut machine) => goes(&mut machine, program),
         Err(_) => Err(Unlike::NoMachine(Wrong::OutOfMemory)),
     }
 }
 
-/// What is seen of the machine of a program and of an actor, after these turns, if each of them has its result, and the
-/// machine begins with two actors, three objects and a waiting message.
-pub fn seen_after(
-    alloc: Global,
-    text: &[u8],
-    turns: &[Turn],
-    printed: &[&[u8]],
-    actor: u32,
-) -> Result<Seen, Unlike> {
-    let core = core_of(alloc, text)?;
-    seen_in_core(alloc, &core, turns, printed, actor)
+// The same of a program.
+fn goes_from_text(alloc: Global, program: &Program) -> Result<(), Unlike> {
+    match core_of(alloc, program.0) {
+        Ok(core) => goes_in_core(alloc, &core, program),
+        Err(wrong) => Err(Unlike::NoMachine(wrong)),
+    }
+}
+
+/// The place of the first of these programs that goes in another way, on the second try if it had no machine on the first,
+/// and how.
+pub fn wrong_program(alloc: Global, programs: &[Program]) -> Option<(usize, Unlike)> {
+    for at in 0..programs.len() {
+        let mut gone = goes_from_text(alloc, &programs[at]);
+        if matches!(gone, Err(Unlike::NoMachine(_))) {
+            gone = goes_from_text(alloc, &programs[at]);
+        }
+        if let Err(unlike) = gone {
+            return Some((at, unlike));
+        }
+    }
+    None
 }
