@@ -18,6 +18,18 @@ SCHEDULES = [
     ("one turn too many of an actor", HELLO, b"0*1000001", 8, b"a.sched:1:1: too many steps\n"),
     ("one turn too many", HELLO, b"1*1000000 1", 8, b"a.sched:1:11: too many steps\n"),
     ("the first fault of two", HELLO, b"1*1000001 x", 8, b"a.sched:1:1: too many steps\n"),
+    ("a sign and no number of turns", HELLO, b"1*", 7, b"a.sched:1:1: bad word\n"),
+    ("a sign and no actor", HELLO, b"*1", 7, b"a.sched:1:1: bad word\n"),
+    ("a sign alone", HELLO, b"*", 7, b"a.sched:1:1: bad word\n"),
+    ("a sign of a number", HELLO, b"+1", 7, b"a.sched:1:1: bad word\n"),
+    ("a letter after a number", HELLO, b"1x", 7, b"a.sched:1:1: bad word\n"),
+    ("two numbers of turns", HELLO, b"1*2*3", 7, b"a.sched:1:1: bad word\n"),
+    ("turns that no number has", HELLO, b"1*4294967296", 7, b"a.sched:1:1: bad word\n"),
+    ("turns of eleven digits", HELLO, b"1*00000000001", 7, b"a.sched:1:1: bad word\n"),
+    ("another blank", HELLO, b"1 \x0b2", 7, b"a.sched:1:3: bad word\n"),
+    ("a bad word after two others", HELLO, b"7 1*0 x", 7, b"a.sched:1:7: bad word\n"),
+    ("a bad word before one turn too many", HELLO, b"x 1*1000001", 7, b"a.sched:1:1: bad word\n"),
+    ("too many turns on the second line", HELLO, b"1*1000000\n2*4294967295", 8, b"a.sched:2:1: too many steps\n"),
 ]
 
 

@@ -35,6 +35,65 @@ TREELESS = [
     (b"struct S", 3, b"a.pony:1:1: unexpected\n"),
 ]
 
+# Each is named for what stands at the first token that cannot continue a file.
+UNEXPECTED = [
+    ("nothing at all", b"", 3, b"a.pony:1:1: unexpected\n"),
+    ("a method alone", b"fun f() => 1", 3, b"a.pony:1:1: unexpected\n"),
+    ("another word", b"struct S", 3, b"a.pony:1:1: unexpected\n"),
+    ("a name in the place of a type name", b"class c", 3, b"a.pony:1:7: unexpected\n"),
+    ("two capabilities", b"class iso iso C", 3, b"a.pony:1:11: unexpected\n"),
+    ("a capability of an actor", b"actor iso A", 3, b"a.pony:1:7: unexpected\n"),
+    ("a capability of a primitive", b"primitive ref P", 3, b"a.pony:1:11: unexpected\n"),
+    ("no type name after is", b"class C is", 3, b"a.pony:1:11: unexpected\n"),
+    ("nothing in the brackets", b"class C is ()", 3, b"a.pony:1:13: unexpected\n"),
+    ("a comma", b"class C is (A, B)", 3, b"a.pony:1:14: unexpected\n"),
+    ("no end of the brackets", b"class C is (A & B", 3, b"a.pony:1:18: unexpected\n"),
+    ("names without brackets", b"class C is A & B", 3, b"a.pony:1:14: unexpected\n"),
+    ("a field after a method", b"class C fun f() => 1 let x: U64", 3, b"a.pony:1:22: unexpected\n"),
+    ("a field of a primitive", b"primitive P let x: U64", 3, b"a.pony:1:13: unexpected\n"),
+    ("a field of a trait", b"trait T var x: U64", 3, b"a.pony:1:9: unexpected\n"),
+    ("a field without a type", b"class C let x = 1", 3, b"a.pony:1:15: unexpected\n"),
+    ("a field of a type with ^", b"class C let x: U64^ = 1", 3, b"a.pony:1:19: unexpected\n"),
+    ("a value with =", b"class C let x: U64 = y = 1", 3, b"a.pony:1:24: unexpected\n"),
+    ("be in a class", b"class C be b() => 1", 3, b"a.pony:1:9: unexpected\n"),
+    ("be in a primitive", b"primitive P be b() => 1", 3, b"a.pony:1:13: unexpected\n"),
+    ("new in a primitive", b"primitive P new create() => 1", 3, b"a.pony:1:13: unexpected\n"),
+    ("new in a trait", b"trait T new create()", 3, b"a.pony:1:9: unexpected\n"),
+    ("a capability after new in an actor", b"actor A new iso create() => 1", 3, b"a.pony:1:13: unexpected\n"),
+    ("a capability after be", b"actor A be tag b() => 1", 3, b"a.pony:1:12: unexpected\n"),
+    ("a result of be", b"actor A be b(): U64 => 1", 3, b"a.pony:1:15: unexpected\n"),
+    ("a result of new", b"class C new create(): C => 1", 3, b"a.pony:1:21: unexpected\n"),
+    ("a method without a body at the end", b"class C fun f()", 3, b"a.pony:1:16: unexpected\n"),
+    ("a method without a body before another", b"class C fun f() fun g() => 1", 3, b"a.pony:1:17: unexpected\n"),
+    ("an actor's method without a body", b"actor A be b() be c() => 1", 3, b"a.pony:1:16: unexpected\n"),
+    (
+        "a primitive's method without a body, after a trait's",
+        b"trait T fun f() primitive P fun f() class C",
+        3,
+        b"a.pony:1:37: unexpected\n",
+    ),
+    ("a body of nothing in a trait", b"trait T fun f() =>", 3, b"a.pony:1:19: unexpected\n"),
+    (
+        "a body of nothing in an interface, before another method",
+        b"interface I fun f() => fun g()",
+        3,
+        b"a.pony:1:24: unexpected\n",
+    ),
+    ("a body without => in a trait", b"trait T fun f() 1", 3, b"a.pony:1:17: unexpected\n"),
+    ("a body of nothing", b"class C fun f() => fun g() => 1", 3, b"a.pony:1:20: unexpected\n"),
+    ("a comma before )", b"class C fun f(a: A,) => 1", 3, b"a.pony:1:20: unexpected\n"),
+    ("a parameter without a type", b"class C fun f(a) => 1", 3, b"a.pony:1:16: unexpected\n"),
+    ("a parameter of a type with ^", b"class C fun f(a: A^) => 1", 3, b"a.pony:1:19: unexpected\n"),
+    ("no parameters", b"class C fun f => 1", 3, b"a.pony:1:15: unexpected\n"),
+    ("^ before the capability", b"class C fun f(): A^ iso => 1", 3, b"a.pony:1:21: unexpected\n"),
+    ("a - that is first on its line", b"class C fun f() => 1\n- 2 - 3", 3, b"a.pony:2:1: unexpected\n"),
+    ("a number after a dot", b"class C fun f() => a.1", 3, b"a.pony:1:22: unexpected\n"),
+    ("two docstrings of a file", b"\"\"\"a\"\"\" \"\"\"b\"\"\" class C", 3, b"a.pony:1:9: unexpected\n"),
+    ("two docstrings of an entity", b"class C \"\"\"a\"\"\" \"\"\"b\"\"\"", 3, b"a.pony:1:17: unexpected\n"),
+    ("a docstring after a body", b"class C fun f() => 1 \"\"\"a\"\"\"", 3, b"a.pony:1:22: unexpected\n"),
+    ("two entities, and a name", b"class C class D d", 3, b"a.pony:1:17: unexpected\n"),
+]
+
 LEVELS = [
     ("199 groups in one another", in_groups(199), 0, b""),
     ("200 groups in one another", in_groups(200), 8, b"a.pony:3:204: nested too deep\n"),
@@ -43,5 +102,6 @@ LEVELS = [
 
 ROWS = [
     *endings("the first token without a tree is named", TREELESS),
+    *built("the first token that cannot continue a file is named", UNEXPECTED),
     *built("two hundred levels may be opened", LEVELS),
 ]
