@@ -1,5 +1,5 @@
 //! Derivations that come in pieces. The expected values are those of the whole texts.
-use crate::derivations::{VARIANTS, VARIANTS2, Variant};
+use crate::derivations::{CRAFTED, VARIANTS, VARIANTS2, Variant, reads_as};
 use pc_caps::Cap;
 use pc_deriv::{DerivFault, Line, LineFault, Lines};
 use pc_test_inputs::{LINES, LINES2, NODES, note, variant_of};
@@ -38,23 +38,11 @@ struct Ended {
 }
 
 impl Ended {
-    fn new(version: u32) -> Ended {
-        Ended {
-            version,
-            count: 0,
-            other: None,
-        }
-    }
-
     fn add(&mut self, line: Line) {
         if self.other.is_none() && line_of(self.version, self.count) != Some(line) {
             self.other = Some(self.count);
         }
         self.count = self.count.saturating_add(1);
-    }
-
-    fn is_example(&self) -> bool {
-        self.other.is_none() && self.count == 12
     }
 }
 
@@ -74,87 +62,70 @@ fn feed(lines: &mut Lines, piece: &[u8], ended: &mut Ended) -> Result<(), LineFa
     Ok(())
 }
 
-// Appends the lines of two pieces to those before. The result is what is wrong with both.
-fn taken(first: &[u8], second: &[u8], ended: &mut Ended) -> Result<(), LineFault> {
+/// How many lines ended, the first of them that is not that of the example, and the fault that came then, if one did.
+type Taken = (usize, Option<usize>, Result<(), LineFault>);
+
+// Two pieces, taken one after the other as the example in the version with this number.
+fn taken(version: u32, first: &[u8], second: &[u8]) -> Taken {
     let mut lines = Lines::new();
-    feed(&mut lines, first, ended)?;
-    feed(&mut lines, second, ended)?;
-    lines.finish()
+    let mut ended = Ended {
+        version,
+        count: 0,
+        other: None,
+    };
+    for piece in [first, second] {
+        if let Err(fault) = feed(&mut lines, piece, &mut ended) {
+            return (ended.count, ended.other, Err(fault));
+        }
+    }
+    (ended.count, ended.other, lines.finish())
 }
 
-// Whether a text that is cut there has the lines of the example.
-fn is_example_cut(version: u32, bytes: &[u8], cut: usize) -> bool {
-    let cut = bytes.len().min(cut);
-    let mut ended = Ended::new(version);
-    taken(&bytes[..cut], &bytes[cut..], &mut ended).is_ok() && ended.is_example()
+// The same of bytes that come one by one.
+fn taken_by_bytes(version: u32, bytes: &[u8]) -> Taken {
+    let mut lines = Lines::new();
+    let mut ended = Ended {
+        version,
+        count: 0,
+        other: None,
+    };
+    for at in 0..bytes.len() {
+        if let Err(fault) = feed(&mut lines, &bytes[at..at + 1], &mut ended) {
+            return (ended.count, ended.other, Err(fault));
+        }
+    }
+    (ended.count, ended.other, lines.finish())
 }
+
+// The lines of the example, all of them.
+const EXAMPLE: Taken = (12, None, Ok(()));
 
 // A place where a text can be cut so that its lines are not those of the example, if there is one.
 fn wrong_cut(version: u32, bytes: &[u8]) -> Option<usize> {
     for cut in 0..bytes.len() {
-        if !is_example_cut(version, bytes, cut) {
+        if taken(version, &bytes[..cut], &bytes[cut..]) != EXAMPLE {
             return Some(cut);
         }
     }
     None
 }
 
-/// How many lines ended, the first of them that is not that of the example, and the fault that came then, if one did.
-type Taken = (usize, Option<usize>, Result<(), LineFault>);
-
-// Appends the lines of bytes that come one by one.
-fn feed_bytes(lines: &mut Lines, bytes: &[u8], ended: &mut Ended) -> Result<(), LineFault> {
-    for at in 0..bytes.len() {
-        feed(lines, &bytes[at..at + 1], ended)?;
-    }
-    lines.finish()
-}
-
-fn taken_by_bytes(version: u32, bytes: &[u8]) -> Taken {
-    let mut lines = Lines::new();
-    let mut ended = Ended::new(version);
-    let fed = feed_bytes(&mut lines, bytes, &mut ended);
-    (ended.count, ended.other, fed)
-}
-
-// A place where the example can be cut so that its lines are others, if there is one.
-fn wrong_example(
+// Where the example can be cut so that its lines are others, if anywhere, and its lines if its bytes come one by one.
+fn in_pieces(
     alloc: Global,
     version: u32,
     lines: &[&[u8]],
-) -> Result<Option<usize>, AllocError> {
+) -> Result<(Option<usize>, Taken), AllocError> {
     let text = variant_of(alloc, lines, 0, b"")?;
-    Ok(wrong_cut(version, &text))
-}
-
-// The lines of the example if its bytes come one by one.
-fn example_by_bytes(alloc: Global, version: u32, lines: &[&[u8]]) -> Result<Taken, AllocError> {
-    let text = variant_of(alloc, lines, 0, b"")?;
-    Ok(taken_by_bytes(version, &text))
+    Ok((wrong_cut(version, &text), taken_by_bytes(version, &text)))
 }
 
 #[test]
 fn wherever_the_example_is_cut_its_lines_are_the_same(rt: HostRuntime) {
-    assert_eq!(rt; wrong_example(rt.alloc(), 1, &LINES), Ok(None));
-    assert_eq!(rt;
-        example_by_bytes(rt.alloc(), 1, &LINES),
-        Ok((12, None, Ok(())))
-    );
-}
-
-#[test]
-fn wherever_version_2_is_cut_its_lines_are_the_same(rt: HostRuntime) {
-    assert_eq!(rt; wrong_example(rt.alloc(), 2, &LINES2), Ok(None));
-    assert_eq!(rt;
-        example_by_bytes(rt.alloc(), 2, &LINES2),
-        Ok((12, None, Ok(())))
-    );
-}
-
-// What is wrong with two pieces.
-fn answer(first: &[u8], second: &[u8]) -> Result<(), LineFault> {
-    let mut ended = Ended::new(1);
-    taken(first, second, &mut ended)
+    let first = in_pieces(rt.alloc(), 1, &LINES);
+    assert_eq!(rt; first, Ok((None, EXAMPLE)));
+    let second = in_pieces(rt.alloc(), 2, &LINES2);
+    assert_eq!(rt; second, Ok((None, EXAMPLE)));
 }
 
 // Whether the result is the same as for the whole text.
@@ -170,23 +141,24 @@ fn is_same(answer: Result<(), LineFault>, wanted: Option<DerivFault>) -> bool {
 fn other_cut(bytes: &[u8], wanted: Option<DerivFault>) -> Option<usize> {
     for nth in 0..bytes.len() / 23 {
         let cut = 23 * nth;
-        if !is_same(answer(&bytes[..cut], &bytes[cut..]), wanted) {
+        let (_, _, answer) = taken(1, &bytes[..cut], &bytes[cut..]);
+        if !is_same(answer, wanted) {
             return Some(cut);
         }
     }
     None
 }
 
-// Whether a variant has its result wherever it is cut.
+// Whether a variant has its result whole, and wherever it is cut.
 fn is_found(alloc: Global, lines: &[&[u8]], variant: Variant) -> bool {
     let (number, line, wanted) = variant;
     match variant_of(alloc, lines, number, line) {
-        Ok(text) => other_cut(&text, wanted).is_none(),
+        Ok(text) => reads_as(alloc, &text, wanted) && other_cut(&text, wanted).is_none(),
         Err(AllocError) => false,
     }
 }
 
-// The place of the first of these variants that has another result in pieces.
+// The place of the first of these variants that has another result, whole or in pieces.
 fn wrong_variant(alloc: Global, lines: &[&[u8]], variants: &[Variant]) -> Option<usize> {
     for at in 0..variants.len() {
         if !is_found(alloc, lines, variants[at]) {
@@ -197,13 +169,10 @@ fn wrong_variant(alloc: Global, lines: &[&[u8]], variants: &[Variant]) -> Option
 }
 
 #[test]
-fn a_variant_cut_at_each_23rd_byte_has_its_fault(rt: HostRuntime) {
+fn a_variant_has_its_fault_whole_and_cut_at_each_23rd_byte(rt: HostRuntime) {
     assert_eq!(rt; wrong_variant(rt.alloc(), &LINES, &VARIANTS), None);
-}
-
-#[test]
-fn a_variant_of_version_2_cut_at_each_23rd_byte_has_its_fault(rt: HostRuntime) {
     assert_eq!(rt; wrong_variant(rt.alloc(), &LINES2, &VARIANTS2), None);
+    assert_eq!(rt; wrong_variant(rt.alloc(), &[b""], &CRAFTED), None);
 }
 
 // Two pieces, and what is wrong with both.
@@ -240,24 +209,16 @@ const COUNTS: [Cut; 8] = [
     (b"", b"", Err(LineFault::BadLine(1))),
 ];
 
-fn is_answer(cut: Cut) -> bool {
-    let (first, second, wanted) = cut;
-    answer(first, second) == wanted
-}
-
 // The place of the first cut with another result.
 fn wrong_answer(cuts: &[Cut]) -> Option<usize> {
     for at in 0..cuts.len() {
-        if !is_answer(cuts[at]) {
+        let (first, second, wanted) = cuts[at];
+        let (_, _, answer) = taken(1, first, second);
+        if answer != wanted {
             return Some(at);
         }
     }
     None
-}
-
-#[test]
-fn counts_past_a_limit_are_found_in_pieces(rt: HostRuntime) {
-    assert_eq!(rt; wrong_answer(&COUNTS), None);
 }
 
 /// A call, and its result.
@@ -267,18 +228,15 @@ enum Call {
     Finish(Result<(), LineFault>),
 }
 
-fn is_answered(lines: &mut Lines, call: Call) -> bool {
-    match call {
-        Call::Next(piece, at, wanted) => lines.next(piece, piece.len().min(at)) == wanted,
-        Call::Finish(wanted) => lines.finish() == wanted,
-    }
-}
-
 // The place of the first call with another result, starting from no bytes.
 fn wrong_call(calls: &[Call]) -> Option<usize> {
     let mut lines = Lines::new();
     for at in 0..calls.len() {
-        if !is_answered(&mut lines, calls[at]) {
+        let is_answered = match calls[at] {
+            Call::Next(piece, from, wanted) => lines.next(piece, piece.len().min(from)) == wanted,
+            Call::Finish(wanted) => lines.finish() == wanted,
+        };
+        if !is_answered {
             return Some(at);
         }
     }
@@ -310,7 +268,8 @@ const WHOLE: [Call; 6] = [
 ];
 
 #[test]
-fn a_line_ends_at_its_line_end_or_at_its_128th_byte(rt: HostRuntime) {
+fn counts_past_a_limit_and_line_ends_are_found_in_pieces(rt: HostRuntime) {
+    assert_eq!(rt; wrong_answer(&COUNTS), None);
     assert_eq!(rt; wrong_call(&PAST_127), None);
     assert_eq!(rt; wrong_call(&WHOLE), None);
 }

@@ -34,94 +34,6 @@ fn wrong_reading<F: Files>(alloc: Global, files: &mut F, readings: &[Reading]) -
     None
 }
 
-const IN_MEMORY: [Reading; 6] = [
-    ("a", 3, Ok(b"xyz")),
-    ("a", 2, Err(FileFault::TooLong)),
-    ("a", 3, Err(FileFault::Failed)),
-    ("b", 0, Ok(b"")),
-    ("c", 9, Err(FileFault::Failed)),
-    ("a", 4, Ok(b"xyz")),
-];
-
-const NEVER_FAILING: [Reading; 6] = [
-    ("a", 3, Ok(b"xyz")),
-    ("a", 2, Err(FileFault::TooLong)),
-    ("a", 3, Ok(b"xyz")),
-    ("b", 0, Ok(b"")),
-    ("c", 9, Ok(b"")),
-    ("a", 4, Ok(b"xyz")),
-];
-
-// Adds three files, of which the last one replaces the first.
-fn add_three(files: &mut MemFiles) -> Result<(), AllocError> {
-    files.add("a", b"abcd")?;
-    files.add("b", b"")?;
-    files.add("a", b"xyz")
-}
-
-fn add_three_never_failing(files: &mut NeverFiles) -> Result<(), AllocError> {
-    files.add("a", b"abcd")?;
-    files.add("b", b"")?;
-    files.add("a", b"xyz")
-}
-
-// The third reading is made to fail.
-fn wrong_in_memory(alloc: Global) -> Result<Option<usize>, AllocError> {
-    let mut files = MemFiles::new(alloc, &[3])?;
-    add_three(&mut files)?;
-    Ok(wrong_reading(alloc, &mut files, &IN_MEMORY))
-}
-
-fn wrong_never_failing(alloc: Global) -> Result<Option<usize>, AllocError> {
-    let mut files = NeverFiles::new(alloc);
-    add_three_never_failing(&mut files)?;
-    Ok(wrong_reading(alloc, &mut files, &NEVER_FAILING))
-}
-
-#[test]
-fn files_in_memory_fail_as_asked(rt: HostRuntime) {
-    assert_eq!(rt; wrong_in_memory(rt.alloc()), Ok(None));
-    assert_eq!(rt; wrong_never_failing(rt.alloc()), Ok(None));
-}
-
-const ON_THE_HOST: [Reading; 5] = [
-    ("four", 4, Ok(b"abcd")),
-    ("four", 3, Err(FileFault::TooLong)),
-    ("none", 0, Ok(b"")),
-    ("gone", 9, Err(FileFault::Failed)),
-    // A folder can be opened, but not read.
-    (".", 9, Err(FileFault::Failed)),
-];
-
-fn wrong_on_the_host(rt: &HostRuntime) -> Option<usize> {
-    let mut files = HostFiles::new(rt.alloc(), rt);
-    wrong_reading(rt.alloc(), &mut files, &ON_THE_HOST)
-}
-
-// How many bytes reading a slow file gives that has this many bytes before it fails, within nine bytes, or why none.
-fn slow_answer(alloc: Global, room: usize) -> Result<usize, FileFault> {
-    let runtime = SlowFiles { room };
-    let mut files = HostFiles::new(alloc, &runtime);
-    match files.read(alloc, "a", 9) {
-        Ok(bytes) => Ok(bytes.as_slice().len()),
-        Err(fault) => Err(fault),
-    }
-}
-
-#[test]
-fn a_file_is_given_whole_or_refused_with_its_cause(rt: HostRuntime) -> Result<(), Fail> {
-    fs::write(&rt, "four", "abcd")?;
-    fs::write(&rt, "none", "")?;
-    assert_eq!(rt; wrong_on_the_host(&rt), None);
-    fs::remove_file(&rt, "four")?;
-    fs::remove_file(&rt, "none")?;
-
-    // A file that fails in mid-stream, and one that has more than the limit before it fails.
-    assert_eq!(rt; slow_answer(rt.alloc(), 5), Err(FileFault::Failed));
-    assert_eq!(rt; slow_answer(rt.alloc(), 50), Err(FileFault::TooLong));
-    Ok(())
-}
-
 /// A name, the place and the limit of a part, and what reading it returns. A limit of 0 is not a part.
 type Part = (&'static str, u32, u32, Wanted);
 
@@ -149,7 +61,25 @@ const PARTS: [Part; 6] = [
     ("six", 4000000000, 1, Ok(b"")),
 ];
 
-// The seventh call of all is made to fail, and a missing name fails unless it is an empty file.
+const IN_MEMORY: [Reading; 6] = [
+    ("a", 3, Ok(b"xyz")),
+    ("a", 2, Err(FileFault::TooLong)),
+    ("a", 3, Err(FileFault::Failed)),
+    ("b", 0, Ok(b"")),
+    ("c", 9, Err(FileFault::Failed)),
+    ("a", 4, Ok(b"xyz")),
+];
+
+const NEVER_FAILING: [Reading; 6] = [
+    ("a", 3, Ok(b"xyz")),
+    ("a", 2, Err(FileFault::TooLong)),
+    ("a", 3, Ok(b"xyz")),
+    ("b", 0, Ok(b"")),
+    ("c", 9, Ok(b"")),
+    ("a", 4, Ok(b"xyz")),
+];
+
+// A missing name fails unless it is an empty file.
 const PARTS_IN_MEMORY: [Part; 3] = [
     ("six", 0, 1, Err(FileFault::Failed)),
     ("six", 0, 1, Ok(b"a")),
@@ -160,38 +90,87 @@ const GONE_NEVER_FAILING: [Part; 1] = [("gone", 0, 1, Ok(b""))];
 
 const GONE_ON_THE_HOST: [Part; 1] = [("gone", 0, 1, Err(FileFault::Failed))];
 
-// The place of the first part with another result, among those of the text and then some more.
-fn wrong_of<F: Files>(alloc: Global, files: &mut F, more: &[Part]) -> Option<usize> {
-    match wrong_part(alloc, files, &PARTS) {
-        Some(at) => Some(at),
-        None => wrong_part(alloc, files, more),
-    }
+/// The place of the first reading with another result, and those of the first parts among two tables.
+type Others = (Option<usize>, Option<usize>, Option<usize>);
+
+// The parts are those of a text, and then some more.
+fn others<F: Files>(alloc: Global, files: &mut F, readings: &[Reading], more: &[Part]) -> Others {
+    let reading = wrong_reading(alloc, files, readings);
+    let part = wrong_part(alloc, files, &PARTS);
+    (reading, part, wrong_part(alloc, files, more))
 }
 
-fn wrong_part_in_memory(alloc: Global) -> Result<Option<usize>, AllocError> {
-    let mut files = MemFiles::new(alloc, &[7])?;
-    files.add("six", b"abcdef")?;
-    Ok(wrong_of(alloc, &mut files, &PARTS_IN_MEMORY))
+// Adds four files, of which the third one replaces the first.
+fn add_four(files: &mut MemFiles) -> Result<(), AllocError> {
+    files.add("a", b"abcd")?;
+    files.add("b", b"")?;
+    files.add("a", b"xyz")?;
+    files.add("six", b"abcdef")
 }
 
-fn wrong_part_never_failing(alloc: Global) -> Result<Option<usize>, AllocError> {
+fn add_four_never_failing(files: &mut NeverFiles) -> Result<(), AllocError> {
+    files.add("a", b"abcd")?;
+    files.add("b", b"")?;
+    files.add("a", b"xyz")?;
+    files.add("six", b"abcdef")
+}
+
+// The third call and the first one after those of the text are made to fail.
+fn others_in_memory(alloc: Global) -> Result<Others, AllocError> {
+    let mut files = MemFiles::new(alloc, &[3, 13])?;
+    add_four(&mut files)?;
+    Ok(others(alloc, &mut files, &IN_MEMORY, &PARTS_IN_MEMORY))
+}
+
+fn others_never_failing(alloc: Global) -> Result<Others, AllocError> {
     let mut files = NeverFiles::new(alloc);
-    files.add("six", b"abcdef")?;
-    Ok(wrong_of(alloc, &mut files, &GONE_NEVER_FAILING))
-}
-
-fn wrong_part_on_the_host(rt: &HostRuntime) -> Option<usize> {
-    let mut files = HostFiles::new(rt.alloc(), rt);
-    wrong_of(rt.alloc(), &mut files, &GONE_ON_THE_HOST)
+    add_four_never_failing(&mut files)?;
+    Ok(others(alloc, &mut files, &NEVER_FAILING, &GONE_NEVER_FAILING))
 }
 
 #[test]
-fn a_part_is_given_from_its_place_up_to_the_limit(rt: HostRuntime) -> Result<(), Fail> {
-    assert_eq!(rt; wrong_part_in_memory(rt.alloc()), Ok(None));
-    assert_eq!(rt; wrong_part_never_failing(rt.alloc()), Ok(None));
+fn files_in_memory_fail_as_asked(rt: HostRuntime) {
+    assert_eq!(rt; others_in_memory(rt.alloc()), Ok((None, None, None)));
+    assert_eq!(rt; others_never_failing(rt.alloc()), Ok((None, None, None)));
+}
+
+const ON_THE_HOST: [Reading; 5] = [
+    ("four", 4, Ok(b"abcd")),
+    ("four", 3, Err(FileFault::TooLong)),
+    ("none", 0, Ok(b"")),
+    ("gone", 9, Err(FileFault::Failed)),
+    // A folder can be opened, but not read.
+    (".", 9, Err(FileFault::Failed)),
+];
+
+fn others_on_the_host(rt: &HostRuntime) -> Others {
+    let mut files = HostFiles::new(rt.alloc(), rt);
+    others(rt.alloc(), &mut files, &ON_THE_HOST, &GONE_ON_THE_HOST)
+}
+
+// How many bytes reading a slow file gives that has this many bytes before it fails, within nine bytes, or why none.
+fn slow_answer(alloc: Global, room: usize) -> Result<usize, FileFault> {
+    let runtime = SlowFiles { room };
+    let mut files = HostFiles::new(alloc, &runtime);
+    match files.read(alloc, "a", 9) {
+        Ok(bytes) => Ok(bytes.as_slice().len()),
+        Err(fault) => Err(fault),
+    }
+}
+
+#[test]
+fn a_file_is_given_whole_or_in_part_or_refused(rt: HostRuntime) -> Result<(), Fail> {
+    fs::write(&rt, "four", "abcd")?;
+    fs::write(&rt, "none", "")?;
     fs::write(&rt, "six", "abcdef")?;
-    assert_eq!(rt; wrong_part_on_the_host(&rt), None);
+    assert_eq!(rt; others_on_the_host(&rt), (None, None, None));
+    fs::remove_file(&rt, "four")?;
+    fs::remove_file(&rt, "none")?;
     fs::remove_file(&rt, "six")?;
+
+    // A file that fails in mid-stream, and one that has more than the limit before it fails.
+    assert_eq!(rt; slow_answer(rt.alloc(), 5), Err(FileFault::Failed));
+    assert_eq!(rt; slow_answer(rt.alloc(), 50), Err(FileFault::TooLong));
     Ok(())
 }
 

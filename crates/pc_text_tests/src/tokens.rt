@@ -1,7 +1,7 @@
-//! Tokens, numbers, texts and faults of small texts, and the limits.
+//! The tokens of small texts. Texts that have none, and their faults, are in `rows/tokens.py`.
 use pc_caps::List;
 use pc_lex::{LexFault, Token, TokenKind, lex};
-use std::alloc::{AllocError, Global};
+use std::alloc::Global;
 
 /// The result for a text within the limit of bytes.
 pub fn answer(alloc: Global, text: &[u8]) -> Result<List<Token>, LexFault> {
@@ -28,17 +28,16 @@ fn label(kind: &TokenKind) -> &'static str {
 /// A token: what it is, where it begins and ends, and whether it is first on its line.
 type Row = (&'static str, u32, u32, bool);
 
-fn is_row(token: &Token, row: &Row) -> bool {
-    label(&token.kind) == row.0
-        && token.span.start == row.1
-        && token.span.end == row.2
-        && token.first == row.3
-}
-
 fn are_rows(tokens: &[Token], rows: &[Row]) -> bool {
     for at in 0..rows.len() {
         match tokens.get(at) {
-            Some(token) if is_row(token, &rows[at]) => {}
+            Some(token)
+                if (
+                    label(&token.kind),
+                    token.span.start,
+                    token.span.end,
+                    token.first,
+                ) == rows[at] => {}
             _ => return false,
         }
     }
@@ -158,181 +157,4 @@ fn wrong_tokens(alloc: Global, texts: &[(&[u8], &[Row])]) -> Option<usize> {
 #[test]
 fn tokens(rt: HostRuntime) {
     assert_eq!(rt; wrong_tokens(rt.alloc(), &TEXTS), None);
-}
-
-fn is_number(token: &Token, value: u64) -> bool {
-    let TokenKind::Number(found) = &token.kind else {
-        return false;
-    };
-    *found == value
-}
-
-/// Whether the first token of a text is this number.
-fn has_number(alloc: Global, text: &[u8], value: u64) -> bool {
-    match answer(alloc, text) {
-        Ok(tokens) => match tokens.get(0) {
-            Some(token) => is_number(token, value),
-            None => false,
-        },
-        Err(_) => false,
-    }
-}
-
-const NUMBERS: [(&[u8], u64); 8] = [
-    (b"0", 0),
-    (b"007", 7),
-    (b"1_000", 1000),
-    (b"0xfF_0", 4080),
-    (b"0b1_0", 2),
-    (b"18446744073709551615", 18446744073709551615),
-    (b"0xFFFF_ffff_FFFF_ffff", 18446744073709551615),
-    (b"9/1", 9),
-];
-
-// The place of the first of these texts that begins with another number.
-fn wrong_number(alloc: Global, numbers: &[(&[u8], u64)]) -> Option<usize> {
-    for at in 0..numbers.len() {
-        if !has_number(alloc, numbers[at].0, numbers[at].1) {
-            return Some(at);
-        }
-    }
-    None
-}
-
-#[test]
-fn numbers(rt: HostRuntime) {
-    assert_eq!(rt; wrong_number(rt.alloc(), &NUMBERS), None);
-}
-
-fn is_text(token: &Token, value: &[u8]) -> bool {
-    let TokenKind::Text(found) = &token.kind else {
-        return false;
-    };
-    found.as_slice() == value
-}
-
-/// Whether the first token of a text is a text with this value.
-fn has_value(alloc: Global, text: &[u8], value: &[u8]) -> bool {
-    match answer(alloc, text) {
-        Ok(tokens) => match tokens.get(0) {
-            Some(token) => is_text(token, value),
-            None => false,
-        },
-        Err(_) => false,
-    }
-}
-
-const VALUES: [(&[u8], &[u8]); 5] = [
-    (b"\"\"", b""),
-    (b"\"abc\" \"d\"", b"abc"),
-    (
-        b"\"\\n\\r\\t\\\\\\\"\\0\\x4a\\xFf\"",
-        b"\n\r\t\\\"\0\x4a\xff",
-    ),
-    (b"\"a\n\xc3\xa9'//\"", b"a\n\xc3\xa9'//"),
-    (b"\"\\\\\"", b"\\"),
-];
-
-// The place of the first of these texts that begins with another text.
-fn wrong_value(alloc: Global, values: &[(&[u8], &[u8])]) -> Option<usize> {
-    for at in 0..values.len() {
-        if !has_value(alloc, values[at].0, values[at].1) {
-            return Some(at);
-        }
-    }
-    None
-}
-
-#[test]
-fn values(rt: HostRuntime) {
-    assert_eq!(rt; wrong_value(rt.alloc(), &VALUES), None);
-}
-
-/// The fault of a text, if it has one.
-fn fault(alloc: Global, text: &[u8]) -> Option<LexFault> {
-    match answer(alloc, text) {
-        Ok(_) => None,
-        Err(fault) => Some(fault),
-    }
-}
-
-const FAULTS: [(&[u8], LexFault); 32] = [
-    (b"\xff", LexFault::BadByte(0)),
-    (b"_ a", LexFault::BadByte(0)),
-    (b"_1", LexFault::BadByte(0)),
-    (b"a !b", LexFault::BadByte(2)),
-    (b"'a", LexFault::BadByte(0)),
-    (b"x [", LexFault::BadByte(2)),
-    (b"class C /* a /* b */", LexFault::Unclosed(8)),
-    (b"/*/", LexFault::Unclosed(0)),
-    (b"/* /* */", LexFault::Unclosed(0)),
-    (b"class C \"\\q", LexFault::Unclosed(8)),
-    (b"\"", LexFault::Unclosed(0)),
-    (b"\"a\\", LexFault::Unclosed(0)),
-    (b"\"a\\\"", LexFault::Unclosed(0)),
-    (b"\"\"\"", LexFault::Unclosed(0)),
-    (b"\"\"\"\"\"", LexFault::Unclosed(0)),
-    (b"\"\"\"a\"\"", LexFault::Unclosed(0)),
-    (b"0b2", LexFault::BadNumber(0)),
-    (b"1__2", LexFault::BadNumber(0)),
-    (b" 1_", LexFault::BadNumber(1)),
-    (b"0x", LexFault::BadNumber(0)),
-    (b"0x_1", LexFault::BadNumber(0)),
-    (b"0xg", LexFault::BadNumber(0)),
-    (b"0b12", LexFault::BadNumber(0)),
-    (b"1a", LexFault::BadNumber(0)),
-    (b"1'", LexFault::BadNumber(0)),
-    (b"x 18446744073709551616", LexFault::BadNumber(2)),
-    (b"0x1_0000_0000_0000_0000", LexFault::BadNumber(0)),
-    (b"class C \"\\q\"", LexFault::BadEscape(9)),
-    (b"\"\\x1\"", LexFault::BadEscape(1)),
-    (b"\"a\\n\\x1g\\e\"", LexFault::BadEscape(4)),
-    (b"\"\\N\"", LexFault::BadEscape(1)),
-    (b"1 \"\\q\" $ /*", LexFault::BadEscape(3)),
-];
-
-fn has_fault(alloc: Global, text: &[u8], wanted: LexFault) -> bool {
-    fault(alloc, text) == Some(wanted)
-}
-
-// The place of the first of these texts that does not have its fault.
-fn wrong_fault(alloc: Global, faults: &[(&[u8], LexFault)]) -> Option<usize> {
-    for at in 0..faults.len() {
-        if !has_fault(alloc, faults[at].0, faults[at].1) {
-            return Some(at);
-        }
-    }
-    None
-}
-
-#[test]
-fn faults(rt: HostRuntime) {
-    assert_eq!(rt; wrong_fault(rt.alloc(), &FAULTS), None);
-}
-
-/// This many dots, followed by a byte.
-fn dots(alloc: Global, count: usize, last: u8) -> Result<Vec<u8>, AllocError> {
-    let mut text = Vec::new(alloc);
-    for _ in 0..count {
-        text.push(b'.')?;
-    }
-    text.push(last)?;
-    Ok(text)
-}
-
-fn dots_fault(alloc: Global, count: usize, last: u8) -> Option<LexFault> {
-    match dots(alloc, count, last) {
-        Ok(text) => fault(alloc, text.as_slice()),
-        Err(_) => Some(LexFault::Memory),
-    }
-}
-
-#[test]
-fn limits(rt: HostRuntime) {
-    let bad = Some(LexFault::BadByte(200_000));
-    let many = Some(LexFault::TooMany(200_000));
-    assert_eq!(rt; dots_fault(rt.alloc(), 200_000, b' '), None);
-    assert_eq!(rt; dots_fault(rt.alloc(), 200_000, b'$'), bad);
-    assert_eq!(rt; dots_fault(rt.alloc(), 200_000, b'.'), many);
-    assert_eq!(rt; dots_fault(rt.alloc(), 200_001, b'$'), many);
 }

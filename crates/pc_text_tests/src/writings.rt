@@ -50,12 +50,6 @@ fn other_never_failing(alloc: Global) -> Other {
     (piece, place_of_difference(sink.bytes(), b"abcdefg"))
 }
 
-#[test]
-fn sinks_in_memory_fail_as_asked(rt: HostRuntime) {
-    assert_eq!(rt; other_in_memory(rt.alloc()), Ok((None, None)));
-    assert_eq!(rt; other_never_failing(rt.alloc()), (None, None));
-}
-
 const SLOW_PIECES: [Piece; 5] = [
     ("abcde", true),
     ("", true),
@@ -64,12 +58,6 @@ const SLOW_PIECES: [Piece; 5] = [
     ("", true),
 ];
 
-// The first piece with another result, over a slow writer.
-fn wrong_slow_piece(writer: &mut SlowWriter, pieces: &[Piece]) -> Option<&'static str> {
-    let mut sink = HostSink::new(writer);
-    wrong_piece(&mut sink, pieces)
-}
-
 // A slow writer with room for eight bytes should hold the first eight.
 fn other_slow(alloc: Global) -> Other {
     let mut writer = SlowWriter {
@@ -77,14 +65,17 @@ fn other_slow(alloc: Global) -> Other {
         room: 8,
         is_interrupted: false,
     };
-    let piece = wrong_slow_piece(&mut writer, &SLOW_PIECES);
+    let piece = wrong_piece(&mut HostSink::new(&mut writer), &SLOW_PIECES);
     (
         piece,
         place_of_difference(writer.held.as_slice(), b"abcdefgh"),
     )
 }
 
+// Short writes go on until the writer fails.
 #[test]
-fn short_writes_go_on_until_the_writer_fails(rt: HostRuntime) {
+fn sinks_take_what_they_can_and_fail_as_asked(rt: HostRuntime) {
+    assert_eq!(rt; other_in_memory(rt.alloc()), Ok((None, None)));
+    assert_eq!(rt; other_never_failing(rt.alloc()), (None, None));
     assert_eq!(rt; other_slow(rt.alloc()), (None, None));
 }
