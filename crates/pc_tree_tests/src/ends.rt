@@ -4,9 +4,8 @@ ghost use Rattle.pc_expr.specs.Gives.{EndsWithEnd};
 
 use pc_caps::{List, Span};
 use pc_lex::{Token, TokenKind};
-use pc_parse::file;
+use pc_parse::{ParseFault, file};
 use pc_test_inputs::{Wrong, tokens_of};
-use pc_tree::File;
 use std::alloc::Global;
 
 /// The tokens of a text, and one more end, which begins at a byte.
@@ -23,8 +22,18 @@ fn with_end(alloc: Global, text: &[u8], start: u32) -> Result<List<Token>, Wrong
     Ok(tokens)
 }
 
-/// The file of a text with two ends, the second of which begins at a byte.
-pub fn file_with_end(alloc: Global, text: &[u8], start: u32) -> Result<File, Wrong> {
+// What is wrong with a text with two ends, the second of which begins at a byte.
+fn file_with_end(alloc: Global, text: &[u8], start: u32) -> Result<(), Wrong> {
     let tokens = with_end(alloc, text, start)?;
-    Ok(file(alloc, tokens.as_slice())?)
+    drop(file(alloc, tokens.as_slice())?);
+    Ok(())
+}
+
+// A text that is a file, and a token after its end; and one that stops before its end.
+#[test]
+fn after_the_end(rt: HostRuntime) {
+    let after = Err(Wrong::NoTree(ParseFault::Unexpected(9)));
+    assert_eq!(rt; file_with_end(rt.alloc(), b"class C", 9), after);
+    let before = Err(Wrong::NoTree(ParseFault::Unexpected(5)));
+    assert_eq!(rt; file_with_end(rt.alloc(), b"class", 9), before);
 }

@@ -41,26 +41,23 @@ fn with_letter(alloc: Global, text: &[u8], letter: u8) -> Result<Vec<u8>, AllocE
     Ok(made)
 }
 
+/// What a hash gives, or what is wrong with a text.
+type Hashed = Result<u64, Wrong>;
+
 // What a hash with the key of the text's tree gives for nothing.
-fn hash_of(alloc: Global, text: &[u8], letter: u8) -> Result<u64, Wrong> {
+fn hash_of(alloc: Global, text: &[u8], letter: u8) -> Hashed {
     let text = with_letter(alloc, text, letter)?;
     let tree = tree_of(alloc, text.as_slice())?;
     Ok(keyed_by_names(&tree).build_hasher().finish())
 }
 
-// Whether the key changes with the name.
-fn is_in_key(alloc: Global, text: &[u8]) -> Result<bool, Wrong> {
-    let one = hash_of(alloc, text, b'a')?;
-    let other = hash_of(alloc, text, b'b')?;
-    Ok(one != other)
-}
-
-// The place of the first text whose name is not in the key, and whether it is or what is wrong.
-fn without(alloc: Global, texts: &[&[u8]]) -> Option<(usize, Result<bool, Wrong>)> {
+// The place of the first text whose name is not in the key, and what a hash gives with one letter and with another.
+fn without(alloc: Global, texts: &[&[u8]]) -> Option<(usize, Hashed, Hashed)> {
     for at in 0..texts.len() {
-        let is_in = is_in_key(alloc, texts[at]);
-        if is_in != Ok(true) {
-            return Some((at, is_in));
+        let one = hash_of(alloc, texts[at], b'a');
+        let other = hash_of(alloc, texts[at], b'b');
+        if one.is_err() || other.is_err() || one == other {
+            return Some((at, one, other));
         }
     }
     None

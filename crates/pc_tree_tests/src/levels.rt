@@ -4,44 +4,24 @@ use pc_parse::ParseFault;
 use pc_test_inputs::{Wrong, tree_of};
 use std::alloc::{AllocError, Global};
 
-// Appends the same byte this many times.
-fn push_times(text: &mut Vec<u8>, byte: u8, count: usize) -> Result<(), AllocError> {
+/// A piece of a text, and how often it comes.
+pub type Piece = (&'static [u8], usize);
+
+// Appends the same bytes this many times.
+fn push_times(text: &mut Vec<u8>, bytes: &[u8], count: usize) -> Result<(), AllocError> {
     for _ in 0..count {
-        text.push(byte)?;
+        text.extend_from_slice(bytes)?;
     }
     Ok(())
 }
 
-/// A text, this many `(`, a number, and as many `)`.
-fn nested(alloc: Global, begin: &[u8], count: usize) -> Result<Vec<u8>, AllocError> {
-    let mut text = Vec::from_slice(alloc, begin)?;
-    push_times(&mut text, b'(', count)?;
-    text.extend_from_slice(b"1")?;
-    push_times(&mut text, b')', count)?;
+/// The text of these pieces.
+pub fn text_of(alloc: Global, pieces: &[Piece]) -> Result<Vec<u8>, AllocError> {
+    let mut text = Vec::new(alloc);
+    for (bytes, count) in pieces {
+        push_times(&mut text, bytes, *count)?;
+    }
     Ok(text)
-}
-
-/// The highest level of such a text.
-fn level_of(alloc: Global, begin: &[u8], count: usize) -> Result<u32, Wrong> {
-    let text = nested(alloc, begin, count)?;
-    Ok(depth(&tree_of(alloc, text.as_slice())?))
-}
-
-/// What is wrong with a text that opens one level too many, at this byte.
-fn too_deep_at(place: u32) -> Result<u32, Wrong> {
-    Err(Wrong::NoTree(ParseFault::TooDeep(place)))
-}
-
-// A body and a value are at level 1, so that 199 more can be opened.
-#[test]
-fn levels(rt: HostRuntime) {
-    let alloc = rt.alloc();
-    let body = b"class C fun f() => ";
-    assert_eq!(rt; level_of(alloc, body, 199), Ok(200));
-    assert_eq!(rt; level_of(alloc, body, 200), too_deep_at(218));
-    let value = b"class C let x: U64 = ";
-    assert_eq!(rt; level_of(alloc, value, 199), Ok(200));
-    assert_eq!(rt; level_of(alloc, value, 200), too_deep_at(220));
 }
 
 // The highest level of a text's tree, and the size of the tree.
@@ -50,8 +30,71 @@ fn measured(alloc: Global, text: &[u8]) -> Result<(u32, u64), Wrong> {
     Ok((depth(&tree), size(&tree)))
 }
 
+// The highest level of the tree of these pieces.
+fn level_of(alloc: Global, pieces: &[Piece]) -> Result<u32, Wrong> {
+    let text = text_of(alloc, pieces)?;
+    let (level, _) = measured(alloc, text.as_slice())?;
+    Ok(level)
+}
+
+// A body and a value are at level 1, so that 199 more can be opened. The byte is that of the level that is too many.
+const LEVELS: [([Piece; 4], Result<u32, Wrong>); 4] = [
+    (
+        [
+            (b"class C fun f() => ", 1),
+            (b"(", 199),
+            (b"1", 1),
+            (b")", 199),
+        ],
+        Ok(200),
+    ),
+    (
+        [
+            (b"class C fun f() => ", 1),
+            (b"(", 200),
+            (b"1", 1),
+            (b")", 200),
+        ],
+        Err(Wrong::NoTree(ParseFault::TooDeep(218))),
+    ),
+    (
+        [
+            (b"class C let x: U64 = ", 1),
+            (b"(", 199),
+            (b"1", 1),
+            (b")", 199),
+        ],
+        Ok(200),
+    ),
+    (
+        [
+            (b"class C let x: U64 = ", 1),
+            (b"(", 200),
+            (b"1", 1),
+            (b")", 200),
+        ],
+        Err(Wrong::NoTree(ParseFault::TooDeep(220))),
+    ),
+];
+
+// The place of the first of these texts whose tree has another level, and its level.
+fn wrong_level(
+    alloc: Global,
+    levels: &[([Piece; 4], Result<u32, Wrong>)],
+) -> Option<(usize, Result<u32, Wrong>)> {
+    for at in 0..levels.len() {
+        let found = level_of(alloc, &levels[at].0);
+        if found != levels[at].1 {
+            return Some((at, found));
+        }
+    }
+    None
+}
+
+// Empty arguments open a level, too.
 #[test]
-fn empty_arguments_open_a_level(rt: HostRuntime) {
+fn levels(rt: HostRuntime) {
+    assert_eq!(rt; wrong_level(rt.alloc(), &LEVELS), None);
     let found = measured(rt.alloc(), b"primitive P fun f() => g()");
     assert_eq!(rt; found, Ok((2, 2)));
 }

@@ -1,13 +1,10 @@
-//! Tests of trees: what is read from a text, where reading stops, levels, what is printed, generated programs, and
-//! which names are in the key of a file's tables.
+//! Tests of trees: what is read from a text, where reading stops, levels, generated programs, and which names are in
+//! the key of a file's tables. Which texts have a tree, and what is printed of it, is in `rows/trees.py`,
+//! `rows/show.py` and `rows/layout.py`.
 #![tactic(auto)]
 
 #[cfg(test)]
 mod ends;
-#[cfg(test)]
-mod examples;
-#[cfg(test)]
-mod files;
 #[cfg(test)]
 mod keys;
 #[cfg(test)]
@@ -17,10 +14,4 @@ mod made;
 #[cfg(test)]
 mod parts;
 #[cfg(test)]
-mod printed;
-#[cfg(test)]
-mod reading;
-#[cfg(test)]
 mod rows;
-#[cfg(test)]
-mod showing;

@@ -1,19 +1,8 @@
 //! The printed texts of generated programs. The draws are worked out by hand.
-ghost use Rattle.std.specs.Prelude.{◌≤◌};
-
-use pc_caps::List;
 use pc_gen::make;
 use pc_print::print;
 use pc_test_inputs::{Wrong, compared};
 use std::alloc::{AllocError, Global};
-
-fn text_of(alloc: Global, seed: u64, size: u32) -> Result<List<u8>, AllocError>
-    requires some { 1 ≤ size }
-    requires few { size ≤ 900 }
-{
-    let file = make(alloc, seed, size)?;
-    print(alloc, &file)
-}
 
 const CELL: &[u8] =
     b"class Cell\n  var _n: U64 = 0\n  fun ref add(k: U64) =>\n    _n = _n + k\n  fun value(): U64 =>\n    _n\n\n";
@@ -29,12 +18,13 @@ fn with_workers(alloc: Global, workers: &[u8]) -> Result<Vec<u8>, AllocError> {
 }
 
 // Checks that the generated program has these actors between its class and `Main`.
-fn has_workers(alloc: Global, seed: u64, size: u32, workers: &[u8]) -> Result<(), Wrong>
-    requires some { 1 ≤ size }
-    requires few { size ≤ 900 }
-{
+fn has_workers(alloc: Global, seed: u64, size: u32, workers: &[u8]) -> Result<(), Wrong> {
+    if size == 0 || size > 900 {
+        return Err(Wrong::PastLimit);
+    }
     let wanted = with_workers(alloc, workers)?;
-    let text = text_of(alloc, seed, size)?;
+    let file = make(alloc, seed, size)?;
+    let text = print(alloc, &file)?;
     compared(text.as_slice(), wanted.as_slice())
 }
 
@@ -53,28 +43,27 @@ const OTHERS: &[u8] =
 const FROZEN: &[u8] =
     b"actor Work0\n  new create(out: OutStream, cell: Cell iso) =>\n    let c: Cell iso = consume cell\n    c.add(107)\n    let v: U64 = c.value()\n    let d: Cell val = recover val let e: Cell ref = Cell; e.add(v); e end\n    out.print(d.value().string())\n    out.print(c.value().string())\n\n";
 
-#[test]
-fn one_worker(rt: HostRuntime) {
-    assert_eq!(rt; has_workers(rt.alloc(), 0, 1, ONE), Ok(()));
+// A seed, a size, and the actors. A seed counts modulo 2^31.
+const MADE: [(u64, u32, &[u8]); 5] = [
+    (0, 1, ONE),
+    (0, 2, TWO),
+    (1, 2, OTHERS),
+    (3, 1, FROZEN),
+    (2_147_483_651, 1, FROZEN),
+];
+
+// The place of the first of these programs that has other actors, and what is wrong with it.
+fn wrong_program(alloc: Global, made: &[(u64, u32, &[u8])]) -> Option<(usize, Wrong)> {
+    for at in 0..made.len() {
+        let (seed, size, workers) = made[at];
+        if let Err(wrong) = has_workers(alloc, seed, size, workers) {
+            return Some((at, wrong));
+        }
+    }
+    None
 }
 
 #[test]
-fn two_workers(rt: HostRuntime) {
-    assert_eq!(rt; has_workers(rt.alloc(), 0, 2, TWO), Ok(()));
-}
-
-#[test]
-fn other_tasks(rt: HostRuntime) {
-    assert_eq!(rt; has_workers(rt.alloc(), 1, 2, OTHERS), Ok(()));
-}
-
-#[test]
-fn a_worker_that_freezes(rt: HostRuntime) {
-    assert_eq!(rt; has_workers(rt.alloc(), 3, 1, FROZEN), Ok(()));
-}
-
-// A seed counts modulo 2^31.
-#[test]
-fn a_seed_that_wraps(rt: HostRuntime) {
-    assert_eq!(rt; has_workers(rt.alloc(), 2_147_483_651, 1, FROZEN), Ok(()));
+fn made_programs_are_what_their_draws_give(rt: HostRuntime) {
+    assert_eq!(rt; wrong_program(rt.alloc(), &MADE), None);
 }

@@ -1,18 +1,26 @@
 //! Parts of bodies: their trees, where reading stops, levels and long chains.
-use crate::reading::{Part, read};
-use crate::rows::Row;
-use pc_expr::{ParseFault, seq};
+use crate::levels::{Piece, text_of};
+use crate::rows::{Row, other_row};
+use pc_expr::{ParseFault, expr, infix, seq};
 use pc_test_inputs::{Wrong, tokens_of};
-use std::alloc::{AllocError, Global};
+use std::alloc::Global;
 
-// Whether these are the rows of the tree of a text.
-fn has_rows(alloc: Global, text: &[u8], rows: &[Row]) -> Result<bool, Wrong> {
-    let found = read(alloc, Part::Seq, text, 1)?;
-    Ok(found.rows.as_slice() == rows)
+// The place of the first row of the tree of a text that is not as it should be, if there is one.
+fn other_in(alloc: Global, text: &[u8], rows: &'static [Row]) -> Result<Option<usize>, Wrong> {
+    let tokens = tokens_of(alloc, text)?;
+    let tokens = tokens.as_slice();
+    if tokens.is_empty() {
+        return Err(Wrong::PastLimit);
+    }
+    let (tree, _) = seq(alloc, tokens, 0, 1)?;
+    Ok(other_row(&tree, rows))
 }
 
+/// A text, and the rows of its tree.
+type Tree = (&'static [u8], &'static [Row]);
+
 // Whole sequences, each part with its first byte and the byte after its last.
-const TREES: [(&[u8], &[Row]); 9] = [
+const TREES: [Tree; 9] = [
     (
         b" a + b + 1 ",
         &[
@@ -130,12 +138,15 @@ const TREES: [(&[u8], &[Row]); 9] = [
     ),
 ];
 
-// The place of the first of these texts whose tree has other rows, or that has none.
-fn wrong_tree(alloc: Global, trees: &[(&[u8], &[Row])]) -> Option<(usize, Result<bool, Wrong>)> {
+/// The place of a text, and that of a row of its tree that is another, or why there is no tree.
+type OtherRow = (usize, Result<Option<usize>, Wrong>);
+
+// The first of these texts whose tree has other rows, or that has none.
+fn wrong_tree(alloc: Global, trees: &[Tree]) -> Option<OtherRow> {
     for at in 0..trees.len() {
-        let has_its_rows = has_rows(alloc, trees[at].0, trees[at].1);
-        if has_its_rows != Ok(true) {
-            return Some((at, has_its_rows));
+        let other = other_in(alloc, trees[at].0, trees[at].1);
+        if other != Ok(None) {
+            return Some((at, other));
         }
     }
     None
@@ -146,19 +157,42 @@ fn trees(rt: HostRuntime) {
     assert_eq!(rt; wrong_tree(rt.alloc(), &TREES), None);
 }
 
-/// A part that is read from a text at a level, and how many tokens are read, or why none are.
-type Stop = (Part, &'static [u8], u16, Result<usize, ParseFault>);
+/// What is to be read.
+#[derive(Clone, Copy)]
+enum Part {
+    Seq,
+    Expr,
+    Infix,
+}
 
-// How many tokens are read for a part of a text.
+// How many tokens are read for a part of a text, from its beginning, at a level.
 fn tokens_read(alloc: Global, part: Part, text: &[u8], level: u16) -> Result<usize, Wrong> {
-    let found = read(alloc, part, text, level)?;
-    Ok(found.to)
+    let tokens = tokens_of(alloc, text)?;
+    let tokens = tokens.as_slice();
+    if level > 200 || tokens.is_empty() {
+        return Err(Wrong::PastLimit);
+    }
+    match part {
+        Part::Seq => {
+            let (tree, to) = seq(alloc, tokens, 0, level)?;
+            drop(tree);
+            Ok(to)
+        }
+        Part::Expr => {
+            let (tree, to) = expr(alloc, tokens, 0, level)?;
+            drop(tree);
+            Ok(to)
+        }
+        Part::Infix => {
+            let (tree, to) = infix(alloc, tokens, 0, level)?;
+            drop(tree);
+            Ok(to)
+        }
+    }
 }
 
-// What should be read, or why none are.
-fn wanted_of(stop: Stop) -> Result<usize, Wrong> {
-    Ok(stop.3?)
-}
+/// A part that is read from a text at a level, and how many tokens are read, or why none are.
+type Stop = (Part, &'static [u8], u16, Result<usize, Wrong>);
 
 // How many tokens are read, or the byte of the token at which none are.
 const STOPS: [Stop; 36] = [
@@ -176,31 +210,91 @@ const STOPS: [Stop; 36] = [
     (Part::Expr, b"a; b", 1, Ok(1)),
     (Part::Expr, b"a = b", 1, Ok(3)),
     (Part::Infix, b"a = b", 1, Ok(1)),
-    (Part::Infix, b"let a = b", 1, Err(ParseFault::Unexpected(0))),
-    (Part::Expr, b"let a = b", 1, Err(ParseFault::Unexpected(0))),
-    (Part::Seq, b"", 1, Err(ParseFault::Unexpected(0))),
-    (Part::Seq, b"(a", 1, Err(ParseFault::Unexpected(2))),
-    (Part::Seq, b"a;", 1, Err(ParseFault::Unexpected(2))),
-    (Part::Seq, b"f(a,)", 1, Err(ParseFault::Unexpected(4))),
+    (
+        Part::Infix,
+        b"let a = b",
+        1,
+        Err(Wrong::NoTree(ParseFault::Unexpected(0))),
+    ),
+    (
+        Part::Expr,
+        b"let a = b",
+        1,
+        Err(Wrong::NoTree(ParseFault::Unexpected(0))),
+    ),
+    (
+        Part::Seq,
+        b"",
+        1,
+        Err(Wrong::NoTree(ParseFault::Unexpected(0))),
+    ),
+    (
+        Part::Seq,
+        b"(a",
+        1,
+        Err(Wrong::NoTree(ParseFault::Unexpected(2))),
+    ),
+    (
+        Part::Seq,
+        b"a;",
+        1,
+        Err(Wrong::NoTree(ParseFault::Unexpected(2))),
+    ),
+    (
+        Part::Seq,
+        b"f(a,)",
+        1,
+        Err(Wrong::NoTree(ParseFault::Unexpected(4))),
+    ),
     (
         Part::Seq,
         b"if a then b",
         1,
-        Err(ParseFault::Unexpected(11)),
+        Err(Wrong::NoTree(ParseFault::Unexpected(11))),
     ),
-    (Part::Seq, b"(a b)", 1, Err(ParseFault::Unexpected(3))),
+    (
+        Part::Seq,
+        b"(a b)",
+        1,
+        Err(Wrong::NoTree(ParseFault::Unexpected(3))),
+    ),
     (
         Part::Seq,
         b"recover tag\nend",
         1,
-        Err(ParseFault::Unexpected(12)),
+        Err(Wrong::NoTree(ParseFault::Unexpected(12))),
     ),
-    (Part::Seq, b"not (", 200, Err(ParseFault::TooDeep(0))),
-    (Part::Seq, b"(;", 200, Err(ParseFault::TooDeep(0))),
-    (Part::Seq, b"+ (", 200, Err(ParseFault::Unexpected(0))),
-    (Part::Seq, b"f()", 200, Err(ParseFault::TooDeep(1))),
+    (
+        Part::Seq,
+        b"not (",
+        200,
+        Err(Wrong::NoTree(ParseFault::TooDeep(0))),
+    ),
+    (
+        Part::Seq,
+        b"(;",
+        200,
+        Err(Wrong::NoTree(ParseFault::TooDeep(0))),
+    ),
+    (
+        Part::Seq,
+        b"+ (",
+        200,
+        Err(Wrong::NoTree(ParseFault::Unexpected(0))),
+    ),
+    (
+        Part::Seq,
+        b"f()",
+        200,
+        Err(Wrong::NoTree(ParseFault::TooDeep(1))),
+    ),
     (Part::Seq, b"f()", 199, Ok(3)),
-    (Part::Seq, b"a = b = c", 199, Err(ParseFault::TooDeep(6))),
+    (
+        Part::Seq,
+        b"a = b = c",
+        199,
+        Err(Wrong::NoTree(ParseFault::TooDeep(6))),
+    ),
     (
         Part::Seq,
         b"if a then b elseif c then d else e end",
@@ -211,31 +305,72 @@ const STOPS: [Stop; 36] = [
         Part::Seq,
         b"if a then b end",
         200,
-        Err(ParseFault::TooDeep(0)),
+        Err(Wrong::NoTree(ParseFault::TooDeep(0))),
     ),
     (
         Part::Seq,
         b"while a do b end",
         200,
-        Err(ParseFault::TooDeep(0)),
+        Err(Wrong::NoTree(ParseFault::TooDeep(0))),
     ),
     (Part::Seq, b"while a do b end", 199, Ok(5)),
     (
         Part::Seq,
         b"recover a end",
         200,
-        Err(ParseFault::TooDeep(0)),
+        Err(Wrong::NoTree(ParseFault::TooDeep(0))),
     ),
     (Part::Seq, b"recover a end", 199, Ok(3)),
-    (Part::Seq, b"a = b", 200, Err(ParseFault::TooDeep(2))),
+    (
+        Part::Seq,
+        b"a = b",
+        200,
+        Err(Wrong::NoTree(ParseFault::TooDeep(2))),
+    ),
 ];
 
 // The place of the first of these texts whose reading stops elsewhere, and where it does.
 fn wrong_stop(alloc: Global, stops: &[Stop]) -> Option<(usize, Result<usize, Wrong>)> {
     for at in 0..stops.len() {
-        let (part, text, level, _) = stops[at];
+        let (part, text, level, wanted) = stops[at];
         let read = tokens_read(alloc, part, text, level);
-        if read != wanted_of(stops[at]) {
+        if read != wanted {
+            return Some((at, read));
+        }
+    }
+    None
+}
+
+/// The pieces of a text, the level at which it is read as a sequence, and how many tokens are read, or why none are.
+type Long = (&'static [Piece], u16, Result<usize, Wrong>);
+
+// Two hundred levels, and one more.
+const LONG: [Long; 3] = [
+    (&[(b"(", 200), (b"a", 1), (b")", 200)], 0, Ok(401)),
+    (
+        &[(b"(", 200), (b"a", 1), (b")", 200)],
+        1,
+        Err(Wrong::NoTree(ParseFault::TooDeep(199))),
+    ),
+    (
+        &[(b"(", 201), (b"a", 1)],
+        0,
+        Err(Wrong::NoTree(ParseFault::TooDeep(200))),
+    ),
+];
+
+// How many tokens of these pieces are read as a sequence.
+fn long_read(alloc: Global, pieces: &[Piece], level: u16) -> Result<usize, Wrong> {
+    let text = text_of(alloc, pieces)?;
+    tokens_read(alloc, Part::Seq, text.as_slice(), level)
+}
+
+// The place of the first of these long texts whose reading stops elsewhere, and where it does.
+fn wrong_long(alloc: Global, long: &[Long]) -> Option<(usize, Result<usize, Wrong>)> {
+    for at in 0..long.len() {
+        let (pieces, level, wanted) = long[at];
+        let read = long_read(alloc, pieces, level);
+        if read != wanted {
             return Some((at, read));
         }
     }
@@ -245,94 +380,28 @@ fn wrong_stop(alloc: Global, stops: &[Stop]) -> Option<(usize, Result<usize, Wro
 #[test]
 fn stops(rt: HostRuntime) {
     assert_eq!(rt; wrong_stop(rt.alloc(), &STOPS), None);
-}
-
-/// A text of many equal parts, between a beginning and an end.
-fn repeated(
-    alloc: Global,
-    begin: &[u8],
-    part: &[u8],
-    count: usize,
-    end: &[u8],
-) -> Result<Vec<u8>, AllocError> {
-    let mut text = Vec::from_slice(alloc, begin)?;
-    for _ in 0..count {
-        text.extend_from_slice(part)?;
-    }
-    text.extend_from_slice(end)?;
-    Ok(text)
-}
-
-/// How many tokens of a text are read as a sequence; its tree is dropped.
-fn length_read(alloc: Global, text: &[u8], level: u16) -> Result<usize, Wrong> {
-    let tokens = tokens_of(alloc, text)?;
-    let tokens = tokens.as_slice();
-    if level > 200 || tokens.is_empty() {
-        return Err(Wrong::PastLimit);
-    }
-    let (_, to) = seq(alloc, tokens, 0, level)?;
-    Ok(to)
-}
-
-/// This many `(`, a name, and this many `)`.
-fn nested(alloc: Global, opened: usize, closed: usize) -> Result<Vec<u8>, AllocError> {
-    let mut text = repeated(alloc, b"", b"(", opened, b"a")?;
-    for _ in 0..closed {
-        text.push(b')')?;
-    }
-    Ok(text)
-}
-
-fn nested_read(alloc: Global, opened: usize, closed: usize, level: u16) -> Result<usize, Wrong> {
-    let text = nested(alloc, opened, closed)?;
-    length_read(alloc, text.as_slice(), level)
-}
-
-/// What is wrong with a text that opens one level too many, at this byte.
-fn too_deep_at(place: u32) -> Result<usize, Wrong> {
-    Err(Wrong::NoTree(ParseFault::TooDeep(place)))
-}
-
-#[test]
-fn levels(rt: HostRuntime) {
-    let alloc = rt.alloc();
-    assert_eq!(rt; nested_read(alloc, 200, 200, 0), Ok(401));
-    assert_eq!(rt; nested_read(alloc, 200, 200, 1), too_deep_at(199));
-    assert_eq!(rt; nested_read(alloc, 201, 0, 0), too_deep_at(200));
-}
-
-/// How many tokens of such a text are read.
-fn chain_read(
-    alloc: Global,
-    begin: &[u8],
-    part: &[u8],
-    count: usize,
-    end: &[u8],
-) -> Result<usize, Wrong> {
-    let text = repeated(alloc, begin, part, count, end)?;
-    length_read(alloc, text.as_slice(), 1)
+    assert_eq!(rt; wrong_long(rt.alloc(), &LONG), None);
 }
 
 #[test]
 fn a_long_chain_of_operators(rt: HostRuntime) {
-    let read = chain_read(rt.alloc(), b"a", b"+a", 99_999, b"");
+    let read = long_read(rt.alloc(), &[(b"a", 1), (b"+a", 99_999)], 1);
     assert_eq!(rt; read, Ok(199_999));
 }
 
 #[test]
 fn a_long_chain_of_suffixes(rt: HostRuntime) {
-    let read = chain_read(rt.alloc(), b"a", b".a", 99_999, b"");
+    let read = long_read(rt.alloc(), &[(b"a", 1), (b".a", 99_999)], 1);
     assert_eq!(rt; read, Ok(199_999));
 }
 
+const ARMS: [Piece; 3] = [
+    (b"if a then a ", 1),
+    (b"elseif a then a ", 49_998),
+    (b"end", 1),
+];
+
 #[test]
 fn a_long_chain_of_arms(rt: HostRuntime) {
-    let read = chain_read(
-        rt.alloc(),
-        b"if a then a ",
-        b"elseif a then a ",
-        49_998,
-        b"end",
-    );
-    assert_eq!(rt; read, Ok(199_997));
+    assert_eq!(rt; long_read(rt.alloc(), &ARMS, 1), Ok(199_997));
 }

@@ -1,31 +1,25 @@
 //! A tree as a list of rows, each part before what it contains.
 use pc_caps::Span;
 use pc_tree::{Arm, Expr, Item, Op, Seq, Suffix, span_of};
-use std::alloc::Global;
 
 /// A part of a tree: what it is, and where it begins and ends.
 pub type Row = (&'static str, u32, u32);
 
-/// The rows of what has been walked so far, and whether memory ran out for one of them.
+/// A walk through a tree beside the rows that it should have: its place among them, and the first that is another.
 #[derive(Drop)]
-pub struct Rows {
-    pub found: Vec<Row>,
-    pub is_short: bool,
+struct Walk {
+    wanted: &'static [Row],
+    place: usize,
+    other: Option<usize>,
 }
 
-impl Rows {
-    /// No rows.
-    pub fn new(alloc: Global) -> Rows {
-        Rows {
-            found: Vec::new(alloc),
-            is_short: false,
+impl Walk {
+    fn meet(&mut self, label: &'static str, span: Span) {
+        let row = (label, span.start, span.end);
+        if self.other.is_none() && self.wanted.get(self.place).copied() != Some(row) {
+            self.other = Some(self.place);
         }
-    }
-
-    fn add(&mut self, label: &'static str, span: Span) {
-        if self.found.push((label, span.start, span.end)).is_err() {
-            self.is_short = true;
-        }
+        self.place = self.place.saturating_add(1);
     }
 }
 
@@ -71,22 +65,16 @@ fn label_of(e: &Expr) -> &'static str {
     }
 }
 
-/// Adds the rows of a sequence.
 #[cycle(rows)]
-pub fn of_seq(rows: &mut Rows, seq: &Seq) {
-    rows.add("seq", seq.span);
-    of_items(rows, seq.items.as_slice())
-}
-
-#[cycle(rows)]
-fn of_items(rows: &mut Rows, items: &[Item]) {
-    for item in items {
-        of_item(rows, item);
+fn of_seq(walk: &mut Walk, seq: &Seq) {
+    walk.meet("seq", seq.span);
+    for item in seq.items.as_slice() {
+        of_item(walk, item);
     }
 }
 
 #[cycle(rows)]
-fn of_item(rows: &mut Rows, item: &Item) {
+fn of_item(walk: &mut Walk, item: &Item) {
     match item {
         Item::Local {
             fixed,
@@ -94,24 +82,23 @@ fn of_item(rows: &mut Rows, item: &Item) {
             span,
             ..
         } => {
-            rows.add(if *fixed { "let" } else { "var" }, *span);
-            of_expr(rows, value)
+            walk.meet(if *fixed { "let" } else { "var" }, *span);
+            of_expr(walk, value)
         }
-        Item::Plain(e) => of_expr(rows, e),
+        Item::Plain(e) => of_expr(walk, e),
     }
 }
 
 #[cycle(rows)]
-fn of_exprs(rows: &mut Rows, exprs: &[Expr]) {
+fn of_exprs(walk: &mut Walk, exprs: &[Expr]) {
     for e in exprs {
-        of_expr(rows, e);
+        of_expr(walk, e);
     }
 }
 
-/// Adds the rows of an expression.
 #[cycle(rows)]
-pub fn of_expr(rows: &mut Rows, e: &Expr) {
-    rows.add(label_of(e), span_of(e));
+fn of_expr(walk: &mut Walk, e: &Expr) {
+    walk.meet(label_of(e), span_of(e));
     match e {
         Expr::Number { .. }
         | Expr::Truth { .. }
@@ -120,64 +107,63 @@ pub fn of_expr(rows: &mut Rows, e: &Expr) {
         | Expr::TypeName(_)
         | Expr::This(_)
         | Expr::Consume { .. } => {}
-        Expr::Not { inner, .. } => of_expr(rows, inner),
-        Expr::Infix { terms, .. } => of_exprs(rows, terms.as_slice()),
+        Expr::Not { inner, .. } => of_expr(walk, inner),
+        Expr::Infix { terms, .. } => of_exprs(walk, terms.as_slice()),
         Expr::Chain { head, suffixes, .. } => {
-            of_expr(rows, head);
-            of_suffixes(rows, suffixes.as_slice())
+            of_expr(walk, head);
+            of_suffixes(walk, suffixes.as_slice())
         }
-        Expr::Group { body, .. } | Expr::Recover { body, .. } => of_seq(rows, body),
+        Expr::Group { body, .. } | Expr::Recover { body, .. } => of_seq(walk, body),
         Expr::If { arms, other, .. } => {
-            of_arms(rows, arms.as_slice());
-            of_other(rows, other)
+            of_arms(walk, arms.as_slice());
+            match other {
+                Some(body) => of_seq(walk, body),
+                None => {}
+            }
         }
         Expr::While { cond, body, .. } => {
-            of_seq(rows, cond);
-            of_seq(rows, body)
+            of_seq(walk, cond);
+            of_seq(walk, body)
         }
         Expr::Assign { left, right, .. } => {
-            of_expr(rows, left);
-            of_expr(rows, right)
+            of_expr(walk, left);
+            of_expr(walk, right)
         }
     }
 }
 
 #[cycle(rows)]
-fn of_suffixes(rows: &mut Rows, suffixes: &[Suffix]) {
+fn of_suffixes(walk: &mut Walk, suffixes: &[Suffix]) {
     for suffix in suffixes {
-        of_suffix(rows, suffix);
-    }
-}
-
-#[cycle(rows)]
-fn of_suffix(rows: &mut Rows, suffix: &Suffix) {
-    match suffix {
-        Suffix::Dot(name) => rows.add("dot", name.span),
-        Suffix::Args { args, span } => {
-            rows.add("arguments", *span);
-            of_exprs(rows, args.as_slice())
+        match suffix {
+            Suffix::Dot(name) => walk.meet("dot", name.span),
+            Suffix::Args { args, span } => {
+                walk.meet("arguments", *span);
+                of_exprs(walk, args.as_slice())
+            }
         }
     }
 }
 
 #[cycle(rows)]
-fn of_arms(rows: &mut Rows, arms: &[Arm]) {
+fn of_arms(walk: &mut Walk, arms: &[Arm]) {
     for arm in arms {
-        of_arm(rows, arm);
+        walk.meet("arm", arm.span);
+        of_seq(walk, &arm.cond);
+        of_seq(walk, &arm.body);
     }
 }
 
-#[cycle(rows)]
-fn of_arm(rows: &mut Rows, arm: &Arm) {
-    rows.add("arm", arm.span);
-    of_seq(rows, &arm.cond);
-    of_seq(rows, &arm.body)
-}
-
-#[cycle(rows)]
-fn of_other(rows: &mut Rows, other: &Option<Box<Seq>>) {
-    match other {
-        Some(body) => of_seq(rows, body),
-        None => {}
+/// The place of the first row of a sequence that is not as it should be, if there is one.
+pub fn other_row(seq: &Seq, wanted: &'static [Row]) -> Option<usize> {
+    let mut walk = Walk {
+        wanted,
+        place: 0,
+        other: None,
+    };
+    of_seq(&mut walk, seq);
+    if walk.other.is_none() && walk.place != wanted.len() {
+        return Some(walk.place);
     }
+    walk.other
 }
