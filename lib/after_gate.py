@@ -52,6 +52,13 @@ def times(folder):
     return [os.stat(f"{at}/{name}").st_mtime_ns for at, _, names in os.walk(folder) for name in names]
 
 
+def placed(folder):
+    """The times at which a library's folders came to be here, if it has files. The files themselves may be older than the
+    checkout, as the gate takes over what it proved before of the same sources; and a file that another checkout has too is
+    changed by that one."""
+    return [os.stat(at).st_ctime_ns for at, _, _ in os.walk(folder)] if times(folder) else []
+
+
 def last_change(crate, parts):
     """The time of the last change of a crate's sources. If a file is gone or has another name, its folder has changed."""
     walked = [it for part in parts for it in os.walk(f"{crate.folder}/{part}")]
@@ -69,12 +76,12 @@ def look(top, crates, parts):
     listed = os.stat(top / "crates.txt").st_mtime_ns
     first, last = {}, {}
     for crate in crates:
-        written = times(crate.rlib)
-        if not written:
+        here = placed(crate.rlib)
+        if not here:
             raise NotTaken(f"the library of {crate.name} is not there")
         if stamp_file(crate).exists():
             raise NotTaken(f"the library of {crate.name} has a stamp, so that it is not from the gate")
-        first[crate.name], last[crate.name] = min(written), max(written)
+        first[crate.name], last[crate.name] = min(here), max(here)
         if first[crate.name] <= max(listed, last_change(crate, parts)):
             raise NotTaken(f"the library of {crate.name} is older than its sources")
         for below in crate.deps:

@@ -98,6 +98,16 @@ class AfterGate(unittest.TestCase):
     def test_takes_them_twice(self):
         self.assertEqual((self.build().returncode, self.build().returncode), (0, 0))
 
+    def test_takes_libraries_that_the_gate_has_kept(self):
+        """The gate puts them here after the sources, and their files are from another day."""
+        for name in LIBRARIES:
+            os.utime(self.library(name) / "format", (0, 0))
+        self.assertEqual(self.build().returncode, 0)
+
+    def test_library_without_files(self):
+        (self.library("high") / "format").unlink()
+        self.assert_not_taken("the library of high is not there")
+
     def test_library_that_is_missing(self):
         shutil.rmtree(self.library("high"))
         self.assert_not_taken("the library of high is not there")
