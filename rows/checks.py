@@ -2,6 +2,7 @@
 
 from programs import FIRST, ONE_OBJECT, OPEN
 from tables import CHECK, JUDGE, answers, endings, refusals
+from texts import changed
 
 BODIES = [
     (b"    let a: C iso = C\n", 0, b""),
@@ -50,20 +51,7 @@ n body - 3 0 3 0
 """
 
 # FIRST with another type of the local.
-WRONG_SLOT = b"""\
-rcap-derivation 1 4 7
-s 6 ref
-s 7 ref
-s 4 val
-s 6 val
-n prim 0 val 1 0 1 0
-n seq 0 val 1 0 1 0
-n body - 1 0 1 0
-n new 6 iso^ 3 0 3 0
-n define - 3 0 7 0
-n seq - 3 0 3 0
-n body - 3 0 3 0
-"""
+WRONG_SLOT = changed(FIRST, b"s 6 iso\n", b"s 6 val\n")
 
 # FIRST without its last line end.
 UNENDED = FIRST[:-1]

@@ -7,52 +7,13 @@ from steps import ANY, Row
 from tables import CHECK, JUDGE, UPGRADE, USAGE, answered, answers, named, out_before, refusals, spoken
 
 # The derivation of ONE_OBJECT with a version that does not exist.
-THIRD = b"""\
-rcap-derivation 3 4 7
-s 6 ref
-s 7 ref
-s 4 val
-s 6 iso
-n prim 0 val 1 0 0 0
-n seq 0 val 1 0 0 0
-n body - 1 0 0 0
-n new 6 iso^ 3 0 0 0
-n define - 3 0 4 0
-n seq - 3 0 0 0
-n body - 3 0 0 0
-"""
+THIRD = texts.changed(SECOND, b"rcap-derivation 2 ", b"rcap-derivation 3 ")
 
 # The same in version 2, except for the type of `env`.
-WRONG_SLOT = b"""\
-rcap-derivation 2 4 7
-s 6 ref
-s 7 ref
-s 4 box
-s 6 iso
-n prim 0 val 1 0 0 0
-n seq 0 val 1 0 0 0
-n body - 1 0 0 0
-n new 6 iso^ 3 0 0 0
-n define - 3 0 4 0
-n seq - 3 0 0 0
-n body - 3 0 0 0
-"""
+WRONG_SLOT = texts.changed(SECOND, b"s 4 val\n", b"s 4 box\n")
 
 # The masks of version 1 after the first line of version 2.
-WRONG_NODE = b"""\
-rcap-derivation 2 4 7
-s 6 ref
-s 7 ref
-s 4 val
-s 6 iso
-n prim 0 val 1 0 1 0
-n seq 0 val 1 0 1 0
-n body - 1 0 1 0
-n new 6 iso^ 3 0 3 0
-n define - 3 0 7 0
-n seq - 3 0 3 0
-n body - 3 0 3 0
-"""
+WRONG_NODE = texts.changed(FIRST, b"rcap-derivation 1 ", b"rcap-derivation 2 ")
 
 # The bodies of a trait in a class and in an actor, with their own fields and methods.
 TAKEN = b"""\

@@ -89,3 +89,10 @@ def methods_taken_over(count, main):
 def classes_with_names(one, other, main):
     """Two classes with names of these lengths in bytes, and a Main."""
     return b"class " + b"L" * one + b"\nclass " + b"L" * other + b"\n" + main
+
+
+def changed(text, old, new):
+    """The text with something else in the one place that has this."""
+    if text.count(old) != 1:
+        raise ValueError(f"{old!r} is there {text.count(old)} times")
+    return text.replace(old, new)
