@@ -12,7 +12,6 @@ use Rattle.pc_refusals.specs.Inner.Stages.{StageStops}
 use Rattle.pc_refusals.specs.NameFaults.{name_line, name_status}
 use Rattle.pc_refusals.specs.Verdict.{Verdict, refused}
 use Rattle.pc_refusals.specs.declared.stop.Stop.{Stop}
-use Rattle.pc_refusals.specs.declared.stop.Stop.TheVariants.{File, Memory}
 use Rattle.pc_refusals.proofs.Statuses.{IsOther}
 use Rattle.pc_refusals.proofs.Stops.{name_stops}
 use Rattle.pc_core_commands.specs.Explain.{Explaining, IsFileFault, fault_end, is_not_explained}

@@ -1,4 +1,4 @@
-//! What commands do with a core: how a program runs, and what is told of it.
+//! What commands do with a core: how a program runs, and what is said of it.
 //!
 //! Each function here is the last part of a command, after its files were read and its source has a core. Nothing here
 //! reads a file or makes a core, so none of it waits for the elaboration; `pc_top` reads, and calls these.
