@@ -21,9 +21,18 @@ LATER_COMMANDS = {
     "explain": [("pc_top", "Commands/Explain"), ("pc_core_commands", "Explain")],
     "events": [("pc_top", "Commands/Events"), ("pc_core_commands", "Events")],
     "places": [("pc_top", "Commands/Places")],
+    "schedule": [("pc_top", "Commands/Schedule"), ("pc_core_commands", "Schedule")],
+    "play": [("pc_top", "Commands/Play"), ("pc_core_commands", "Play")],
     "outcomes": [("pc_top", "Commands/Outcomes"), ("pc_core_commands", "Outcomes")],
 }
-LATER = [it for files in LATER_COMMANDS.values() for it in files]
+
+
+def files_of(commands):
+    """The files of definitions that are of these commands alone."""
+    return [it for name in commands for it in LATER_COMMANDS[name]]
+
+
+LATER = files_of(LATER_COMMANDS)
 
 # An import of definitions of a crate: from a file, a file of a folder, or a type of a file. Types that come from the code are
 # `declared`.

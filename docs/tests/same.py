@@ -113,11 +113,22 @@ def look_at_lines(found, results):
 
 def look_at_text(results):
     """Compares the text that `docs/read` prints with the files: each of them is there once, and whole."""
-    for word, files in (("headline", lines.headline()), ("isolation", lines.isolated()), ("contract", lines.contract())):
-        said = subprocess.run([pages.TOP / "docs" / "read", word], capture_output=True, text=True, check=False).stdout.splitlines()
+    wanted = {
+        "headline": lines.headline(),
+        "isolation": lines.isolated(),
+        "contract": lines.contract(),
+        f"contract --without {' '.join(lines.LATER_COMMANDS)}": lines.contract(without=lines.LATER),
+    }
+    for words, files in wanted.items():
+        command = [pages.TOP / "docs" / "read", *words.split()]
+        said = subprocess.run(command, capture_output=True, text=True, check=False).stdout.splitlines()
         heads = sorted(line for line in said if line.startswith("== "))
-        results.check(heads == sorted(lines.text_of(*it)[0] for it in files), f"docs/read {word}: the files", heads)
-        results.check(len(said) == lines.length_of_text(files), f"docs/read {word}: its lines", len(said))
+        results.check(heads == sorted(lines.text_of(*it)[0] for it in files), f"docs/read {words}: the files", heads)
+        results.check(len(said) == lines.length_of_text(files), f"docs/read {words}: its lines", len(said))
+    for words in ([], ["run"], ["contract", "--without"], ["contract", "--without", "run"]):
+        ended = subprocess.run([pages.TOP / "docs" / "read", *words], capture_output=True, text=True, check=False)
+        refused = ended.returncode == 1 and not ended.stdout and "docs/read headline" in ended.stderr
+        results.check(refused, f"docs/read {' '.join(words)}: is refused", ended.returncode)
 
 
 def look(found, results):
