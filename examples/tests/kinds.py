@@ -19,7 +19,7 @@ COMPOUND = {
     "FORMS": "FORM(?:(?:, | or )FORM)*",
     "CAPS": "CAP(?:(?:, | or )CAP)*",
     "NAMES": "(?:none|`NAME`(?:, `NAME`)*(?: and NUMBER more)?)",
-    "GOAL": "(?:`NAME`|the field `NAME`|the parameter `NAME`|the result)",
+    "GOAL": "(?:`NAME`|the field `NAME`|the parameter(?: `NAME`)?|the result)",
     "METHOD": r"(?:fun CAP |be |new CAP |new )ENTITY\.NAME\(.*\)(?:: TYPE)?",
     "HOME": r"in ENTITY\.NAME(?:, which is taken over from ENTITY)?",
 }
@@ -72,7 +72,7 @@ CONDITIONS = {
     "SetOnce": "the field `NAME` is a `let` and is already set here",
     "HasMethod": "ENTITY has no method `NAME`",
     "Function": "`ENTITY\\.NAME` is a constructor, not a function",
-    "Counted": "(?:`NAME`|`string` of U64 and Bool) takes (?:NUMBER|no) arguments, and NUMBER are given",
+    "Counted": "(?:`NAME`|`string` of U64 and Bool) takes (?:1 argument|(?:NUMBER|no) arguments), and (?:1 is|NUMBER are) given",
     "Isolated": "PART has the form FORM, and only an iso or a trn can be lent",
     "Lent": "`NAME` takes its receiver as CAP, and a receiver can be lent only as ref or box",
     "Sent": "PART has the form FORM and goes to an? CAP parameter: beside a lent receiver an argument must have the form iso\\^, iso, val or tag,"
@@ -195,6 +195,7 @@ HINTS = {
     "GoesTo": "a value of FORM goes to CAPS",
     "DeclareBox": "where `NAME` writes nothing, declare it `fun box NAME`",
     "DeclareResult": "declare the result TYPE",
+    "DeclareHat": r"declare the result of `NAME` ENTITY (?:iso|trn)\^: without `\^` a call gives an alias",
     "Compare": "`=` assigns and gives the old value; `==` compares",
     "ToString": r"`string\(\)` of it is a String",
     "CompareObjects": "compare objects with `is` or `isnt`",
@@ -209,12 +210,14 @@ HINTS = {
     "CallValue": r"`NAME` is a field; `\(e\.NAME\)\(\.\.\)` calls `apply` of its value",
     "TagInRecover": "in a recover `this` is seen as tag, since CAP is not sendable",
     "TagUntilSet": "until all fields are set `this` is a tag",
+    "SendMessage": "an actor only takes messages from others: call a behaviour of it",
     "SetBefore": "set `NAME` before this",
     "CallConstructor": r"write `ENTITY\.NAME\(\.\.\)`",
     "SendArgument": "make the argument in a `recover`, or let the parameter be iso, val or tag",
     "ConsumeAfter": "consume it after the loop(?:, or assign to `NAME` again in the body)?",
     "SetBeforeLoop": "set it before the loop",
     "RecoverValue": r"write `recover val`, or let the body end with a ref, which is lifted to iso\^",
+    "ConsumeEnd": "let the body end with `consume NAME`",
 }
 HINT_RULES = {"DeclareSlot": "assign", "DeclareField": "put", "DeclareOwnField": "putown"}
 
@@ -226,6 +229,7 @@ OTHER_HINTS = {
     "take an is away": ("is", "take one `is` of the chain away"),
     "set the field": ("constructor", "give `NAME` an initial value, or set it on every path"),
     "call the method": ("name", r"write `NAME\(\.\.\)`"),
+    "call it on an object": ("name", "`NAME` is a method: call it on an object of ENTITY"),
     "the old value": ("name", r"its old value is what `NAME = \.\.` gives"),
     "another name": ("name", "give one of the two another name"),
     "name one once": ("name", "take one of the two away"),

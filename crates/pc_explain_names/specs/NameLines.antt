@@ -1,6 +1,7 @@
 -- The lines about a fault of a file's names.
 use Rattle.std.specs.Prelude.{ℕ, Bool, true, false, List, [], ◌∷◌, ◌++◌, map, Option, Some, None, nat_eq, codes, if◌then◌else◌}
 use Rattle.std.specs.List.{find, list_any}
+use Rattle.std.specs.Str.{bytes_eq}
 use Rattle.pc_caps.specs.declared.span.Span.{Span}
 use Rattle.pc_lists.specs.Texts.{Text, line_end}
 use Rattle.pc_tree.specs.Tree as t
@@ -14,7 +15,7 @@ use Rattle.pc_explain_names.specs.declared.marks.Mark.{Mark}
 use Rattle.pc_explain_names.specs.declared.marks.Mark.TheVariants as mark
 use Rattle.pc_explain_names.specs.Bearers.{bearer_of, create_bearer, is_built_in, kind_word, known_kind, word}
 use Rattle.pc_explain_names.specs.Homes.{marks_at, visible_at}
-use Rattle.pc_explain_names.specs.Lists.{field_span, span_is_named, is_other, name_span, names_listed}
+use Rattle.pc_explain_names.specs.Lists.{field_span, method_name_span, span_is_named, is_other, name_span, names_listed}
 use Rattle.pc_explain_names.specs.Marks.{use_in}
 use Rattle.pc_explain_names.specs.Rows.{has_member, member_names}
 
@@ -74,6 +75,23 @@ constructor_rule_line entity name =
     codes "rule name: after the name of a class or an actor comes one of its constructors with its arguments, and "
     ++ (piece entity ++ (codes " has no constructor " ++ (quoted name ++ line_end)))
 
+unfoldable pub has_method_named : Text → Text → t.Entity → Bool
+has_method_named bytes name e = list_any (span_is_named bytes name) (map method_name_span e.methods)
+
+-- The first of these entities with one name has a method with the other.
+abbrev pub method_in : Text → (entity name : Text) → List t.Entity → Bool
+method_in bytes entity name [] = false
+method_in bytes entity name (e ∷ es) = if bytes_eq e.name.text entity then has_method_named bytes name e else method_in bytes entity name es
+
+unfoldable pub object_line : (entity name : Text) → Text
+object_line entity name = codes "hint: " ++ (quoted name ++ (codes " is a method: call it on an object of " ++ (piece entity ++ line_end)))
+
+abbrev pub on_object_hint : Bool → (entity name : Text) → Text
+on_object_hint named entity name = if named then object_line entity name else []
+
+unfoldable pub constructor_lines : Text → t.File → (entity name : Text) → Text
+constructor_lines bytes file entity name = constructor_rule_line entity name ++ on_object_hint (method_in bytes entity name file.entities) entity name
+
 abbrev pub kind_article : EntityKind → Text
 kind_article kind.Class = codes "a "
 kind_article kind.Actor = codes "an "
@@ -105,7 +123,7 @@ outside_line name file e at = type_line (is_provided e at) name (known_kind name
 unfoldable pub use_lines : Text → t.File → Span → t.Entity → List Member → List Span → Option Mark → Text
 use_lines bytes file span e ms visible (Some mark.Bare) = bare_lines bytes (piece_of bytes span) e ms visible
 use_lines bytes file span e ms visible (Some mark.Consumed) = consumed_lines bytes (piece_of bytes span) e visible
-use_lines bytes file span e ms visible (Some (mark.Constructor head)) = constructor_rule_line (piece_of bytes head) (piece_of bytes span)
+use_lines bytes file span e ms visible (Some (mark.Constructor head)) = constructor_lines bytes file (piece_of bytes head) (piece_of bytes span)
 use_lines bytes file span e ms visible (Some mark.Type) = type_line false (piece_of bytes span) (known_kind (piece_of bytes span) file.entities)
 use_lines bytes file span e ms visible (Some (mark.Local s)) = []
 use_lines bytes file span e ms visible None = outside_line (piece_of bytes span) file e span.start

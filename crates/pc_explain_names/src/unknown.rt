@@ -1,5 +1,5 @@
 //! The lines about a name that nothing has.
-ghost use Rattle.std.specs.Prelude.{◌≡◌, ◌++◌, false, true, IfOk, OnOk, Some};
+ghost use Rattle.std.specs.Prelude.{◌≡◌, ◌++◌, false, map, true, IfOk, OnOk, Some};
 ghost use Rattle.std.specs.List.{list_any};
 ghost use Rattle.std.specs.Option.{option_map};
 ghost use Rattle.pc_explain_names.specs.NameLines as spec;
@@ -11,7 +11,7 @@ use crate::homes::{marks_at, visible_at};
 use crate::lists::{one_is_named, push_names};
 use crate::marks::{Mark, use_in};
 use crate::rows::{has_member, push_member_names};
-use crate::spans::{field_spans, name_spans};
+use crate::spans::{field_spans, method_spans, name_spans};
 use pc_caps::Span;
 use pc_members::Member;
 use pc_tree::{Entity, EntityKind, File, MethodDef};
@@ -262,6 +262,84 @@ fn push_constructor_line(
     push_bytes(out, b"\n")
 }
 
+// Whether the entity has a method with this name.
+#[tactic(auto, unfolding(crate::specs::NameLines::has_method_named))]
+fn has_method(alloc: Global, bytes: &[u8], name: &[u8], entity: &Entity) -> Result<bool, AllocError>
+    ensures { IfOk result (λ has. has ≡ spec.has_method_named bytes.now name.now (entity_view entity.now)) }
+{
+    let spans = method_spans(alloc, entity.methods.as_slice())?;
+    Ok(one_is_named(bytes, name, &spans))
+}
+
+// Whether the first of these entities with a name has a method with this one.
+fn one_has_method(
+    alloc: Global,
+    bytes: &[u8],
+    entity: &[u8],
+    name: &[u8],
+    entities: &[Entity],
+) -> Result<bool, AllocError>
+    ensures { IfOk result (λ has. has ≡ spec.method_in bytes.now entity.now name.now (map entity_view entities.now)) }
+{
+    for one in entities {
+        if one.name.text.as_slice() == entity {
+            return has_method(alloc, bytes, name, one);
+        }
+    }
+    Ok(false)
+}
+
+// Appends that the name is a method's.
+#[tactic(auto, unfolding(crate::specs::NameLines::object_line))]
+fn push_object_line(
+    alloc: Global,
+    out: &mut Vec<u8>,
+    entity: &[u8],
+    name: &[u8],
+) -> Result<(), AllocError>
+    ensures { OnOk result (out.new.items ≡ out.old.items ++ spec.object_line entity.now name.now) }
+{
+    push_bytes(out, b"hint: ")?;
+    push_quoted(alloc, out, name)?;
+    push_bytes(out, b" is a method: call it on an object of ")?;
+    push_piece(alloc, out, entity)?;
+    push_bytes(out, b"\n")
+}
+
+// Appends that the name is a method's, if it is.
+fn push_on_object_hint(
+    alloc: Global,
+    out: &mut Vec<u8>,
+    named: bool,
+    entity: &[u8],
+    name: &[u8],
+) -> Result<(), AllocError>
+    ensures { OnOk result (out.new.items ≡ out.old.items ++ spec.on_object_hint named entity.now name.now) }
+{
+    if named {
+        push_object_line(alloc, out, entity, name)
+    } else {
+        Ok(())
+    }
+}
+
+// Appends the lines about a name after a type's name and a dot.
+#[tactic(auto, unfolding(crate::specs::NameLines::constructor_lines))]
+fn push_constructor_lines(
+    alloc: Global,
+    out: &mut Vec<u8>,
+    bytes: &[u8],
+    file: &File,
+    entity: &[u8],
+    name: &[u8],
+) -> Result<(), AllocError>
+    ensures { OnOk result (out.new.items ≡ out.old.items ++ spec.constructor_lines bytes.now (file_view file.now) entity.now name.now) }
+{
+    let named = one_has_method(alloc, bytes, entity, name, file.entities.as_slice())?;
+    push_constructor_line(alloc, out, entity, name)?;
+    push_on_object_hint(alloc, out, named, entity, name)
+}
+
 fn article(kind: EntityKind) -> &'static [u8]
     ensures { result.now ≡ spec.kind_article kind }
 {
@@ -403,7 +481,7 @@ fn push_use_lines(
         Some(Mark::Bare) => push_bare_lines(alloc, out, bytes, name, entity, members, visible),
         Some(Mark::Consumed) => push_consumed_lines(alloc, out, bytes, name, entity, visible),
         Some(Mark::Constructor(head)) => {
-            push_constructor_line(alloc, out, piece_of(bytes, head), name)
+            push_constructor_lines(alloc, out, bytes, file, piece_of(bytes, head), name)
         }
         Some(Mark::Type) => {
             let kind = known_kind(name, file.entities.as_slice());

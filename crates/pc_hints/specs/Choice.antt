@@ -2,7 +2,7 @@
 use Rattle.std.specs.Prelude.{ℕ, Bool, true, false, not, ◌&&◌, ◌||◌, nat_eq, nat_le, nat_lt, Option, Some, None, slice_get, if◌then◌else◌}
 use Rattle.std.specs.Option.{is_some}
 use Rattle.pc_caps.specs.Order.{is_below}
-use Rattle.pc_caps.specs.Tables.{fits, sendable, unalias}
+use Rattle.pc_caps.specs.Tables.{fits, lift, sendable, unalias}
 use Rattle.pc_caps.specs.declared.capability.Cap.{Cap}
 use Rattle.pc_caps.specs.declared.capability.Cap.TheVariants as cap
 use Rattle.pc_caps.specs.declared.capability.Form.{Form}
@@ -27,7 +27,7 @@ use Rattle.pc_words.specs.Scene.{is_param}
 use Rattle.pc_sentences.specs.Sentences.{is_assign}
 use Rattle.pc_sentences.specs.Slots.{lost_slot}
 use Rattle.pc_sentences.specs.Stop.{StopData, child_form, child_type, receiver_child_index}
-use Rattle.pc_hints.specs.Nodes.{child_node, is_assigned, is_box_this, is_new_node, is_tag_this, local_cap, old_form, own_method}
+use Rattle.pc_hints.specs.Nodes.{called_hat, child_node, is_assigned, is_box_this, is_in_condition, is_new_node, is_tag_actor, is_tag_this, local_cap, old_form, own_method, recovered_slot}
 use Rattle.pc_hints.specs.declared.hint.Hint.{Hint}
 use Rattle.pc_hints.specs.declared.choice.Wanted.{Wanted}
 use Rattle.pc_hints.specs.declared.choice.Wanted.TheVariants as wanted
@@ -55,15 +55,47 @@ abbrev pub consume_if : Wanted → (receiver : Bool) → ℕ → Option Cap → 
 consume_if w receiver i None = None
 consume_if w receiver i (Some own) = hint_if (suits w (unalias own)) (consume_hint receiver i own)
 
--- The old value of a `var` field is taken, if it fits.
-abbrev pub old_if : ℕ → Cap → Option Form → Option Hint
-old_if i k None = None
-old_if i k (Some f) = hint_if (fits f k) (hint.OldValue i f)
+-- The old value of a `var` field is taken, if it suits.
+abbrev pub old_if : Wanted → ℕ → Option Form → Option Hint
+old_if w i None = None
+old_if w i (Some f) = hint_if (suits w f) (hint.OldValue i f)
 
 -- A box `this` is declared ref, or else val, if that suits.
 abbrev pub declare_if : (box : Bool) → Wanted → Option Hint
 declare_if box w = hint_or_else (hint_if (box && suits w form.Ref) (hint.DeclareFunction cap.Ref))
     (hint_if (box && suits w form.Val) (hint.DeclareFunction cap.Val))
+
+-- The result of the function that is called is declared with `^`, if that suits.
+abbrev pub hat_if : Wanted → ℕ → Option (ℕ × Form) → Option Hint
+hat_if w i None = None
+hat_if w i (Some r) = hint_if (suits w r.1) (hint.DeclareHat i r.0 r.1)
+
+-- An iso with which the body of a `recover` ends is an alias, and lifted to tag: it is consumed.
+abbrev pub end_if : Option ℕ → Option Hint
+end_if None = None
+end_if (Some k) = Some (hint.ConsumeEnd k)
+
+abbrev pub is_constructor_kind : MethodKind → Bool
+is_constructor_kind method.New = true
+is_constructor_kind method.Spawn = true
+is_constructor_kind k = false
+
+-- Why `this` of a method is a tag: in a recover, because its capability is not sendable; in a constructor, until all
+-- fields are set. In a tag function it is one by declaration.
+abbrev pub tag_hint : (recovered : Bool) → Method → Option Hint
+tag_hint recovered m = if recovered && not (sendable m.receiver) then Some hint.TagInRecover else hint_if (is_constructor_kind m.kind) hint.TagUntilSet
+
+abbrev pub tag_hint_of : (recovered : Bool) → Option Method → Option Hint
+tag_hint_of recovered None = None
+tag_hint_of recovered (Some m) = tag_hint recovered m
+
+-- For a part that is `this`, seen as tag.
+abbrev pub tag_this : StopData → ℕ → Option Hint
+tag_this st i = if is_tag_this st i then tag_hint_of (nat_lt 0 st.at.depth) (own_method st) else None
+
+-- For a part that can do no more than be named: `this`, or another actor.
+abbrev pub tag_part : StopData → ℕ → Option Hint
+tag_part st i = hint_or_else (tag_this st i) (hint_if (is_tag_actor st.scene.core (child_type st i)) hint.SendMessage)
 
 abbrev pub is_ref_form : Form → Bool
 is_ref_form form.Ref = true
@@ -94,7 +126,9 @@ or_this (Some g) h = g
 abbrev pub fitting_node : StopData → ℕ → Cap → Node → Form → Hint
 fitting_node st i k x f =
     or_this (consume_if (wanted.Fits k) false i (local_cap st x))
-    (or_this (old_if i k (old_form st x)) (or_this (declare_if (is_box_this st x f) (wanted.Fits k)) (object_hint i x f k)))
+    (or_this (old_if (wanted.Fits k) i (old_form st x))
+    (or_this (hat_if (wanted.Fits k) i (called_hat st x))
+    (or_this (declare_if (is_box_this st x f) (wanted.Fits k)) (or_this (tag_this st i) (or_this (end_if (recovered_slot st x)) (object_hint i x f k))))))
 
 abbrev pub fitting_of : StopData → ℕ → Cap → Option Node → Option Hint
 fitting_of st i k None = None
@@ -112,28 +146,11 @@ abbrev pub is_ref_cap : Cap → Bool
 is_ref_cap cap.Ref = true
 is_ref_cap k = false
 
-abbrev pub is_constructor_kind : MethodKind → Bool
-is_constructor_kind method.New = true
-is_constructor_kind method.Spawn = true
-is_constructor_kind k = false
-
--- Why `this` of a method is a tag: in a recover, because its capability is not sendable; in a constructor, until all
--- fields are set. In a tag function it is one by declaration.
-abbrev pub tag_hint : (recovered : Bool) → Method → Option Hint
-tag_hint recovered m = if recovered && not (sendable m.receiver) then Some hint.TagInRecover else hint_if (is_constructor_kind m.kind) hint.TagUntilSet
-
-abbrev pub tag_hint_of : (recovered : Bool) → Option Method → Option Hint
-tag_hint_of recovered None = None
-tag_hint_of recovered (Some m) = tag_hint recovered m
-
--- For a part that is `this`, seen as tag.
-abbrev pub tag_this : StopData → ℕ → Option Hint
-tag_this st i = if is_tag_this st i then tag_hint_of (nat_lt 0 st.at.depth) (own_method st) else None
-
 abbrev pub receiver_node : StopData → ℕ → Cap → Node → Form → Option Hint
 receiver_node st i k x f =
     hint_or_else (consume_if (wanted.Fits k) true i (local_cap st x))
-    (hint_or_else (declare_if (is_box_this st x f) (wanted.Fits k)) (hint_or_else (hint_if (is_seen_form f && is_ref_cap k) hint.DeclareBox) (tag_this st i)))
+    (hint_or_else (hat_if (wanted.Fits k) i (called_hat st x))
+    (hint_or_else (declare_if (is_box_this st x f) (wanted.Fits k)) (hint_or_else (hint_if (is_seen_form f && is_ref_cap k) hint.DeclareBox) (tag_part st i))))
 
 abbrev pub receiver_hint : StopData → ℕ → Cap → Option Node → Option Hint
 receiver_hint st i k None = None
@@ -155,7 +172,10 @@ abbrev pub below_node : StopData → ℕ → Form → Node → Form → Hint
 below_node st i w x f =
     or_this (declare_if (is_box_this st x f) (wanted.Below w))
     (or_this (consume_if (wanted.Below w) false i (local_cap st x))
-    (or_this (hint_if (is_ref_form f && is_below form.IsoE w) hint.RecoverObject) (hint.DeclareResult i)))
+    (or_this (old_if (wanted.Below w) i (old_form st x))
+    (or_this (hat_if (wanted.Below w) i (called_hat st x))
+    (or_this (end_if (recovered_slot st x))
+    (or_this (hint_if (is_ref_form f && is_below form.IsoE w) hint.RecoverObject) (hint.DeclareResult i))))))
 
 abbrev pub below_of : StopData → ℕ → Form → Option Node → Option Hint
 below_of st i w None = None
@@ -175,9 +195,12 @@ abbrev pub is_number_or_truth : Option (ℕ × Form) → Bool
 is_number_or_truth None = false
 is_number_or_truth (Some ty) = nat_eq ty.0 u64_entity || nat_eq ty.0 bool_entity
 
+-- A number or a truth value where a String is asked for.
+abbrev pub string_hint : StopData → ℕ → ℕ → Option Hint
+string_hint st i e = hint_if (nat_eq e string_entity && is_number_or_truth (child_type st i)) hint.ToString
+
 abbrev pub entity_hint : StopData → ℕ → ℕ → Option Hint
-entity_hint st i other =
-    hint_or_else (hint_if (is_condition_role (child_role st.at i) && is_assigned st i) hint.Compare) (hint_if (nat_eq other string_entity && is_number_or_truth (child_type st i)) hint.ToString)
+entity_hint st i e = hint_or_else (hint_if (is_condition_role (child_role st.at i) && is_assigned st i) hint.Compare) (string_hint st i e)
 
 abbrev pub is_trait_kind : EntityKind → Bool
 is_trait_kind kind.Trait = true
@@ -197,7 +220,8 @@ says_is core None = false
 says_is core (Some ty) = may_say ty.0 (slice_get core.entities ty.0)
 
 abbrev pub under_hint : StopData → ℕ → ℕ → Option Hint
-under_hint st i e = hint_if (is_trait (slice_get st.scene.core.entities e) && says_is st.scene.core (child_type st i)) (hint.SayIs i e)
+under_hint st i e =
+    hint_or_else (hint_if (is_trait (slice_get st.scene.core.entities e) && says_is st.scene.core (child_type st i)) (hint.SayIs i e)) (string_hint st i e)
 
 -- ---- members
 
@@ -224,7 +248,7 @@ shows_box st i None = false
 shows_box st i (Some x) = is_box_this st x (child_form st i)
 
 abbrev pub writable : StopData → ℕ → Option Hint
-writable st i = hint_or_else (hint_if (shows_box st i (child_node st i)) (hint.DeclareFunction cap.Ref)) (tag_this st i)
+writable st i = hint_or_else (hint_if (shows_box st i (child_node st i)) (hint.DeclareFunction cap.Ref)) (tag_part st i)
 
 -- The capability with which a value is written into an origin of this form.
 abbrev pub entered_cap : Form → Cap
@@ -237,11 +261,32 @@ entered_cap form.Val = cap.Iso
 entered_cap form.Box = cap.Iso
 entered_cap form.Tag = cap.Iso
 
+abbrev pub is_goes_to : Hint → Bool
+is_goes_to (hint.GoesTo f) = true
+is_goes_to h = false
+
+-- Where else a value can go is no help if it may not enter a field: the field may be such a place.
+abbrev pub unless_goes_to : Option Hint → Option Hint
+unless_goes_to None = None
+unless_goes_to (Some h) = hint_if (not (is_goes_to h)) h
+
 abbrev pub reached_hint : (assigned : Bool) → Hint
 reached_hint assigned = if assigned then hint.GiveOut else hint.MakeInside
 
 abbrev pub variable_hint : (param : Bool) → ℕ → Hint
 variable_hint param k = if param then hint.CopyFirst else hint.DeclareSlot k
+
+-- In a condition, `=` stands where `==` is meant.
+abbrev pub compare_or : (condition : Bool) → Hint → Hint
+compare_or condition h = if condition then hint.Compare else h
+
+abbrev pub is_val_form : Form → Bool
+is_val_form form.Val = true
+is_val_form f = false
+
+-- If the lifted form of the body is val, `recover val` takes it.
+abbrev pub lifted_hint : StopData → Option Hint
+lifted_hint st = hint_or_else (hint_if (is_val_form (lift (child_form st 0))) hint.RecoverValue) (end_if (recovered_slot st st.at))
 
 -- What to do about a condition, if there is a hint.
 abbrev pub hint_for : StopData → Condition → Option Hint
@@ -252,13 +297,13 @@ hint_for st (asks.IsA i e) = entity_hint st i e
 hint_for st (asks.Comparable i) = Some hint.CompareObjects
 hint_for st (asks.Live k) = Some (hint.UseBefore k)
 hint_for st (asks.Reached k) = Some (reached_hint (is_assign st.at.kind))
-hint_for st (asks.Variable k) = Some (variable_hint (is_param st.scene st.at.method k) k)
+hint_for st (asks.Variable k) = Some (compare_or (is_in_condition st) (variable_hint (is_param st.scene st.at.method k) k))
 hint_for st (asks.HasField i name) = hint_if (has_method st.scene.core (type_entity (child_type st i)) name) (hint.CallMethod name)
 hint_for st (asks.HasOwnField name) = hint_if (has_method st.scene.core (method_entity (own_method st)) name) (hint.CallMethod name)
-hint_for st (asks.Seen i k) = tag_this st i
-hint_for st (asks.NotFixed b) = Some hint.DeclareField
+hint_for st (asks.Seen i k) = tag_part st i
+hint_for st (asks.NotFixed b) = Some (compare_or (is_in_condition st) hint.DeclareField)
 hint_for st (asks.Writable i k) = writable st i
-hint_for st (asks.Enters k) = fitting_hint st 0 (entered_cap (child_form st 1))
+hint_for st (asks.Enters k) = unless_goes_to (fitting_hint st 0 (entered_cap (child_form st 1)))
 hint_for st (asks.Set i) = Some (hint.SetBefore i)
 hint_for st (asks.SetOnce b i) = Some (hint.DeclareOwnField i)
 hint_for st (asks.HasMethod name) = hint_if (has_field st.scene.core (type_entity (child_type st (receiver_child_index st))) name) (hint.CallValue name)
@@ -266,7 +311,7 @@ hint_for st (asks.Function k) = Some hint.CallConstructor
 hint_for st (asks.Sent i k) = Some hint.SendArgument
 hint_for st asks.KeepsLive = Some (hint.ConsumeAfter (lost_slot st))
 hint_for st asks.KeepsSet = Some hint.SetBeforeLoop
-hint_for st (asks.Lifted k) = Some hint.RecoverValue
+hint_for st (asks.Lifted k) = lifted_hint st
 hint_for st (asks.Typed i) = None
 hint_for st (asks.Printable i) = None
 hint_for st (asks.Readable i) = None

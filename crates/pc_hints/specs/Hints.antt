@@ -83,6 +83,10 @@ declare_box name = codes "where " ++ (quoted name ++ (codes " writes nothing, de
 unfoldable pub declare_result : StopData → ℕ → Text
 declare_result st i = codes "declare the result " ++ type_or_none st.scene.core (child_type st i)
 
+unfoldable pub declare_hat : StopData → ℕ → Text → Form → Text
+declare_hat st i name f =
+    codes "declare the result of " ++ (quoted name ++ (codes " " ++ (piece (child_entity st i) ++ (codes " " ++ (form_word f ++ codes ": without `^` a call gives an alias")))))
+
 unfoldable pub use_before : StopData → ℕ → Text
 use_before st k = codes "use it before it is consumed" ++ again (is_var_slot st.scene st.at.method k) (own_slot st k) (codes " again after that")
 
@@ -104,6 +108,9 @@ set_before name = codes "set " ++ (quoted name ++ codes " before this")
 unfoldable pub call_constructor : StopData → Text
 call_constructor st = codes "write `" ++ (method_or_none st.scene.core (node_method st) ++ codes "(..)`")
 
+unfoldable pub consume_end : Text → Text
+consume_end name = codes "let the body end with `consume " ++ (piece name ++ codes "`")
+
 abbrev pub hint_words : StopData → Hint → Text
 hint_words st (hint_of.SayIs i e) = say_is st i e
 hint_words st (hint_of.Consume i own) = consume st i own
@@ -115,6 +122,7 @@ hint_words st hint_of.RecoverObject = codes "make the object in a `recover`: wha
 hint_words st (hint_of.GoesTo f) = goes_to_words f
 hint_words st hint_of.DeclareBox = declare_box (named_member st)
 hint_words st (hint_of.DeclareResult i) = declare_result st i
+hint_words st (hint_of.DeclareHat i name f) = declare_hat st i (name_text st.scene.core name) f
 hint_words st hint_of.Compare = codes "`=` assigns and gives the old value; `==` compares"
 hint_words st hint_of.ToString = codes "`string()` of it is a String"
 hint_words st hint_of.CompareObjects = codes "compare objects with `is` or `isnt`"
@@ -129,12 +137,14 @@ hint_words st (hint_of.CallMethod name) = call_method (name_text st.scene.core n
 hint_words st (hint_of.CallValue name) = call_value (name_text st.scene.core name)
 hint_words st hint_of.TagInRecover = tag_in_recover st
 hint_words st hint_of.TagUntilSet = codes "until all fields are set `this` is a tag"
+hint_words st hint_of.SendMessage = codes "an actor only takes messages from others: call a behaviour of it"
 hint_words st (hint_of.SetBefore i) = set_before (own_field_name st i)
 hint_words st hint_of.CallConstructor = call_constructor st
 hint_words st hint_of.SendArgument = codes "make the argument in a `recover`, or let the parameter be iso, val or tag"
 hint_words st (hint_of.ConsumeAfter k) = consume_after st k
 hint_words st hint_of.SetBeforeLoop = codes "set it before the loop"
 hint_words st hint_of.RecoverValue = codes "write `recover val`, or let the body end with a ref, which is lifted to iso^"
+hint_words st (hint_of.ConsumeEnd k) = consume_end (own_slot st k)
 
 abbrev pub optional_hint_words : StopData → Option Hint → Text
 optional_hint_words st None = []

@@ -17,10 +17,12 @@ abbrev pub promised : Hint → Option Form
 promised (hint.Consume i own) = Some (unalias own)
 promised (hint.ConsumeReceiver i own) = Some (unalias own)
 promised (hint.OldValue i f) = Some f
+promised (hint.DeclareHat i name f) = Some f
 promised (hint.DeclareFunction cap.Ref) = Some form.Ref
 promised (hint.DeclareFunction cap.Val) = Some form.Val
 promised (hint.RecoverNew i) = Some form.IsoE
 promised hint.RecoverObject = Some form.IsoE
+promised (hint.ConsumeEnd k) = Some form.IsoE
 promised h = None
 
 -- If a form does not fit a capability, what the hint promises fits it.

@@ -1,19 +1,24 @@
 -- What a hint looks at.
-use Rattle.std.specs.Prelude.{ℕ, Bool, true, false, ◌&&◌, Option, Some, None, slice_get, if◌then◌else◌}
+use Rattle.std.specs.Prelude.{ℕ, Bool, true, false, ◌&&◌, nat_eq, Option, Some, None, slice_get, if◌then◌else◌}
+use Rattle.std.specs.List.{list_any}
 use Rattle.pc_caps.specs.Tables.{taken}
 use Rattle.pc_caps.specs.declared.capability.Cap.{Cap}
 use Rattle.pc_caps.specs.declared.capability.Cap.TheVariants as cap
 use Rattle.pc_caps.specs.declared.capability.Form.{Form}
 use Rattle.pc_caps.specs.declared.capability.Form.TheVariants as form
+use Rattle.pc_core.specs.CoreData.{CoreData}
+use Rattle.pc_core.specs.declared.declarations.EntityDef.{EntityDef}
 use Rattle.pc_core.specs.declared.declarations.FieldInfo.{FieldInfo}
 use Rattle.pc_core.specs.declared.declarations.Method.{Method}
 use Rattle.pc_core.specs.declared.nodes.Node.{Node}
 use Rattle.pc_core.specs.declared.nodes.NodeKind.{NodeKind}
 use Rattle.pc_core.specs.declared.nodes.NodeKind.TheVariants as node
 use Rattle.pc_lists.specs.Options.{◌>>=◌}
-use Rattle.pc_parts.specs.Members.{field_of_node}
+use Rattle.pc_parts.specs.Members.{field_of_node, node_callee}
 use Rattle.pc_parts.specs.Parts.{child_role, last_value, shown_node}
 use Rattle.pc_rules.specs.Calls.{is_function}
+use Rattle.pc_tree.specs.declared.kinds.EntityKind.{EntityKind}
+use Rattle.pc_tree.specs.declared.kinds.EntityKind.TheVariants as kind
 use Rattle.pc_words.specs.Scene.{child, is_this_kind, noted_slot_type, noted_type}
 use Rattle.pc_sentences.specs.Stop.{StopData, child_form}
 
@@ -64,6 +69,20 @@ shows_this (Some x) = is_this_kind x.kind
 abbrev pub is_tag_this : StopData → ℕ → Bool
 is_tag_this st i = shows_this (child_node st i) && is_tag_form (child_form st i)
 
+-- ---- actors
+
+abbrev pub is_actor_kind : EntityKind → Bool
+is_actor_kind kind.Actor = true
+is_actor_kind k = false
+
+abbrev pub is_of_actor : Option EntityDef → Bool
+is_of_actor None = false
+is_of_actor (Some x) = is_actor_kind x.kind
+
+abbrev pub is_tag_actor : CoreData → Option (ℕ × Form) → Bool
+is_tag_actor core None = false
+is_tag_actor core (Some ty) = is_tag_form ty.1 && is_of_actor (slice_get core.entities ty.0)
+
 -- ---- locals and fields
 
 abbrev pub isolated_cap : Option (ℕ × Cap) → Option Cap
@@ -99,6 +118,30 @@ old_by st x k = None
 unfoldable pub old_form : StopData → Node → Option Form
 old_form st x = old_by st x x.kind
 
+-- ---- results
+
+-- The form of a result that is declared with `^`, for that of one without it.
+abbrev pub hat_form : Form → Option Form
+hat_form form.Iso = Some form.IsoE
+hat_form form.Trn = Some form.TrnE
+hat_form f = None
+
+abbrev pub hat_result : Option Method → Option Form
+hat_result None = None
+hat_result (Some m) = if is_function m.kind then hat_form m.result.1 else None
+
+abbrev pub named_form : ℕ → Option Form → Option (ℕ × Form)
+named_form name None = None
+named_form name (Some f) = Some (name, f)
+
+abbrev pub hat_by : StopData → Node → NodeKind → Option (ℕ × Form)
+hat_by st x (node.Call name) = named_form name (hat_result (node_callee st.scene x name))
+hat_by st x k = None
+
+-- The name of the function that the node calls, and the form of its result with `^`, if its result is an alias.
+unfoldable pub called_hat : StopData → Node → Option (ℕ × Form)
+called_hat st x = hat_by st x x.kind
+
 -- ---- new objects and assignments
 
 abbrev pub is_new_node : NodeKind → Bool
@@ -121,3 +164,55 @@ ends_assigned st (Some c) = node_assigns (slice_get st.scene.core.nodes (last_va
 -- The child ends with an assignment.
 unfoldable pub is_assigned : StopData → ℕ → Bool
 is_assigned st i = ends_assigned st (child st.at i)
+
+-- ---- the end of a `recover`
+
+abbrev pub is_iso_cap : Cap → Bool
+is_iso_cap cap.Iso = true
+is_iso_cap k = false
+
+abbrev pub if_iso : ℕ → Option (ℕ × Cap) → Option ℕ
+if_iso k None = None
+if_iso k (Some ty) = if is_iso_cap ty.1 then Some k else None
+
+abbrev pub iso_slot_by : StopData → Node → NodeKind → Option ℕ
+iso_slot_by st x (node.Local k) = if_iso k (noted_slot_type st.scene x.method k)
+iso_slot_by st x k = None
+
+-- The slot that the node reads, if it is a local of iso.
+unfoldable pub iso_slot : StopData → Node → Option ℕ
+iso_slot st x = iso_slot_by st x x.kind
+
+-- The local of iso with which the first child of a `recover` ends.
+unfoldable pub end_slot : StopData → Node → Option ℕ
+end_slot st x = do
+  c ← child x 0
+  e ← slice_get st.scene.core.nodes (last_value st.scene.core c)
+  iso_slot st e
+
+abbrev pub recovered_by : StopData → Node → NodeKind → Option ℕ
+recovered_by st x (node.Recover k) = end_slot st x
+recovered_by st x k = None
+
+-- The same for any node: none if it is no `recover`.
+unfoldable pub recovered_slot : StopData → Node → Option ℕ
+recovered_slot st x = recovered_by st x x.kind
+
+-- ---- conditions
+
+abbrev pub is_branching : NodeKind → Bool
+is_branching node.If = true
+is_branching node.While = true
+is_branching k = false
+
+abbrev pub ends_with : CoreData → (n : ℕ) → Option ℕ → Bool
+ends_with core n None = false
+ends_with core n (Some c) = nat_eq (last_value core c) n
+
+-- The node is an `if` or a `while`, and its condition ends with node n.
+abbrev pub has_condition : CoreData → (n : ℕ) → Node → Bool
+has_condition core n x = is_branching x.kind && ends_with core n (child x 0)
+
+-- The condition of an `if` or a `while` ends with the node.
+unfoldable pub is_in_condition : StopData → Bool
+is_in_condition st = list_any (has_condition st.scene.core st.number) st.scene.core.nodes

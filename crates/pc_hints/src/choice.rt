@@ -6,9 +6,10 @@ ghost use Rattle.pc_sentences.specs.Sentences.{is_assign as is_assign_is};
 
 use crate::hint::Hint;
 use crate::nodes::{
-    child_node, is_assigned, is_box_this, is_new, is_tag_this, local_cap, old_form,
+    called_hat, child_node, is_assigned, is_box_this, is_in_condition, is_new, is_tag_actor,
+    is_tag_this, local_cap, old_form, recovered_slot,
 };
-use pc_caps::{Cap, Form, below, fits, sendable, unalias};
+use pc_caps::{Cap, Form, below, fits, lift, sendable, unalias};
 use pc_conditions::Condition;
 use pc_core::{Core, Method, MethodKind, Node, NodeKind};
 use pc_parts::{Role, child_role};
@@ -84,12 +85,12 @@ fn consume_if(wanted: Wanted, receiver: bool, index: usize, own: Option<Cap>) ->
     }
 }
 
-// The old value of a `var` field is taken, if it fits.
-fn old_if(index: usize, cap: Cap, old: Option<Form>) -> Option<Hint>
-    ensures { result ≡ spec.old_if index cap old }
+// The old value of a `var` field is taken, if it suits.
+fn old_if(wanted: Wanted, index: usize, old: Option<Form>) -> Option<Hint>
+    ensures { result ≡ spec.old_if wanted index old }
 {
     match old {
-        Some(found) => when(fits(found, cap), Hint::OldValue(index, found)),
+        Some(found) => when(suits(wanted, found), Hint::OldValue(index, found)),
         None => None,
     }
 }
@@ -106,6 +107,75 @@ fn declare_if(own_box: bool, wanted: Wanted) -> Option<Hint>
         when(
             own_box && suits(wanted, Form::Val),
             Hint::DeclareFunction(Cap::Val),
+        ),
+    )
+}
+
+// The result of the function that is called is declared with `^`, if that suits.
+fn hat_if(wanted: Wanted, index: usize, called: Option<(u32, Form)>) -> Option<Hint>
+    ensures { result ≡ spec.hat_if wanted index called }
+{
+    match called {
+        Some(found) => when(
+            suits(wanted, found.1),
+            Hint::DeclareHat(index, found.0, found.1),
+        ),
+        None => None,
+    }
+}
+
+// An iso with which the body of a `recover` ends is consumed.
+fn end_if(end: Option<u32>) -> Option<Hint>
+    ensures { result ≡ spec.end_if end }
+{
+    match end {
+        Some(slot) => Some(Hint::ConsumeEnd(slot)),
+        None => None,
+    }
+}
+
+fn is_constructor(kind: MethodKind) -> bool
+    ensures { result ≡ spec.is_constructor_kind kind }
+{
+    match kind {
+        MethodKind::New | MethodKind::Spawn => true,
+        MethodKind::Fun | MethodKind::Be => false,
+    }
+}
+
+// Why `this` of a method is a tag, if it is not one by declaration.
+fn tag_hint(recovered: bool, method: &Method) -> Option<Hint>
+    ensures { result ≡ spec.tag_hint recovered method.now }
+{
+    if recovered && !sendable(method.receiver) {
+        Some(Hint::TagInRecover)
+    } else {
+        when(is_constructor(method.kind), Hint::TagUntilSet)
+    }
+}
+
+// The hint for a part that is `this`, seen as tag.
+fn tag_this(stop: &Stop, index: usize) -> Option<Hint>
+    ensures { result ≡ spec.tag_this stop.now index }
+{
+    if !is_tag_this(stop, index) {
+        return None;
+    }
+    match stop.core().method_at(stop.node().method) {
+        Some(method) => tag_hint(stop.node().depth > 0, method),
+        None => None,
+    }
+}
+
+// The hint for a part that can do no more than be named: `this`, or another actor.
+fn tag_part(stop: &Stop, index: usize) -> Option<Hint>
+    ensures { result ≡ spec.tag_part stop.now index }
+{
+    or_else(
+        tag_this(stop, index),
+        when(
+            is_tag_actor(stop.core(), stop.child_type(index)),
+            Hint::SendMessage,
         ),
     )
 }
@@ -147,12 +217,13 @@ fn fitting_node(stop: &Stop, index: usize, cap: Cap, node: &Node, form: Form) ->
 {
     let wanted = Wanted::Fits(cap);
     let consumed = consume_if(wanted, false, index, local_cap(stop, node));
-    let old = old_if(index, cap, old_form(stop, node));
+    let old = old_if(wanted, index, old_form(stop, node));
+    let hat = hat_if(wanted, index, called_hat(stop, node));
     let declared = declare_if(is_box_this(stop, node, form), wanted);
-    or_this(
-        consumed,
-        or_this(old, or_this(declared, object_hint(index, node, form, cap))),
-    )
+    let end = end_if(recovered_slot(stop, node));
+    let object = or_this(end, object_hint(index, node, form, cap));
+    let tag = or_this(tag_this(stop, index), object);
+    or_this(consumed, or_this(old, or_this(hat, or_this(declared, tag))))
 }
 
 // What to do about a part whose form does not fit.
@@ -177,50 +248,18 @@ fn is_ref_cap(cap: Cap) -> bool
     matches!(cap, Cap::Ref)
 }
 
-fn is_constructor(kind: MethodKind) -> bool
-    ensures { result ≡ spec.is_constructor_kind kind }
-{
-    match kind {
-        MethodKind::New | MethodKind::Spawn => true,
-        MethodKind::Fun | MethodKind::Be => false,
-    }
-}
-
-// Why `this` of a method is a tag, if it is not one by declaration.
-fn tag_hint(recovered: bool, method: &Method) -> Option<Hint>
-    ensures { result ≡ spec.tag_hint recovered method.now }
-{
-    if recovered && !sendable(method.receiver) {
-        Some(Hint::TagInRecover)
-    } else {
-        when(is_constructor(method.kind), Hint::TagUntilSet)
-    }
-}
-
-// The hint for a part that is `this`, seen as tag.
-fn tag_this(stop: &Stop, index: usize) -> Option<Hint>
-    ensures { result ≡ spec.tag_this stop.now index }
-{
-    if !is_tag_this(stop, index) {
-        return None;
-    }
-    match stop.core().method_at(stop.node().method) {
-        Some(method) => tag_hint(stop.node().depth > 0, method),
-        None => None,
-    }
-}
-
 // What to do about a receiver that shows this node, and whose form does not fit.
 fn receiver_node(stop: &Stop, index: usize, cap: Cap, node: &Node, form: Form) -> Option<Hint>
     ensures { result ≡ spec.receiver_node stop.now index cap node.now form }
 {
     let wanted = Wanted::Fits(cap);
     let consumed = consume_if(wanted, true, index, local_cap(stop, node));
+    let hat = hat_if(wanted, index, called_hat(stop, node));
     let declared = declare_if(is_box_this(stop, node, form), wanted);
     let seen = when(is_seen_form(form) && is_ref_cap(cap), Hint::DeclareBox);
     or_else(
         consumed,
-        or_else(declared, or_else(seen, tag_this(stop, index))),
+        or_else(hat, or_else(declared, or_else(seen, tag_part(stop, index)))),
     )
 }
 
@@ -259,13 +298,25 @@ fn below_node(stop: &Stop, index: usize, upper: Form, node: &Node, form: Form) -
     let wanted = Wanted::Below(upper);
     let declared = declare_if(is_box_this(stop, node, form), wanted);
     let consumed = consume_if(wanted, false, index, local_cap(stop, node));
+    let old = old_if(wanted, index, old_form(stop, node));
+    let hat = hat_if(wanted, index, called_hat(stop, node));
+    let end = end_if(recovered_slot(stop, node));
     let recovered = when(
         is_ref_form(form) && below(Form::IsoE, upper),
         Hint::RecoverObject,
     );
     or_this(
         declared,
-        or_this(consumed, or_this(recovered, Hint::DeclareResult(index))),
+        or_this(
+            consumed,
+            or_this(
+                old,
+                or_this(
+                    hat,
+                    or_this(end, or_this(recovered, Hint::DeclareResult(index))),
+                ),
+            ),
+        ),
     )
 }
 
@@ -294,16 +345,23 @@ fn is_plain(ty: Option<(u32, Form)>) -> bool
     }
 }
 
-fn entity_hint(stop: &Stop, index: usize, other: u32) -> Option<Hint>
-    ensures { result ≡ spec.entity_hint stop.now index other }
+// A number or a truth value where a String is asked for.
+fn string_hint(stop: &Stop, index: usize, entity: u32) -> Option<Hint>
+    ensures { result ≡ spec.string_hint stop.now index entity }
+{
+    when(
+        entity == STRING_ENTITY && is_plain(stop.child_type(index)),
+        Hint::ToString,
+    )
+}
+
+fn entity_hint(stop: &Stop, index: usize, entity: u32) -> Option<Hint>
+    ensures { result ≡ spec.entity_hint stop.now index entity }
 {
     let assigned = is_condition(child_role(stop.node(), index)) && is_assigned(stop, index);
     or_else(
         when(assigned, Hint::Compare),
-        when(
-            other == STRING_ENTITY && is_plain(stop.child_type(index)),
-            Hint::ToString,
-        ),
+        string_hint(stop, index, entity),
     )
 }
 
@@ -335,9 +393,10 @@ fn under(stop: &Stop, index: usize, above: u32) -> Option<Hint>
     ensures { result ≡ spec.under_hint stop.now index above }
 {
     let core = stop.core();
-    when(
-        is_trait(core, above) && says_is(core, stop.child_type(index)),
-        Hint::SayIs(index, above),
+    let said = is_trait(core, above) && says_is(core, stop.child_type(index));
+    or_else(
+        when(said, Hint::SayIs(index, above)),
+        string_hint(stop, index, above),
     )
 }
 
@@ -393,7 +452,7 @@ fn writable(stop: &Stop, index: usize) -> Option<Hint>
 {
     or_else(
         when(shows_box(stop, index), Hint::DeclareFunction(Cap::Ref)),
-        tag_this(stop, index),
+        tag_part(stop, index),
     )
 }
 
@@ -404,6 +463,38 @@ fn entered_cap(origin: Form) -> Cap
         Form::Trn | Form::TrnE => Cap::Trn,
         Form::Iso | Form::IsoE | Form::Ref | Form::Val | Form::Box | Form::Tag => Cap::Iso,
     }
+}
+
+fn is_goes_to(hint: Hint) -> bool
+    ensures { result ≡ spec.is_goes_to hint }
+{
+    matches!(hint, Hint::GoesTo(_))
+}
+
+// The hint, unless it says where else a value can go.
+fn unless_goes_to(hint: Option<Hint>) -> Option<Hint>
+    ensures { result ≡ spec.unless_goes_to hint }
+{
+    match hint {
+        Some(found) => when(!is_goes_to(found), found),
+        None => None,
+    }
+}
+
+fn is_val_form(form: Form) -> bool
+    ensures { result ≡ spec.is_val_form form }
+{
+    matches!(form, Form::Val)
+}
+
+// What to do about the value of a `recover`.
+fn lifted(stop: &Stop) -> Option<Hint>
+    ensures { result ≡ spec.lifted_hint stop.now }
+{
+    or_else(
+        when(is_val_form(lift(stop.child_form(0))), Hint::RecoverValue),
+        end_if(recovered_slot(stop, stop.node())),
+    )
 }
 
 fn is_assign(kind: &NodeKind) -> bool
@@ -432,6 +523,13 @@ fn variable(param: bool, slot: u32) -> Hint
     }
 }
 
+// In a condition, `=` stands where `==` is meant.
+fn compare_or(condition: bool, hint: Hint) -> Hint
+    ensures { result ≡ spec.compare_or condition hint }
+{
+    if condition { Hint::Compare } else { hint }
+}
+
 /// What to do about a condition that does not hold, if there is a hint.
 pub fn chosen(stop: &Stop, condition: Condition) -> Option<Hint>
     ensures { result ≡ spec.hint_for stop.now condition }
@@ -446,9 +544,10 @@ pub fn chosen(stop: &Stop, condition: Condition) -> Option<Hint>
         Condition::Comparable(_) => Some(Hint::CompareObjects),
         Condition::Live(slot) => Some(Hint::UseBefore(slot)),
         Condition::Reached(_) => Some(reached(is_assign(&node.kind))),
-        Condition::Variable(slot) => {
-            Some(variable(stop.scene().is_param(node.method, slot), slot))
-        }
+        Condition::Variable(slot) => Some(compare_or(
+            is_in_condition(stop),
+            variable(stop.scene().is_param(node.method, slot), slot),
+        )),
         Condition::HasField(child, name) => when(
             has_method(core, entity_in(stop.child_type(child)), name),
             Hint::CallMethod(name),
@@ -457,10 +556,12 @@ pub fn chosen(stop: &Stop, condition: Condition) -> Option<Hint>
             has_method(core, entity_by(core, node.method), name),
             Hint::CallMethod(name),
         ),
-        Condition::Seen(child, _) => tag_this(stop, child),
-        Condition::NotFixed(_) => Some(Hint::DeclareField),
+        Condition::Seen(child, _) => tag_part(stop, child),
+        Condition::NotFixed(_) => Some(compare_or(is_in_condition(stop), Hint::DeclareField)),
         Condition::Writable(child, _) => writable(stop, child),
-        Condition::Enters(_) => fitting(stop, 0, entered_cap(stop.child_form(1))),
+        Condition::Enters(_) => {
+            unless_goes_to(fitting(stop, 0, entered_cap(stop.child_form(1))))
+        }
         Condition::Set(field) => Some(Hint::SetBefore(field)),
         Condition::SetOnce(_, field) => Some(Hint::DeclareOwnField(field)),
         Condition::HasMethod(name) => when(
@@ -475,7 +576,7 @@ pub fn chosen(stop: &Stop, condition: Condition) -> Option<Hint>
         Condition::Sent(_, _) => Some(Hint::SendArgument),
         Condition::KeepsLive => Some(Hint::ConsumeAfter(lost_slot(stop))),
         Condition::KeepsSet => Some(Hint::SetBeforeLoop),
-        Condition::Lifted(_) => Some(Hint::RecoverValue),
+        Condition::Lifted(_) => lifted(stop),
         Condition::Typed(_)
         | Condition::Printable(_)
         | Condition::Readable(_)

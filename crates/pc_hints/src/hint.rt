@@ -25,6 +25,8 @@ pub enum Hint {
     DeclareBox,
     /// Declare the result with the type of the child.
     DeclareResult(usize),
+    /// Declare the result of the function with this name, which the child calls, with `^`: it then has this form.
+    DeclareHat(usize, u32, Form),
     /// `=` is not a comparison.
     Compare,
     /// `string()` gives a String.
@@ -53,6 +55,8 @@ pub enum Hint {
     TagInRecover,
     /// Until all fields are set, `this` is a tag.
     TagUntilSet,
+    /// From outside, an actor is only sent messages.
+    SendMessage,
     /// Set the field with this index of the node's own entity first.
     SetBefore(u32),
     /// Call the constructor by its entity.
@@ -65,4 +69,6 @@ pub enum Hint {
     SetBeforeLoop,
     /// Write `recover val`, or let the body end with a ref.
     RecoverValue,
+    /// Consume the slot at the end of the `recover`.
+    ConsumeEnd(u32),
 }

@@ -249,6 +249,26 @@ fn push_declare_result(
     push_type_or_none(alloc, out, stop.core(), stop.child_type(index))
 }
 
+#[tactic(auto, unfolding(crate::specs::Hints::declare_hat))]
+fn push_declare_hat(
+    alloc: Global,
+    out: &mut Vec<u8>,
+    stop: &Stop,
+    index: usize,
+    name: &[u8],
+    form: Form,
+) -> Result<(), AllocError>
+    ensures { OnOk result (out.new.items ≡ out.old.items ++ spec.declare_hat stop.now index name.now form) }
+{
+    push_bytes(out, b"declare the result of ")?;
+    push_quoted(alloc, out, name)?;
+    push_bytes(out, b" ")?;
+    push_piece(alloc, out, stop.child_entity(index))?;
+    push_bytes(out, b" ")?;
+    push_bytes(out, form_word(form))?;
+    push_bytes(out, b": without `^` a call gives an alias")
+}
+
 #[tactic(auto, unfolding(crate::specs::Hints::use_before))]
 fn push_use_before(
     alloc: Global,
@@ -318,6 +338,15 @@ fn push_tag_in_recover(out: &mut Vec<u8>, stop: &Stop) -> Result<(), AllocError>
     push_bytes(out, b" is not sendable")
 }
 
+#[tactic(auto, unfolding(crate::specs::Hints::consume_end))]
+fn push_consume_end(alloc: Global, out: &mut Vec<u8>, name: &[u8]) -> Result<(), AllocError>
+    ensures { OnOk result (out.new.items ≡ out.old.items ++ spec.consume_end name.now) }
+{
+    push_bytes(out, b"let the body end with `consume ")?;
+    push_piece(alloc, out, name)?;
+    push_bytes(out, b"`")
+}
+
 #[tactic(auto, unfolding(crate::specs::Hints::set_before))]
 fn push_set_before(alloc: Global, out: &mut Vec<u8>, name: &[u8]) -> Result<(), AllocError>
     ensures { OnOk result (out.new.items ≡ out.old.items ++ spec.set_before name.now) }
@@ -370,6 +399,9 @@ fn push_words(alloc: Global, out: &mut Vec<u8>, stop: &Stop, hint: Hint) -> Resu
         Hint::GoesTo(form) => push_goes_to(out, form),
         Hint::DeclareBox => push_declare_box(alloc, out, stop.named()),
         Hint::DeclareResult(child) => push_declare_result(alloc, out, stop, child),
+        Hint::DeclareHat(child, name, form) => {
+            push_declare_hat(alloc, out, stop, child, name_text(core, name), form)
+        }
         Hint::Compare => { push_bytes(out, b"`=` assigns and gives the old value; `==` compares") }
         Hint::ToString => push_bytes(out, b"`string()` of it is a String"),
         Hint::CompareObjects => push_bytes(out, b"compare objects with `is` or `isnt`"),
@@ -392,6 +424,10 @@ fn push_words(alloc: Global, out: &mut Vec<u8>, stop: &Stop, hint: Hint) -> Resu
         Hint::CallValue(name) => push_call_value(alloc, out, name_text(core, name)),
         Hint::TagInRecover => push_tag_in_recover(out, stop),
         Hint::TagUntilSet => { push_bytes(out, b"until all fields are set `this` is a tag") }
+        Hint::SendMessage => push_bytes(
+            out,
+            b"an actor only takes messages from others: call a behaviour of it",
+        ),
         Hint::SetBefore(field) => push_set_before(alloc, out, stop.own_field(field)),
         Hint::CallConstructor => push_call_constructor(alloc, out, stop),
         Hint::SendArgument => push_bytes(
@@ -404,6 +440,7 @@ fn push_words(alloc: Global, out: &mut Vec<u8>, stop: &Stop, hint: Hint) -> Resu
             out,
             b"write `recover val`, or let the body end with a ref, which is lifted to iso^",
         ),
+        Hint::ConsumeEnd(slot) => push_consume_end(alloc, out, stop.own_slot(slot)),
     }
 }
 

@@ -1,5 +1,5 @@
 -- Where a child's value goes, and the forms of children in words.
-use Rattle.std.specs.Prelude.{ℕ, Bool, true, false, ◌&&◌, not, [], ◌++◌, Option, Some, None, slice_get, if◌then◌else◌, codes}
+use Rattle.std.specs.Prelude.{ℕ, Bool, true, false, ◌&&◌, not, [], ◌∷◌, ◌++◌, Option, Some, None, slice_get, if◌then◌else◌, codes}
 use Rattle.pc_caps.specs.Tables.{sendable_form}
 use Rattle.pc_caps.specs.declared.capability.Cap.{Cap}
 use Rattle.pc_caps.specs.declared.capability.Form.{Form}
@@ -32,8 +32,13 @@ abbrev pub param_by : SceneData → Option Method → ℕ → Text
 param_by s None i = []
 param_by s (Some m) i = param_text s (slice_get m.params i)
 
+-- A name after a blank, if there is one: the parameters of built-in methods have none.
+unfoldable pub name_after : Text → Text
+name_after [] = []
+name_after (b ∷ bs) = codes " " ++ quoted (b ∷ bs)
+
 abbrev pub param_words : StopData → ℕ → Text
-param_words st i = codes "the parameter " ++ quoted (param_by st.scene (node_method st) i)
+param_words st i = codes "the parameter" ++ name_after (param_by st.scene (node_method st) i)
 
 abbrev pub field_goal : Text → Text
 field_goal name = codes "the field " ++ quoted name

@@ -1,5 +1,5 @@
 -- The sentence of a condition that does not hold.
-use Rattle.std.specs.Prelude.{ℕ, Bool, true, false, [], ◌++◌, Option, Some, None, if◌then◌else◌, codes, decimal}
+use Rattle.std.specs.Prelude.{ℕ, Bool, true, false, ◌==◌, [], ◌++◌, Option, Some, None, if◌then◌else◌, codes, decimal}
 use Rattle.pc_ann.specs.declared.annotation.Rule.{Rule}
 use Rattle.pc_ann.specs.declared.annotation.Rule.TheVariants as rule
 use Rattle.pc_caps.specs.Tables.{lift}
@@ -134,12 +134,18 @@ abbrev pub is_builtin : Rule → Bool
 is_builtin rule.Builtin = true
 is_builtin r = false
 
+abbrev pub given_word : ℕ → Text
+given_word n = if n == 1 then codes " is given" else codes " are given"
+
+abbrev pub arguments_word : ℕ → Text
+arguments_word n = if n == 1 then codes " argument, and " else codes " arguments, and "
+
 abbrev pub builtin_count : ℕ → Text
-builtin_count given = codes "`string` of U64 and Bool takes no arguments, and " ++ (decimal given ++ codes " are given")
+builtin_count given = codes "`string` of U64 and Bool takes no arguments, and " ++ (decimal given ++ given_word given)
 
 abbrev pub argument_count_words : Text → (given wanted : ℕ) → Text
 argument_count_words name given wanted =
-    quoted name ++ (codes " takes " ++ (decimal wanted ++ (codes " arguments, and " ++ (decimal given ++ codes " are given"))))
+    quoted name ++ (codes " takes " ++ (decimal wanted ++ (arguments_word wanted ++ (decimal given ++ given_word given))))
 
 unfoldable pub miscounted : StopData → Rule → (given wanted : ℕ) → Text
 miscounted st r given wanted = if is_builtin r then builtin_count given else argument_count_words (name_or_none st.scene.core (node_method st)) given wanted

@@ -39,6 +39,20 @@ fn param_by<'a>(scene: &Scene<'a>, method: Option<&Method>, index: usize) -> &'a
     }
 }
 
+// Appends a name after a blank, if there is one.
+#[tactic(auto, unfolding(crate::specs::Goals::name_after))]
+fn push_name_after(alloc: Global, out: &mut Vec<u8>, name: &[u8]) -> Result<(), AllocError>
+    ensures { OnOk result (out.new.items ≡ out.old.items ++ spec.name_after name.now) }
+{
+    match name {
+        [] => Ok(()),
+        [_, ..] => {
+            push_bytes(out, b" ")?;
+            push_quoted(alloc, out, name)
+        }
+    }
+}
+
 // Appends the parameter that an argument goes to.
 fn push_parameter(
     alloc: Global,
@@ -48,8 +62,8 @@ fn push_parameter(
 ) -> Result<(), AllocError>
     ensures { OnOk result (out.new.items ≡ out.old.items ++ spec.param_words stop.now index) }
 {
-    push_bytes(out, b"the parameter ")?;
-    push_quoted(alloc, out, param_by(stop.scene(), stop.method(), index))
+    push_bytes(out, b"the parameter")?;
+    push_name_after(alloc, out, param_by(stop.scene(), stop.method(), index))
 }
 
 // Appends the field that a value goes to.

@@ -373,12 +373,32 @@ fn is_builtin(rule: Rule) -> bool
     matches!(rule, Rule::Builtin)
 }
 
+fn given_word(count: usize) -> &'static [u8]
+    ensures { result.now ≡ spec.given_word count }
+{
+    if count == 1 {
+        b" is given"
+    } else {
+        b" are given"
+    }
+}
+
+fn arguments_word(count: usize) -> &'static [u8]
+    ensures { result.now ≡ spec.arguments_word count }
+{
+    if count == 1 {
+        b" argument, and "
+    } else {
+        b" arguments, and "
+    }
+}
+
 fn push_builtin_count(alloc: Global, out: &mut Vec<u8>, given: usize) -> Result<(), AllocError>
     ensures { OnOk result (out.new.items ≡ out.old.items ++ spec.builtin_count given) }
 {
     push_bytes(out, b"`string` of U64 and Bool takes no arguments, and ")?;
     push_number(alloc, out, given as u64)?;
-    push_bytes(out, b" are given")
+    push_bytes(out, given_word(given))
 }
 
 fn push_method_count(
@@ -393,9 +413,9 @@ fn push_method_count(
     push_quoted(alloc, out, name)?;
     push_bytes(out, b" takes ")?;
     push_number(alloc, out, wanted as u64)?;
-    push_bytes(out, b" arguments, and ")?;
+    push_bytes(out, arguments_word(wanted))?;
     push_number(alloc, out, given as u64)?;
-    push_bytes(out, b" are given")
+    push_bytes(out, given_word(given))
 }
 
 #[tactic(auto, unfolding(crate::specs::Sentences::miscounted))]

@@ -38,8 +38,13 @@ method_words x = words_of x.kind x.receiver x.result.1
 abbrev pub param_separator : (first : Bool) → Text
 param_separator first = if first then [] else codes ", "
 
+-- `x: `, if there is a name: the parameters of built-in methods have none.
+unfoldable pub name_before : Text → Text
+name_before [] = []
+name_before (b ∷ bs) = piece (b ∷ bs) ++ codes ": "
+
 abbrev pub declared_param : SceneData → ParamInfo → Text
-declared_param s p = piece (piece_of s.bytes p.span) ++ (codes ": " ++ place_words s.core (p.entity, p.cap))
+declared_param s p = name_before (piece_of s.bytes p.span) ++ place_words s.core (p.entity, p.cap)
 
 abbrev pub one_param : SceneData → (first : Bool) → ParamInfo → Text
 one_param s first p = param_separator first ++ declared_param s p

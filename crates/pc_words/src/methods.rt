@@ -54,6 +54,20 @@ fn between(first: bool) -> &'static [u8]
     if first { b"" } else { b", " }
 }
 
+// Appends a name and a colon, if there is a name.
+#[tactic(auto, unfolding(crate::specs::Methods::name_before))]
+fn push_name_before(alloc: Global, out: &mut Vec<u8>, name: &[u8]) -> Result<(), AllocError>
+    ensures { OnOk result (out.new.items ≡ out.old.items ++ spec.name_before name.now) }
+{
+    match name {
+        [] => Ok(()),
+        [_, ..] => {
+            push_piece(alloc, out, name)?;
+            push_bytes(out, b": ")
+        }
+    }
+}
+
 // Appends a parameter.
 fn push_param(
     alloc: Global,
@@ -63,8 +77,7 @@ fn push_param(
 ) -> Result<(), AllocError>
     ensures { OnOk result (out.new.items ≡ out.old.items ++ spec.declared_param scene.now param) }
 {
-    push_piece(alloc, out, piece_of(scene.bytes(), param.span))?;
-    push_bytes(out, b": ")?;
+    push_name_before(alloc, out, piece_of(scene.bytes(), param.span))?;
     push_place_type(alloc, out, scene.core(), (param.entity, param.cap))
 }
 

@@ -1,0 +1,5 @@
+actor A
+  be take() => None
+actor Main
+  new create(env: Env) =>
+    A.take()
