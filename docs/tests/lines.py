@@ -11,9 +11,9 @@ HEADLINE = [("pc_top", "CoreOf"), ("pc_valid", "Valid"), ("pc_semantics", "Safet
 ISOLATION = [("pc_top", "IsolatedCore")]
 CONTRACT = [
     *(("pc_top", name) for name in ("Asked", "OnOut", "Referee")),
-    *(("pc_refusals", name) for name in ("Answer", "Complete", "Named", "Verdict")),
+    ("pc_refusals", "Verdict"),
     ("pc_args", "Asked"),
-    ("pc_io", "Change"),
+    ("pc_io", "Sink"),
 ]
 
 # The definitions of commands that came after the limits on these counts had been set, by command.
@@ -34,9 +34,9 @@ def files_of(commands):
 
 LATER = files_of(LATER_COMMANDS)
 
-# An import of definitions of a crate: from a file, a file of a folder, or a type of a file. Types that come from the code are
-# `declared`.
-IMPORT = re.compile(r"^use Rattle\.(pc_\w+)\.specs\.(\w+(?:\.\w+)*)", re.MULTILINE)
+# An import of definitions of a crate: of one module, as a whole or names of it, or of names with the ways to them. Types
+# that come from the code are `declared`.
+IMPORT = re.compile(r"^use Rattle\.(pc_\w+)\.specs\.(?:\{([^}]*)\}|(\w+(?:\.\w+)*))", re.MULTILINE)
 
 NOT_WRITTEN = ("declared", "contracts")
 
@@ -50,8 +50,19 @@ def length(files):
     return sum(len(file_of(*it).read_text().splitlines()) for it in files)
 
 
+def filled(files):
+    """How many of the lines of these files are not blank."""
+    return sum(bool(line.strip()) for it in files for line in file_of(*it).read_text().splitlines())
+
+
+def ways_of(text):
+    """The crates and ways of the imports of a text."""
+    for crate, names, way in IMPORT.findall(text):
+        yield from ((crate, it.strip()) for it in (names.split(",") if names else [way]))
+
+
 def imported(crate, way):
-    """The file of definitions to which the way of an import leads. After it the way may go on to a type of that file."""
+    """The file of definitions to which the way of an import leads. After it the way may go on to a type or a name of it."""
     parts = way.split(".")
     ways = ["/".join(parts[:count]) for count in range(len(parts), 0, -1)]
     return crate, next((it for it in ways if file_of(crate, it).exists()), ways[0])
@@ -64,7 +75,7 @@ def imports(starts, leave_out=(), without=()):
         one = left.pop()
         if one not in seen and one not in without:
             seen.add(one)
-            ways = IMPORT.findall(file_of(*one).read_text())
+            ways = ways_of(file_of(*one).read_text())
             uses = [imported(*it) for it in ways if it[1].split(".")[0] not in NOT_WRITTEN]
             left += [it for it in uses if it[0] not in leave_out]
     return seen

@@ -104,6 +104,7 @@ def look_at_lines(found, results):
     readme = next(it for it in found if it.name == "README.md")
     counted = [lines.length(it) for it in (wanted, isolated, whole, earlier)]
     counted += [lines.length_of_text(it) for it in (wanted, earlier, whole)]
+    counted += [lines.filled(it) for it in (wanted, earlier)]
     for where, counts in ((page, counted), (readme, [lines.length_of_text(it) for it in (isolated, whole)])):
         text = re.sub(r"\s+", " ", where.text())
         for one in map(about, counts):

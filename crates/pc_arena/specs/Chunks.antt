@@ -1,7 +1,6 @@
 -- The invariant inside a chunk.
 use Rattle.std.specs.Prelude.{◌≡◌, ℕ}
-use Rattle.pc_arena.specs.declared.row.Row.{Row}
-use Rattle.pc_arena.specs.Ownership.{row_size}
+use Rattle.pc_arena.specs.{declared.row.Row.Row, Ownership.row_size}
 
 abbrev pub chunk_size : ℕ
 chunk_size = row_size

@@ -5,9 +5,8 @@ use Rattle.clap.specs.Simple.{App, Shape, argument_words, built, entered, label_
 use Rattle.clap.specs.Walk.{answers_to, stop_after}
 use Rattle.clap.specs.Words.{Row, fault_of, subcommand_of, takes}
 use Rattle.clap.proofs.OnLiterals.{clap_on_literals}
-use Rattle.pc_lists.specs.Texts.{Text}
-use Rattle.pc_args.specs.Asked.{Asked, check, command_of, events, explain, has_fault, is_refused, judge, make, asked_by_name, outcomes, places, play, run}
-use Rattle.pc_args.specs.Asked.{schedule_of, sends, show, swap, trace, upgrade}
+use Rattle.pc_lists.specs.Lists.{Text}
+use Rattle.pc_args.specs.Asked.{Asked, check, command_of, events, explain, has_fault, is_refused, judge, make, asked_by_name, outcomes, places, play, run, schedule_of, sends, show, swap, trace, upgrade}
 use Rattle.pc_args.specs.Forms.{AskFor, WrittenFormsAreTaken, check_words, events_words, explain_words, is_plain, judge_words, make_words, outcomes_words, places_words, play_words, run_words, schedule_words, sends_words, show_words, swap_words, trace_words, upgrade_words}
 use Rattle.pc_args.specs.Line.{rcap}
 use Rattle.std.proofs.lemmas.Bool.{not-true}

@@ -1,13 +1,9 @@
 -- What the words of a command line ask for.
 use Rattle.std.specs.Prelude.{List, [], ◌∷◌, Bool, true, false, not, ◌&&◌, Option, Some, None, map, codes, if◌then◌else◌, option_and_then, unwrap_or}
-use Rattle.std.specs.Str.{bytes_eq}
-use Rattle.std.specs.Borrow.{Bor}
-use Rattle.clap.specs.Kinds.{Kinds}
-use Rattle.clap.specs.Words.{Row, fault_of, first_of, subcommand_of, takes}
-use Rattle.pc_lists.specs.Texts.{Text}
-use Rattle.pc_args.specs.Line.{rcap}
-use Rattle.pc_args.specs.declared.words.Command.{Command}
-use Rattle.pc_args.specs.declared.words.Command.TheVariants.{Check, Judge, Run, Show, Make, Swap, Trace, Sends, Upgrade, Schedule, Play, Outcomes, Places, Events, Explain}
+use Rattle.std.specs.{Str.bytes_eq, Borrow.Bor}
+use Rattle.clap.specs.{Kinds.Kinds, Words.Row, Words.fault_of, Words.first_of, Words.subcommand_of, Words.takes}
+use Rattle.pc_lists.specs.Lists.{Text}
+use Rattle.pc_args.specs.{Line.rcap, declared.words.Command.Command, declared.words.Command.TheVariants.Check, declared.words.Command.TheVariants.Judge, declared.words.Command.TheVariants.Run, declared.words.Command.TheVariants.Show, declared.words.Command.TheVariants.Make, declared.words.Command.TheVariants.Swap, declared.words.Command.TheVariants.Trace, declared.words.Command.TheVariants.Sends, declared.words.Command.TheVariants.Upgrade, declared.words.Command.TheVariants.Schedule, declared.words.Command.TheVariants.Play, declared.words.Command.TheVariants.Outcomes, declared.words.Command.TheVariants.Places, declared.words.Command.TheVariants.Events, declared.words.Command.TheVariants.Explain}
 
 -- the words, as their bytes
 abbrev pub texts : List (Bor Text) → List Text

@@ -2,5 +2,4 @@ pub mod Asked
 pub mod Forms
 pub mod Line
 pub mod ReadingEnds
-pub mod Numbers
 pub mod Refused

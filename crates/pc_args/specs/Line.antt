@@ -1,7 +1,7 @@
 -- The command line of the program, in clap's terms: a required subcommand, with required arguments of one value each.
-use Rattle.std.specs.Prelude.{List, [], ◌∷◌, true, codes}
-use Rattle.clap.specs.Simple.{on_top}
-use Rattle.clap.specs.Words.{App, Rule, Text, new_app, new_rule, with_rule, with_subcommand}
+use Rattle.std.specs.Prelude.{List, [], ◌∷◌, true, codes, ℕ, ◌≡◌, ◌≤◌, ◌<◌, ◌^◌, length, Option, Some, None}
+use Rattle.std.specs.Str.Parse.{IsNumeral, digits_value}
+use Rattle.clap.specs.{Simple.on_top, Words.App, Words.Rule, Words.Text, Words.new_app, Words.new_rule, Words.with_rule, Words.with_subcommand}
 
 abbrev pub positional : Text → Rule
 positional id = record (new_rule id) { required = true }
@@ -82,3 +82,22 @@ with_all line (leaf ∷ leaves) = with_all (with_subcommand line leaf.top) leave
 
 abbrev pub rcap : App
 rcap = with_all bare subcommands
+
+-- ---- numbers among the words, as texts spell them
+
+-- One to n decimal digits, and the number that they denote. There may be leading zeros.
+abbrev pub IsNumber : ℕ → List ℕ → ℕ → Type 0
+IsNumber most text n = (length text ≤ most) × IsNumeral 10 text × (n ≡ digits_value 10 text)
+
+-- One to twenty digits, and a number below 2^64.
+abbrev pub IsSeed : List ℕ → ℕ → Type 0
+IsSeed text n = IsNumber 20 text n × (n < 2 ^ 64)
+
+-- One to three digits, and a number from 1 to 900.
+abbrev pub IsSize : List ℕ → ℕ → Type 0
+IsSize text n = IsNumber 3 text n × (1 ≤ n) × (n ≤ 900)
+
+-- A number with this property, or none if there is no such number.
+abbrev pub Reads : (ℕ → Type 0) → Option ℕ → Type 0
+Reads Is None = (n : ℕ) → Is n → ⊥
+Reads Is (Some n) = Is n

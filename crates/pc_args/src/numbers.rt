@@ -1,6 +1,6 @@
 //! Numbers among the words, read from texts.
 ghost use Rattle.std.specs.Prelude.{◌<◌, ◌^◌};
-ghost use Rattle.pc_args.specs.Numbers.{IsNumber, IsSeed, IsSize, Reads};
+ghost use Rattle.pc_args.specs.Line.{IsNumber, IsSeed, IsSize, Reads};
 
 /// The greatest number of digits of a seed.
 const SEED_DIGITS: usize = 20;

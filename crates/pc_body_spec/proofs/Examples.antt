@@ -1,6 +1,6 @@
 -- The small bodies, computed.
 use Rattle.std.proofs.Common.{refl}
-use Rattle.pc_body_spec.specs.Roses.{push}
+use Rattle.pc_body_spec.specs.Fold.{push}
 use Rattle.pc_body_spec.specs.Example.{FirstStands, SecondStands, ThirdStands}
 
 pub first_stands : FirstStands

@@ -8,9 +8,10 @@ use Rattle.pc_lists.proofs.Gets.{get_front, get_push, get_behind, get_below, app
 use Rattle.pc_core.specs.declared.nodes.Node.{Node}
 use Rattle.pc_core.specs.declared.nodes.NodeKind.{NodeKind}
 use Rattle.pc_core.specs.declared.nodes.NodeKind.TheVariants as node
-use Rattle.pc_lists.specs.Places.{Has, IsIn}
+use Rattle.pc_lists.specs.Lists.{Has, IsIn}
 use Rattle.pc_core.specs.Methods.{UsesSlot}
-use Rattle.pc_body_spec.specs.Roses.{Rose, Roses, rose, more, no_roses, and_then, put, puts, push, node_of}
+use Rattle.pc_body_spec.specs.Bodies.{Rose, Roses, rose, more, no_roses, node_of}
+use Rattle.pc_body_spec.specs.Fold.{and_then, put, puts, push}
 use Rattle.pc_body_spec.specs.Visibility.{AsksVisible, ItemAsks, Scoped, AllScoped, ItemsScoped}
 use Rattle.pc_body_spec.specs.Laws.{IsItem, IsDefined, LocalsAreDefined}
 use Rattle.pc_body_spec.proofs.PostOrders.{Parts, parts, Pushed, pushed, AllStand, posts}

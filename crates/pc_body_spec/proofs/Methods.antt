@@ -7,8 +7,8 @@ use Rattle.pc_caps.specs.declared.span.Span.{Span}
 use Rattle.pc_lists.proofs.Gets.{get_within}
 use Rattle.pc_tree.specs.declared.written_names.Name.{Name}
 use Rattle.pc_core.specs.declared.nodes.Node.{Node}
-use Rattle.pc_body_spec.specs.Roses.{Rose, Numbered, put}
-use Rattle.pc_body_spec.specs.Bodies.{body_of, added_body}
+use Rattle.pc_body_spec.specs.Bodies.{Rose, body_of, added_body}
+use Rattle.pc_body_spec.specs.Fold.{Numbered, put}
 use Rattle.pc_body_spec.specs.Faults.{BodyNameFault, body_faults, initial_faults}
 use Rattle.pc_body_spec.specs.Slots.{initial_locals}
 use Rattle.pc_body_spec.specs.Methods.{MethodOutcome, slot_names, local_names, unless_fault, unless_name, unless_full, numbered_or_full, put_body}

@@ -10,9 +10,10 @@ use Rattle.pc_lists.proofs.Gets.{get_front, get_push, get_behind, get_below, app
 use Rattle.pc_core.specs.declared.nodes.Node.{Node}
 use Rattle.pc_core.specs.declared.nodes.NodeKind.{NodeKind}
 use Rattle.pc_core.specs.declared.nodes.NodeKind.TheVariants as node
-use Rattle.pc_lists.specs.Places.{Each}
+use Rattle.pc_lists.specs.Lists.{Each}
 use Rattle.pc_core.specs.Nodes.{HasArity, inner_depth}
-use Rattle.pc_body_spec.specs.Roses.{Rose, Roses, rose, more, no_roses, and_then, put, puts, push, node_of}
+use Rattle.pc_body_spec.specs.Bodies.{Rose, Roses, rose, more, no_roses, node_of}
+use Rattle.pc_body_spec.specs.Fold.{and_then, put, puts, push}
 use Rattle.pc_body_spec.specs.Scopes.{deeper}
 use Rattle.pc_body_spec.specs.Shapes.{count, depth_inside, Shaped, AllShaped}
 use Rattle.pc_body_spec.specs.Meanings.{Every, EveryOf}

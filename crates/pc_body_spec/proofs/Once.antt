@@ -11,10 +11,9 @@ use Rattle.pc_core.specs.declared.nodes.Node.{Node}
 use Rattle.pc_core.specs.declared.nodes.NodeKind.{NodeKind}
 use Rattle.pc_core.specs.declared.nodes.NodeKind.TheVariants as node
 use Rattle.pc_lists.proofs.Gets.{append_get, get_append}
-use Rattle.pc_body_spec.specs.Roses.{Rose, Roses, rose, more, no_roses, one, and_last, and_then, put, puts, push, node_of}
+use Rattle.pc_body_spec.specs.Bodies.{Rose, Roses, rose, more, no_roses, one, and_last, node_of, roses_of_items, added_none, initial_of, initials_then, initial_fields, gives_none, none_last, body_with, maybe_body, added_body}
+use Rattle.pc_body_spec.specs.Fold.{and_then, put, puts, push}
 use Rattle.pc_body_spec.specs.Scopes.{Context, slot_at, params_scope}
-use Rattle.pc_body_spec.specs.Expressions.{roses_of_items, added_none}
-use Rattle.pc_body_spec.specs.Bodies.{initial_of, initials_then, initial_fields, gives_none, none_last, body_with, maybe_body, added_body}
 use Rattle.pc_body_spec.specs.Faults.{value_faults, initial_faults, written_body_faults}
 use Rattle.pc_body_spec.specs.Slots.{Local, value_locals, initial_locals, body_locals, method_locals, placed_from}
 use Rattle.pc_body_spec.specs.Places.{body_places, initial_places, local_start}

@@ -7,11 +7,12 @@ use Rattle.std.proofs.lemmas.Option.{same_Some, none-some}
 use Rattle.pc_caps.specs.declared.span.Span.{Span}
 use Rattle.pc_core.specs.declared.nodes.Node.{Node}
 use Rattle.pc_core.specs.declared.nodes.NodeKind.{NodeKind}
-use Rattle.pc_lists.specs.Places.{Each}
+use Rattle.pc_lists.specs.Lists.{Each}
 use Rattle.pc_core.specs.Methods.{PostOrder}
 use Rattle.pc_core.specs.Growing.{post_order_push}
 use Rattle.pc_lists.proofs.Gets.{append_get}
-use Rattle.pc_body_spec.specs.Roses.{Rose, Roses, rose, more, no_roses, Numbered, and_then, put, puts, push, node_of}
+use Rattle.pc_body_spec.specs.Bodies.{Rose, Roses, rose, more, no_roses, node_of}
+use Rattle.pc_body_spec.specs.Fold.{Numbered, and_then, put, puts, push}
 use Rattle.pc_caps.specs.Limits.{node_limit}
 use Rattle.pc_body_spec.specs.Laws.{WasPut, IsPostOrder}
 

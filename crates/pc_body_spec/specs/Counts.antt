@@ -1,12 +1,9 @@
 -- How often locals are defined.
 use Rattle.std.specs.Prelude.{ℕ, ◌+◌, Bool, List, [], ◌∷◌, nat_eq, ◌&&◌}
 use Rattle.pc_core.specs.declared.nodes.NodeKind.{NodeKind}
-use Rattle.pc_core.specs.declared.nodes.NodeKind.TheVariants as node
-use Rattle.pc_body_spec.specs.Roses.{Rose, Roses, rose, more, no_roses}
-use Rattle.pc_body_spec.specs.Scopes.{Context, slot_at}
-use Rattle.pc_body_spec.specs.Slots.{Local}
-use Rattle.pc_body_spec.specs.Places.{local_start}
+use Rattle.pc_body_spec.specs.{Bodies.Rose, Bodies.Roses, Bodies.rose, Bodies.more, Bodies.no_roses, Scopes.Context, Scopes.slot_at, Slots.Local, Places.local_start}
 use Rattle.pc_lists.specs.Counts.{one_if}
+use Rattle.pc_core.specs.declared.nodes.NodeKind.TheVariants as node
 
 -- A kind and depth count if they are those of a definition whose slot and depth pass a test.
 abbrev pub kind_times : (ℕ → ℕ → Bool) → NodeKind → ℕ → ℕ

@@ -1,22 +1,16 @@
 -- Three small bodies with all their nodes, written out by hand.
 use Rattle.std.specs.Prelude.{map, ◌≡◌, ℕ, List, [], ◌∷◌, true, false, Some, None, codes}
 use Rattle.pc_caps.specs.declared.span.Span.{Span}
+use Rattle.pc_tree.specs.{declared.written_names.Name.Name, declared.written_names.TypeRef.TypeRef, Kinds.none_entity}
+use Rattle.pc_core.specs.declared.nodes.Node.{Node}
+use Rattle.pc_body_spec.specs.{Fold.put, Fold.local_slot, Bodies.node_of, Bodies.body_with, Scopes.Context, Scopes.KnownEntity, Scopes.Constructor, Scopes.PlacedLocal, Faults.body_faults, Slots.slots_of, Slots.method_locals}
 use Rattle.pc_caps.specs.declared.capability.Cap.TheVariants as cap
 use Rattle.pc_tree.specs.declared.kinds.EntityKind.TheVariants as kind
 use Rattle.pc_tree.specs.declared.kinds.MethodWord.TheVariants as word
 use Rattle.pc_tree.specs.declared.kinds.Op.TheVariants as op
-use Rattle.pc_tree.specs.declared.written_names.Name.{Name}
-use Rattle.pc_tree.specs.declared.written_names.TypeRef.{TypeRef}
 use Rattle.pc_tree.specs.Tree as t
-use Rattle.pc_tree.specs.BuiltIn.{none_entity}
 use Rattle.pc_core.specs.declared.nodes.SlotKind.TheVariants as slot
-use Rattle.pc_core.specs.declared.nodes.Node.{Node}
 use Rattle.pc_core.specs.declared.nodes.NodeKind.TheVariants as node
-use Rattle.pc_body_spec.specs.Roses.{put, node_of}
-use Rattle.pc_body_spec.specs.Scopes.{Context, KnownEntity, Constructor, PlacedLocal}
-use Rattle.pc_body_spec.specs.Bodies.{body_with}
-use Rattle.pc_body_spec.specs.Faults.{body_faults}
-use Rattle.pc_body_spec.specs.Slots.{slots_of, method_locals, local_slot}
 
 abbrev at : (from to : ℕ) → Span
 at a b = record { start = a; end = b }

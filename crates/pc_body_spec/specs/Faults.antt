@@ -1,15 +1,10 @@
 -- The faults of the names and texts of a body, in the order of the text.
 use Rattle.std.specs.Prelude.{ℕ, Bool, true, false, List, [], ◌∷◌, ◌++◌, length, Option, Some, None, if◌then◌else◌, nat_lt}
 use Rattle.std.specs.Str.{bytes_eq}
-use Rattle.pc_caps.specs.declared.span.Span.{Span}
-use Rattle.pc_caps.specs.Limits.{text_limit}
-use Rattle.pc_tree.specs.declared.written_names.Name.{Name}
-use Rattle.pc_tree.specs.declared.written_names.TypeRef.{TypeRef}
+use Rattle.pc_caps.specs.{declared.span.Span.Span, Limits.text_limit}
+use Rattle.pc_tree.specs.{declared.written_names.Name.Name, declared.written_names.TypeRef.TypeRef}
+use Rattle.pc_body_spec.specs.{Scopes.Context, Scopes.Scope, Scopes.KnownEntity, Scopes.Constructor, Scopes.Meaning, Scopes.local, Scopes.field, Scopes.TypeMeaning, Scopes.primitive, Scopes.created, Scopes.no_value, Scopes.slot_named, Scopes.resolve, Scopes.type_meaning, Scopes.constructor_named, Scopes.scope_after, Scopes.params_scope, Bodies.Start, Bodies.with_method, Bodies.with_type, Bodies.with_value, Bodies.chain_start, Bodies.create_name, Bodies.initial_fields}
 use Rattle.pc_tree.specs.Tree as t
-use Rattle.pc_body_spec.specs.Scopes.{Context, Scope, KnownEntity, Constructor, Meaning, local, field, TypeMeaning, primitive, created, no_value, slot_named}
-use Rattle.pc_body_spec.specs.Scopes.{resolve, type_meaning, constructor_named, scope_after, params_scope}
-use Rattle.pc_body_spec.specs.Expressions.{Start, with_method, with_type, with_value, chain_start, create_name}
-use Rattle.pc_body_spec.specs.Bodies.{initial_fields}
 
 pub data BodyNameFault : Type 0 where
   -- a name that is not defined

@@ -1,27 +1,12 @@
 -- Laws of the definitions.
 use Rattle.std.specs.Prelude.{◌≡◌, ◌⊎◌, ℕ, Bool, ◌+◌, ◌<◌, ◌≤◌, List, [], ◌∷◌, ◌++◌, length, Some, Ok, slice_get}
-use Rattle.pc_core.specs.declared.nodes.Node.{Node}
-use Rattle.pc_lists.specs.Places.{Each, Has, Ascends, IsIn}
-use Rattle.pc_core.specs.Methods.{PostOrder, UsesSlot}
-use Rattle.pc_core.specs.declared.nodes.NodeKind.TheVariants as node
-use Rattle.pc_caps.specs.declared.span.Span.{Span}
-use Rattle.pc_core.specs.Nodes.{HasArity, inner_depth}
-use Rattle.pc_caps.specs.declared.capability.Cap.{Cap}
+use Rattle.pc_core.specs.{declared.nodes.Node.Node, Methods.PostOrder, Methods.UsesSlot, Nodes.HasArity, Nodes.inner_depth}
+use Rattle.pc_lists.specs.Lists.{Each, Has, Ascends, IsIn}
+use Rattle.pc_caps.specs.{declared.span.Span.Span, declared.capability.Cap.Cap, Limits.node_limit, Limits.slot_limit}
 use Rattle.pc_tree.specs.declared.written_names.TypeRef.{TypeRef}
+use Rattle.pc_body_spec.specs.{Bodies.Rose, Bodies.expr_of, Bodies.body_of, Bodies.added_body, Fold.put, Fold.written_of, Scopes.Context, Scopes.Scope, Scopes.params_scope, Scopes.slot_at, Shapes.Shaped, Visibility.Scoped, Visibility.slots, Methods.slot_names, Methods.local_names, Methods.method_of, Methods.added_of, Slots.Local, Slots.locals_of, Slots.initial_locals, Slots.method_locals, Slots.slots_of, Slots.added_slots, Counts.times, Counts.local_times, Places.body_places, Places.initial_places, Places.fault_start, Places.local_start, Faults.BodyNameFault, Faults.faults_of, Faults.written_faults, Faults.body_faults, Faults.initial_faults, Meanings.Every, Meanings.NamesWhatIsThere}
+use Rattle.pc_core.specs.declared.nodes.NodeKind.TheVariants as node
 use Rattle.pc_tree.specs.Tree as t
-use Rattle.pc_body_spec.specs.Roses.{Rose, put}
-use Rattle.pc_caps.specs.Limits.{node_limit, slot_limit}
-use Rattle.pc_body_spec.specs.Scopes.{Context, Scope, params_scope, slot_at}
-use Rattle.pc_body_spec.specs.Expressions.{expr_of}
-use Rattle.pc_body_spec.specs.Shapes.{Shaped}
-use Rattle.pc_body_spec.specs.Visibility.{Scoped, slots}
-use Rattle.pc_body_spec.specs.Bodies.{body_of, added_body}
-use Rattle.pc_body_spec.specs.Methods.{slot_names, local_names, method_of, added_of}
-use Rattle.pc_body_spec.specs.Slots.{Local, locals_of, initial_locals, method_locals, slots_of, added_slots, written_of}
-use Rattle.pc_body_spec.specs.Counts.{times, local_times}
-use Rattle.pc_body_spec.specs.Places.{body_places, initial_places, fault_start, local_start}
-use Rattle.pc_body_spec.specs.Faults.{BodyNameFault, faults_of, written_faults, body_faults, initial_faults}
-use Rattle.pc_body_spec.specs.Meanings.{Every, NamesWhatIsThere}
 
 -- The result of appending a rose of method m to some nodes: `own` are its nodes, and n is the last of them.
 pub record WasPut (m n : ℕ) (before after : List Node) : Type 0 where

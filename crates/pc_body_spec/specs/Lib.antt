@@ -1,7 +1,5 @@
 pub mod Texts
-pub mod Roses
 pub mod Scopes
-pub mod Expressions
 pub mod Bodies
 pub mod Faults
 pub mod Slots
@@ -13,3 +11,4 @@ pub mod Visibility
 pub mod Meanings
 pub mod Laws
 pub mod Example
+pub mod Fold

@@ -1,14 +1,11 @@
 -- The numbers in a rose refer to something that exists.
 use Rattle.std.specs.Prelude.{◌≡◌, ◌⊎◌, ℕ, ◌<◌, ◌≤◌, true, length, Some, slice_get}
-use Rattle.pc_tree.specs.declared.kinds.EntityKind.{EntityKind}
+use Rattle.pc_tree.specs.{declared.kinds.EntityKind.EntityKind, Kinds.none_entity, Kinds.first_own}
+use Rattle.pc_core.specs.{declared.nodes.NodeKind.NodeKind, Nodes.is_binary}
+use Rattle.pc_lists.specs.Lists.{Has}
+use Rattle.pc_body_spec.specs.{Bodies.Rose, Bodies.Roses, Bodies.rose, Bodies.more, Bodies.no_roses, Scopes.Context, Scopes.KnownEntity, Scopes.Constructor}
 use Rattle.pc_tree.specs.declared.kinds.EntityKind.TheVariants as kind
-use Rattle.pc_tree.specs.BuiltIn.{none_entity, first_own}
-use Rattle.pc_core.specs.declared.nodes.NodeKind.{NodeKind}
 use Rattle.pc_core.specs.declared.nodes.NodeKind.TheVariants as node
-use Rattle.pc_lists.specs.Places.{Has}
-use Rattle.pc_core.specs.Nodes.{is_binary}
-use Rattle.pc_body_spec.specs.Roses.{Rose, Roses, rose, more, no_roses}
-use Rattle.pc_body_spec.specs.Scopes.{Context, KnownEntity, Constructor}
 
 -- Each node of a rose has this property.
 abbrev mutual

@@ -1,10 +1,8 @@
 -- The places at which a body can have faults and locals, in the order of the text.
 use Rattle.std.specs.Prelude.{ℕ, List, [], ◌∷◌, ◌++◌, Option, Some, None}
 use Rattle.pc_tree.specs.declared.written_names.TypeRef.{TypeRef}
+use Rattle.pc_body_spec.specs.{Bodies.initial_fields, Faults.BodyNameFault, Faults.unknown, Faults.double, Faults.long_text, Slots.Local}
 use Rattle.pc_tree.specs.Tree as t
-use Rattle.pc_body_spec.specs.Bodies.{initial_fields}
-use Rattle.pc_body_spec.specs.Faults.{BodyNameFault, unknown, double, long_text}
-use Rattle.pc_body_spec.specs.Slots.{Local}
 
 -- The places of names, type names and texts.
 abbrev pub written_places : Option TypeRef → List ℕ

@@ -1,10 +1,8 @@
 -- How many children a rose has, and their depths.
 use Rattle.std.specs.Prelude.{◌≡◌, ℕ, suc}
-use Rattle.pc_core.specs.declared.nodes.NodeKind.{NodeKind}
+use Rattle.pc_core.specs.{declared.nodes.NodeKind.NodeKind, Nodes.HasArity}
+use Rattle.pc_body_spec.specs.{Bodies.Rose, Bodies.Roses, Bodies.rose, Bodies.more, Bodies.no_roses, Scopes.deeper}
 use Rattle.pc_core.specs.declared.nodes.NodeKind.TheVariants as node
-use Rattle.pc_core.specs.Nodes.{HasArity}
-use Rattle.pc_body_spec.specs.Roses.{Rose, Roses, rose, more, no_roses}
-use Rattle.pc_body_spec.specs.Scopes.{deeper}
 
 abbrev pub count : Roses → ℕ
 count no_roses = 0

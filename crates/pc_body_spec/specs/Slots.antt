@@ -1,15 +1,11 @@
 -- The locals of a body, in the order in which their names are in the text, and their slots.
-use Rattle.std.specs.Prelude.{ℕ, suc, ◌+◌, Bool, true, false, List, [], ◌∷◌, ◌++◌, length, Option, Some, None, if◌then◌else◌}
-use Rattle.std.specs.Str.{bytes_eq}
+use Rattle.std.specs.Prelude.{ℕ, suc, ◌+◌, Bool, true, false, List, [], ◌∷◌, ◌++◌, length, Option, Some, None}
 use Rattle.pc_caps.specs.declared.capability.Cap.{Cap}
-use Rattle.pc_tree.specs.declared.written_names.Name.{Name}
-use Rattle.pc_tree.specs.declared.written_names.TypeRef.{TypeRef}
+use Rattle.pc_tree.specs.{declared.written_names.Name.Name, declared.written_names.TypeRef.TypeRef}
+use Rattle.pc_core.specs.{declared.nodes.Slot.Slot, declared.nodes.SlotKind.SlotKind}
+use Rattle.pc_body_spec.specs.{Scopes.PlacedLocal, Scopes.deeper, Bodies.initial_fields}
 use Rattle.pc_tree.specs.Tree as t
-use Rattle.pc_core.specs.declared.nodes.Slot.{Slot}
-use Rattle.pc_core.specs.declared.nodes.SlotKind.{SlotKind}
 use Rattle.pc_core.specs.declared.nodes.SlotKind.TheVariants as slot
-use Rattle.pc_body_spec.specs.Scopes.{Context, KnownEntity, PlacedLocal, deeper}
-use Rattle.pc_body_spec.specs.Bodies.{initial_fields}
 
 -- A local at its definition.
 pub record Local : Type 0 where
@@ -109,19 +105,6 @@ abbrev pub cap_or : Option Cap → Cap → Cap
 cap_or (Some k) own = k
 cap_or None own = own
 
--- The type with this name among entities whose numbers start with this one.
-abbrev pub type_of_name : ℕ → List KnownEntity → TypeRef → Option (ℕ × Cap)
-type_of_name at [] ty = None
-type_of_name at (x ∷ xs) ty = if bytes_eq x.name ty.name.text then Some (at, cap_or ty.cap x.cap) else type_of_name (suc at) xs ty
-
-abbrev pub written_of : Context → Option TypeRef → Option (ℕ × Cap)
-written_of c None = None
-written_of c (Some ty) = type_of_name 0 c.entities ty
-
 abbrev pub local_kind : Bool → SlotKind
 local_kind true = slot.Let
 local_kind false = slot.Var
-
--- The slot of a local of method m.
-abbrev pub local_slot : Context → ℕ → Local → Slot
-local_slot c m l = record { method = m; kind = local_kind l.fixed; depth = l.depth; written = written_of c l.ty }

@@ -1,10 +1,9 @@
 -- Which locals a rose may refer to: those defined before it in the sequences around it.
 use Rattle.std.specs.Prelude.{ℕ, List, [], ◌∷◌, ◌++◌, map}
 use Rattle.pc_core.specs.declared.nodes.NodeKind.{NodeKind}
+use Rattle.pc_body_spec.specs.{Bodies.Rose, Bodies.Roses, Bodies.rose, Bodies.more, Bodies.no_roses, Scopes.Scope}
+use Rattle.pc_lists.specs.Lists.{IsIn}
 use Rattle.pc_core.specs.declared.nodes.NodeKind.TheVariants as node
-use Rattle.pc_body_spec.specs.Roses.{Rose, Roses, rose, more, no_roses}
-use Rattle.pc_body_spec.specs.Scopes.{Scope}
-use Rattle.pc_lists.specs.Places.{IsIn}
 
 -- The requirement for a node of this kind: `all` says that its children refer only to what is visible, and `items` that
 -- they do so as the items of a sequence. A definition may only be such an item.

@@ -2,7 +2,7 @@
 ghost use Rattle.std.specs.Prelude.{◌∷◌, [], length, nat_lt, if◌then◌else◌};
 ghost use Rattle.pc_caps.specs.Limits.{text_limit};
 ghost use Rattle.pc_body_spec.specs.Scopes.{constructor_named as constructor_in, resolve, slot_named as slot_in, type_meaning};
-ghost use Rattle.pc_body_spec.specs.Expressions.{create_name};
+ghost use Rattle.pc_body_spec.specs.Bodies.{create_name};
 ghost use Rattle.pc_body_spec.specs.Faults as spec;
 ghost use Rattle.pc_body_walks.specs.Checking.{TellsFirstBodyFault};
 

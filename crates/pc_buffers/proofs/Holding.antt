@@ -2,7 +2,7 @@
 use Rattle.std.proofs.Common.{◌∙◌, List}
 use Rattle.std.specs.Prelude.{codes}
 use Rattle.pc_io.specs.declared.entries.Entry.{Entry}
-use Rattle.pc_lists.specs.Texts.{Text}
+use Rattle.pc_lists.specs.Lists.{Text}
 use Rattle.pc_buffers.specs.Holding.{Adds, AddsBeside, HoldsTexts}
 use Rattle.pc_buffers.specs.declared.beside.Beside.{Beside}
 use Rattle.pc_buffers.specs.declared.beside.Beside.TheVariants.{Nothing, Derivation, Schedule}

@@ -7,25 +7,21 @@ use Rattle.pc_core.specs.declared.declarations.EntityDef.{EntityDef}
 use Rattle.pc_core.specs.declared.declarations.Method.{Method}
 use Rattle.pc_core.specs.declared.declarations.ParamInfo.{ParamInfo}
 use Rattle.pc_explain.specs.Explanation.{decl_span, entity_span, method_span, own_param_span, param_span}
-use Rattle.pc_lex.specs.Answers.{TokenList}
+use Rattle.pc_lex.specs.Pieces.{TokenList}
 use Rattle.pc_lex.specs.declared.fault.LexFault.{LexFault}
 use Rattle.pc_lex.specs.declared.fault.LexFault.TheVariants as lexing
 use Rattle.pc_lex.specs.Faults.{FirstLexFault}
-use Rattle.pc_lists.specs.Texts.{Text}
-use Rattle.pc_names.specs.Names.{IsNotMemory}
+use Rattle.pc_lists.specs.Lists.{Text}
+use Rattle.pc_names.specs.Faults.{IsNotMemory}
 use Rattle.pc_names.specs.declared.fault.NameFault.{NameFault}
 use Rattle.pc_names.specs.declared.fault.NameFault.TheVariants as naming
-use Rattle.pc_refusals.specs.Accepting.{Typing}
-use Rattle.pc_refusals.specs.Accepting as typing
-use Rattle.pc_refusals.specs.After.After.{goes, stops}
-use Rattle.pc_refusals.specs.CoreFaults.{decl_offset, decl_text, entity_start, method_start, own_param_start, param_start}
-use Rattle.pc_refusals.specs.LexFaults.{fault_line}
-use Rattle.pc_refusals.specs.NameFaults.{many_text, name_line}
-use Rattle.pc_refusal_lines.specs.Refusal.{offset_line}
-use Rattle.pc_refusals.specs.Source.{TreeStage, CoreStage, source_limit}
+use Rattle.pc_refusals.specs.Source.{Typing, TreeStage, CoreStage, source_limit}
+use Rattle.pc_refusals.specs.Source as stage
+use Rattle.pc_refusals.specs.Source.After.{goes, stops}
+use Rattle.pc_refusals.specs.FaultLines.{decl_offset, decl_text, entity_start, method_start, own_param_start, param_start, fault_line, many_text, name_line}
+use Rattle.pc_refusal_lines.specs.Lines.{offset_line}
 use Rattle.pc_refusals.specs.Source.Elaborating.{elaborated, misnamed, misused}
 use Rattle.pc_refusals.specs.Source.Length.{fits}
-use Rattle.pc_refusals.specs.Source as stage
 use Rattle.pc_refusals.specs.Source.Parsing.{astray, nested, parsed}
 use Rattle.pc_refusals.specs.Verdict.{Verdict}
 use Rattle.pc_sub.specs.declared.faults.DeclFault.{DeclFault}
@@ -102,10 +98,10 @@ module _ (name source : Text) where
     core_span core span (goes (stage.lexed l) (goes (parsed p) (elaborated s))) h = lexed short l (spell p (has_core s h))
 
     core_named : (core : CoreData) (v : Verdict) → CoreStage name source (Ok core) → Typing name (record { bytes = source; core = core }) (Err v) → Refuses v.err
-    core_named core _ has (typing.declared f e) =
+    core_named core _ has (stage.declared f e) =
         (Some (decl_span core f), core_span core (Some (decl_span core f)) has (declared f e), (decl_text f, ap (λ (at : ℕ). offset_line name source at (decl_text f)) (decl_starts core f)))
-    core_named core _ has (typing.no_rule ann n stop) = (Some stop.at.span, core_span core (Some stop.at.span) has (no_rule ann n stop), (codes "no rule", refl))
-    core_named core _ has (typing.unset ann m left) = (Some left.method.span, core_span core (Some left.method.span) has (unset ann m left), (codes "field not set", refl))
+    core_named core _ has (stage.no_rule ann n stop) = (Some stop.at.span, core_span core (Some stop.at.span) has (no_rule ann n stop), (codes "no rule", refl))
+    core_named core _ has (stage.unset ann m left) = (Some left.method.span, core_span core (Some left.method.span) has (unset ann m left), (codes "field not set", refl))
 
 pub lines_name : LinesNameSpans
 lines_name name source v (stops (stops none)) = elim none [ ]

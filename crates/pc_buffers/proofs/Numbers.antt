@@ -4,10 +4,9 @@ use Rattle.std.specs.Prelude.{is_some, codes, decimal, take}
 use Rattle.std.proofs.lemmas.Option.{same_Some}
 use Rattle.pc_deriv.specs.Reading.{after_bytes}
 use Rattle.pc_deriv.proofs.NameReading.{after_sound, after_own}
-use Rattle.pc_lists.specs.Options.{◌>>=◌}
-use Rattle.pc_lists.specs.Texts.{Text}
+use Rattle.pc_lists.specs.Lists.{◌>>=◌, Text}
 use Rattle.pc_lists.proofs.Options.{none_some, bind_some, bind_is}
-use Rattle.pc_refusal_lines.specs.Place.{line_number, column_number}
+use Rattle.pc_refusal_lines.specs.Lines.{line_number, column_number}
 use Rattle.pc_buffers.specs.Finding.{Finds, FindsIn}
 use Rattle.pc_buffers.specs.Fronts.{after_word, after_numbers}
 use Rattle.pc_buffers.specs.Places.{BeginsWith, place_front}

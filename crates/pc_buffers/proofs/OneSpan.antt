@@ -13,8 +13,8 @@ use Rattle.pc_elab.specs.Cores.{CoresAreFormed, IsSpelledFile}
 use Rattle.pc_explain.specs.Explanation.{decl_span}
 use Rattle.pc_file_spec.specs.Cores.{Stands}
 use Rattle.pc_grammar.specs.FileAnswers as answer
-use Rattle.pc_lists.specs.Places.{Ascends}
-use Rattle.pc_names.specs.Names.{IsNotMemory}
+use Rattle.pc_lists.specs.Lists.{Ascends}
+use Rattle.pc_names.specs.Faults.{IsNotMemory}
 use Rattle.pc_names.specs.declared.fault.NameFault.{NameFault}
 use Rattle.pc_refusals.proofs.OneSource.{SourceLaws}
 use Rattle.pc_valid.specs.NoRule.{NoRule, Unset}

@@ -1,8 +1,7 @@
 -- Whether there is something after a front.
 use Rattle.std.proofs.Common.{◌≡◌, ℕ, true, false, Option, Some, None, refl, sym, true≢false}
 use Rattle.std.specs.Prelude.{is_some, decimal, option_map}
-use Rattle.pc_lists.specs.Options.{◌>>=◌}
-use Rattle.pc_lists.specs.Texts.{Text}
+use Rattle.pc_lists.specs.Lists.{◌>>=◌, Text}
 use Rattle.pc_buffers.specs.Fronts.{after_word, after_numbers}
 
 pub some_of_mapped : {A B : Type 0} → (f : A → B) (o : Option A) (p : Option B) → option_map f o ≡ p → is_some o ≡ is_some p

@@ -1,6 +1,6 @@
 -- From the byte at which a line points to the piece that starts there.
 use Rattle.std.proofs.Common.{ℕ, refl, sym, subst}
-use Rattle.pc_lists.specs.Texts.{Text}
+use Rattle.pc_lists.specs.Lists.{Text}
 use Rattle.pc_buffers.specs.Ends.{Ending}
 use Rattle.pc_buffers.specs.Finding.{StartsAt, Stretches}
 use Rattle.pc_buffers.specs.Places.{PointsAt}

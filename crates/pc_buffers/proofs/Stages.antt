@@ -21,9 +21,8 @@ use Rattle.pc_lex.specs.Faults as lexer
 use Rattle.pc_lex.specs.declared.fault.LexFault.{LexFault}
 use Rattle.pc_lex.specs.declared.fault.LexFault.TheVariants as lexing
 use Rattle.pc_lists.proofs.Gets.{get_map}
-use Rattle.pc_lists.specs.Places.{Ascends}
-use Rattle.pc_lists.specs.Texts.{Text}
-use Rattle.pc_names.specs.Names.{IsNotMemory}
+use Rattle.pc_lists.specs.Lists.{Ascends, Text}
+use Rattle.pc_names.specs.Faults.{IsNotMemory}
 use Rattle.pc_names.specs.declared.fault.NameFault.{NameFault}
 use Rattle.pc_names.specs.declared.fault.NameFault.TheVariants as naming
 use Rattle.pc_parse.specs.Answers as parser

@@ -1,8 +1,8 @@
 -- The bytes of a text up to a mark.
 use Rattle.std.proofs.Common.{◌≡◌, ◌<◌, ◌≤◌, ℕ, ◌+◌, true, false, cond, get_or, length, take, refl, sym, ap, ap₂, ◌∙◌, subst, true≢false, below_more, arith}
 use Rattle.std.specs.Prelude.{is_some, decimal}
-use Rattle.pc_lists.specs.Texts.{Text}
-use Rattle.pc_refusal_lines.specs.Place.{is_line_end, line_number, column_number}
+use Rattle.pc_lists.specs.Lists.{Text}
+use Rattle.pc_refusal_lines.specs.Lines.{is_line_end, line_number, column_number}
 use Rattle.pc_refusal_lines.proofs.Places.{At, at_start, at_next}
 use Rattle.pc_buffers.specs.Finding.{AreOf, AreAt}
 use Rattle.pc_buffers.specs.Fronts.{after_word, after_numbers}

@@ -1,12 +1,8 @@
 -- Where in a text a line points. Only the contracts of the parts of `find_place` use it.
 use Rattle.std.specs.Prelude.{ℕ, ◌≡◌, ◌≤◌, true, length, take, is_some, Option, Some, None}
-use Rattle.pc_lists.specs.Texts.{Text}
-use Rattle.pc_refusal_lines.specs.Place.{line_number, column_number}
-use Rattle.pc_buffers.specs.Ends.{Ending}
-use Rattle.pc_buffers.specs.Fronts.{after_numbers}
-use Rattle.pc_buffers.specs.Places.{PointsNowhere, PointsTo}
-use Rattle.pc_buffers.specs.declared.place.Place.{Place}
-use Rattle.pc_buffers.specs.declared.start.Start.{Start}
+use Rattle.pc_lists.specs.Lists.{Text}
+use Rattle.pc_refusal_lines.specs.Lines.{line_number, column_number}
+use Rattle.pc_buffers.specs.{Ends.Ending, Fronts.after_numbers, Places.PointsNowhere, Places.PointsTo, declared.place.Place.Place, declared.start.Start.Start}
 
 -- ---- a whole line
 

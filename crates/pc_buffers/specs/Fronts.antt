@@ -1,8 +1,7 @@
 -- What follows the front of a line. Only the contracts of the parts of `find_place` use it.
 use Rattle.std.specs.Prelude.{ℕ, codes, decimal, Option}
 use Rattle.pc_deriv.specs.Reading.{after_bytes}
-use Rattle.pc_lists.specs.Options.{◌>>=◌}
-use Rattle.pc_lists.specs.Texts.{Text}
+use Rattle.pc_lists.specs.Lists.{◌>>=◌, Text}
 
 -- What follows a word and a colon.
 unfoldable pub after_word : Text → Text → Option Text

@@ -1,11 +1,9 @@
 -- The texts of a call as files in memory, each with its name.
 use Rattle.std.specs.Prelude.{◌≡◌, List, Some, codes, if◌then◌else◌}
 use Rattle.std.specs.Str.{bytes_eq}
-use Rattle.pc_buffers.specs.declared.beside.Beside.{Beside}
-use Rattle.pc_buffers.specs.declared.beside.Beside.TheVariants.{Nothing, Derivation, Schedule}
-use Rattle.pc_io.specs.Entries.{held}
-use Rattle.pc_io.specs.declared.entries.Entry.{Entry}
-use Rattle.pc_lists.specs.Texts.{Text}
+use Rattle.pc_buffers.specs.{declared.beside.Beside.Beside, declared.beside.Beside.TheVariants.Nothing, declared.beside.Beside.TheVariants.Derivation, declared.beside.Beside.TheVariants.Schedule}
+use Rattle.pc_io.specs.{Entries.held, declared.entries.Entry.Entry}
+use Rattle.pc_lists.specs.Lists.{Text}
 
 -- The files have the text beside the source.
 abbrev pub HoldsBeside : List Entry → Beside → Type 0

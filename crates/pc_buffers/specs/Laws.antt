@@ -1,12 +1,9 @@
 -- What is proved of the bytes at which sources are refused.
 use Rattle.std.specs.Prelude.{◌≡◌, Option, Some, None, Err}
 use Rattle.pc_caps.specs.declared.span.Span.{Span}
-use Rattle.pc_lists.specs.Texts.{Text}
-use Rattle.pc_refusals.specs.Accepting.{AcceptedStage}
-use Rattle.pc_refusal_lines.specs.Lines.{no_main_line}
-use Rattle.pc_refusals.specs.Named.{whole}
-use Rattle.pc_refusal_lines.specs.Refusal.{offset_line}
-use Rattle.pc_refusals.specs.Verdict.{Verdict}
+use Rattle.pc_lists.specs.Lists.{Text}
+use Rattle.pc_refusals.specs.{Source.AcceptedStage, Verdict.whole, Verdict.Verdict}
+use Rattle.pc_refusal_lines.specs.Lines.{no_main_line, offset_line}
 use Rattle.pc_buffers.specs.Refused.{IsRefusedAt}
 
 -- A source is refused at exactly one span, or at none.

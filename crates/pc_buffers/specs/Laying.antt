@@ -1,6 +1,6 @@
 -- Texts in buffers.
 use Rattle.std.specs.Prelude.{ℕ, ◌≡◌, ◌++◌, List, length, min, take, drop}
-use Rattle.pc_lists.specs.Texts.{Text}
+use Rattle.pc_lists.specs.Lists.{Text}
 
 -- A buffer after a text was copied into it: as much of the text as there is room for, followed by what was there
 -- before.

@@ -1,9 +1,8 @@
 -- Where a line points.
 use Rattle.std.specs.Prelude.{ℕ, ◌≡◌, ◌≤◌, ◌++◌, length, take, codes, decimal}
-use Rattle.pc_lists.specs.Texts.{Text}
-use Rattle.pc_refusal_lines.specs.Place.{line_number, column_number}
-use Rattle.pc_buffers.specs.Ends.{Ending}
-use Rattle.pc_buffers.specs.declared.place.Place.{Place}
+use Rattle.pc_lists.specs.Lists.{Text}
+use Rattle.pc_refusal_lines.specs.Lines.{line_number, column_number}
+use Rattle.pc_buffers.specs.{Ends.Ending, declared.place.Place.Place}
 
 -- The start of a line that points at a byte: `NAME:LINE:COLUMN: `.
 abbrev pub place_front : Text → (line column : ℕ) → Text

@@ -1,11 +1,7 @@
 -- The place at which a line points, among the texts of a call.
 use Rattle.std.specs.Prelude.{ℕ, ◌≡◌, ◌⊎◌, codes}
-use Rattle.pc_buffers.specs.Ends.{Ending, SpansTo, WordTo}
-use Rattle.pc_buffers.specs.Places.{PointsAt, PointsNowhere, no_place}
-use Rattle.pc_buffers.specs.declared.place.Place.{Place}
-use Rattle.pc_lists.specs.Texts.{Text}
-use Rattle.pc_buffers.specs.declared.beside.Beside.{Beside}
-use Rattle.pc_buffers.specs.declared.beside.Beside.TheVariants.{Nothing, Derivation, Schedule}
+use Rattle.pc_buffers.specs.{Ends.Ending, Ends.SpansTo, Ends.WordTo, Places.PointsAt, Places.PointsNowhere, Places.no_place, declared.place.Place.Place, declared.beside.Beside.Beside, declared.beside.Beside.TheVariants.Nothing, declared.beside.Beside.TheVariants.Derivation, declared.beside.Beside.TheVariants.Schedule}
+use Rattle.pc_lists.specs.Lists.{Text}
 
 -- A line and the place at which it points.
 abbrev pub Pointing : Type 1

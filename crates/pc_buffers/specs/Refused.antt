@@ -7,22 +7,17 @@ use Rattle.pc_caps.specs.declared.span.Span.{Span}
 use Rattle.pc_core.specs.CoreData.{CoreData}
 use Rattle.pc_explain.specs.Explanation.{decl_span}
 use Rattle.pc_file_spec.specs.Cores.{IsElabFault, Stands}
-use Rattle.pc_grammar.specs.FileAnswers as answer
 use Rattle.pc_grammar.specs.FileAnswers.{IsFileAnswer}
-use Rattle.pc_lex.specs.Answers.{TokenList}
-use Rattle.pc_lex.specs.Faults.{FirstLexFault}
-use Rattle.pc_lex.specs.declared.fault.LexFault.{LexFault}
-use Rattle.pc_lex.specs.declared.fault.LexFault.TheVariants as lexing
-use Rattle.pc_lists.specs.Texts.{Text}
-use Rattle.pc_names.specs.Names.{IsNotMemory, IsNameFault}
-use Rattle.pc_names.specs.declared.fault.NameFault.{NameFault}
-use Rattle.pc_names.specs.declared.fault.NameFault.TheVariants as naming
+use Rattle.pc_lex.specs.{Pieces.TokenList, Faults.FirstLexFault, declared.fault.LexFault.LexFault}
+use Rattle.pc_lists.specs.Lists.{Text}
+use Rattle.pc_names.specs.{Faults.IsNotMemory, Faults.IsNameFault, declared.fault.NameFault.NameFault}
 use Rattle.pc_refusals.specs.Source.{source_limit}
-use Rattle.pc_valid.specs.Valid.{Derivable}
-use Rattle.pc_valid.specs.NoRule.{NoRule, Unset}
-use Rattle.pc_sub.specs.DeclarationFaults.{first_fault}
-use Rattle.pc_sub.specs.declared.faults.DeclFault.{DeclFault}
+use Rattle.pc_valid.specs.{Valid.Derivable, NoRule.NoRule, NoRule.Unset}
+use Rattle.pc_sub.specs.{DeclarationFaults.first_fault, declared.faults.DeclFault.DeclFault}
 use Rattle.pc_token.specs.declared.kinds.Token.{Token}
+use Rattle.pc_grammar.specs.FileAnswers as answer
+use Rattle.pc_lex.specs.declared.fault.LexFault.TheVariants as lexing
+use Rattle.pc_names.specs.declared.fault.NameFault.TheVariants as naming
 use Rattle.pc_tree.specs.Tree as t
 
 -- ---- the core

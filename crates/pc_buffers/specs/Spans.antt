@@ -2,19 +2,18 @@
 use Rattle.std.specs.Prelude.{ℕ, ◌≡◌, ◌==◌, List, Option, Some, None, find, option_map, slice_get}
 use Rattle.pc_caps.specs.declared.span.Span.{Span}
 use Rattle.pc_check.specs.declared.fault.CheckFault.{CheckFault}
-use Rattle.pc_check.specs.declared.fault.CheckFault.TheVariants as fault
-use Rattle.pc_core.specs.CoreData.{CoreData}
-use Rattle.pc_core.specs.declared.nodes.Node.{Node}
+use Rattle.pc_core.specs.{CoreData.CoreData, declared.nodes.Node.Node}
 use Rattle.pc_explain.specs.Explanation.{decl_span, method_span, missing_span}
 use Rattle.pc_expr.specs.declared.fault.ParseFault.{ParseFault}
-use Rattle.pc_expr.specs.declared.fault.ParseFault.TheVariants as syntax
 use Rattle.pc_lex.specs.declared.fault.LexFault.{LexFault}
-use Rattle.pc_lex.specs.declared.fault.LexFault.TheVariants as lexing
-use Rattle.pc_lists.specs.Texts.{Text}
+use Rattle.pc_lists.specs.Lists.{Text}
 use Rattle.pc_names.specs.declared.fault.NameFault.{NameFault}
-use Rattle.pc_names.specs.declared.fault.NameFault.TheVariants as naming
 use Rattle.pc_token.specs.declared.kinds.Token.{Token}
 use Rattle.pc_buffers.specs.Refused.{lex_span, name_span}
+use Rattle.pc_check.specs.declared.fault.CheckFault.TheVariants as fault
+use Rattle.pc_expr.specs.declared.fault.ParseFault.TheVariants as syntax
+use Rattle.pc_lex.specs.declared.fault.LexFault.TheVariants as lexing
+use Rattle.pc_names.specs.declared.fault.NameFault.TheVariants as naming
 
 abbrev pub node_span : Option Node → Span
 node_span None = missing_span

@@ -1,6 +1,6 @@
 //! Lines and columns.
 ghost use Rattle.std.specs.Prelude.{◌≡◌, ◌<◌, ◌+◌, ◌^◌, cond, take};
-ghost use Rattle.pc_refusal_lines.specs.Place.{is_line_end, line_number, column_number};
+ghost use Rattle.pc_refusal_lines.specs.Lines.{is_line_end, line_number, column_number};
 
 /// A line and a column, both counted from 1.
 #[derive(Clone, Copy, Debug)]

@@ -1,6 +1,6 @@
 //! Going through a text byte by byte, with the place of each.
 ghost use Rattle.std.specs.Prelude.{◌≡◌, ◌<◌, ◌+◌, ◌^◌, cond, decimal, is_some};
-ghost use Rattle.pc_refusal_lines.specs.Place.{is_line_end};
+ghost use Rattle.pc_refusal_lines.specs.Lines.{is_line_end};
 ghost use Rattle.pc_buffers.specs.Fronts.{after_word, after_numbers};
 
 use crate::fronts::{has_number, has_numbers};

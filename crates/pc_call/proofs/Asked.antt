@@ -10,16 +10,11 @@ use Rattle.pc_buffers.specs.Places.{no_place}
 use Rattle.pc_buffers.specs.Points.{Pointing, Points}
 use Rattle.pc_buffers.specs.declared.beside.Beside.{Beside}
 use Rattle.pc_buffers.specs.declared.place.Place.{Place}
-use Rattle.pc_io.specs.Change.{change}
-use Rattle.pc_io.specs.Sink.{HasRisen}
+use Rattle.pc_io.specs.Sink.{change, HasRisen}
 use Rattle.pc_io.specs.declared.entries.Entry.{Entry}
-use Rattle.pc_lists.specs.Texts.{Text}
-use Rattle.pc_refusals.specs.Accepting.{AcceptedStage}
-use Rattle.pc_refusals.specs.Complete.{Completes}
-use Rattle.pc_refusals.specs.FromFile.{FailedInTurn}
-use Rattle.pc_refusals.specs.Named.{FailedAt, Reading, named}
-use Rattle.pc_refusals.specs.Source.{SourceStage, source_limit}
-use Rattle.pc_refusals.specs.Verdict.{IsAccepting, Verdict}
+use Rattle.pc_lists.specs.Lists.{Text}
+use Rattle.pc_refusals.specs.Source.{AcceptedStage, FailedInTurn, SourceStage, source_limit}
+use Rattle.pc_refusals.specs.Verdict.{Completes, FailedAt, Reading, named, IsAccepting, Verdict}
 use Rattle.pc_top.specs.Asked.{FailedIn, IsVerdict}
 use Rattle.pc_top.specs.Commands.{FailedOf}
 use Rattle.pc_call.specs.Answers.{CallAnswers, no_memory, verdict}

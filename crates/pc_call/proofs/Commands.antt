@@ -4,16 +4,14 @@ use Rattle.std.specs.Prelude.{◌^◌, codes, decimal, unwrap_or}
 use Rattle.std.specs.Borrow.{Bor}
 use Rattle.pc_args.specs.Asked.{Asked, check, command_of, events, explain, judge, outcomes, places, play, run, schedule_of, sends, show, swap, trace, upgrade}
 use Rattle.pc_args.specs.Forms.{WrittenFormsAreTaken, check_words, events_words, explain_words, is_plain, judge_words, outcomes_words, places_words, play_words, run_words, schedule_words, sends_words, show_words, swap_words, trace_words, upgrade_words}
-use Rattle.pc_args.specs.Numbers.{IsSeed}
+use Rattle.pc_args.specs.Line.{IsSeed}
 use Rattle.pc_deriv.specs.Text.{deriv_text}
 use Rattle.pc_deriv.specs.declared.version.Version.TheVariants as version
 use Rattle.pc_io.specs.Entries.{held}
 use Rattle.pc_io.specs.declared.entries.Entry.{Entry}
-use Rattle.pc_lists.specs.Texts.{Text}
-use Rattle.pc_refusals.specs.Accepting.{AcceptedStage}
-use Rattle.pc_refusals.specs.Named.{Files, Named, named}
-use Rattle.pc_refusals.specs.Source.{FileStage, SourceStage}
-use Rattle.pc_refusals.specs.Verdict.{EndsWith, Verdict}
+use Rattle.pc_lists.specs.Lists.{Text}
+use Rattle.pc_refusals.specs.Source.{AcceptedStage, FileStage, SourceStage}
+use Rattle.pc_refusals.specs.Verdict.{Files, Named, named, EndsWith, Verdict}
 use Rattle.pc_top.specs.Commands.{IsVerdictOf}
 use Rattle.pc_top.specs.Commands.Check.{Derived, IsCheck}
 use Rattle.pc_core_commands.specs.Events.{EventsTelling}

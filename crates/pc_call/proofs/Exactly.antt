@@ -8,10 +8,10 @@ use Rattle.std.proofs.lemmas.Bool.{eqb-true}
 use Rattle.std.proofs.lemmas.Fmt.{decimal_is_IsNumeral, length-decimal-le}
 use Rattle.pc_args.specs.Asked.{Asked, check, command_of, judge, upgrade}
 use Rattle.pc_args.specs.Forms.{is_plain}
-use Rattle.pc_args.specs.Numbers.{IsSeed}
+use Rattle.pc_args.specs.Line.{IsSeed}
 use Rattle.pc_buffers.specs.declared.place.Place.{Place}
 use Rattle.pc_io.specs.Entries.{held_or_empty}
-use Rattle.pc_lists.specs.Texts.{Text}
+use Rattle.pc_lists.specs.Lists.{Text}
 use Rattle.pc_refusals.specs.Verdict.{Verdict}
 use Rattle.pc_top.specs.Asked.{OfFile, OfSource}
 use Rattle.pc_top.specs.Commands.{HasNumber, infers, source_of}

@@ -2,17 +2,13 @@
 use Rattle.std.proofs.Common.{ℕ, Some, refl, arith}
 use Rattle.std.specs.Prelude.{◌<◌, Result, length, codes}
 use Rattle.pc_ann.specs.declared.annotation.Ann.{Ann}
-use Rattle.pc_deriv.specs.Limits.{derivation_limit}
-use Rattle.pc_lists.specs.Texts.{Text}
-use Rattle.pc_refusals.specs.Accepting.{AcceptedStage}
+use Rattle.pc_deriv.specs.Text.{derivation_limit}
+use Rattle.pc_lists.specs.Lists.{Text}
+use Rattle.pc_refusals.specs.Source.{AcceptedStage, FromFile, goes_on, refuses, ScheduleStage, SourceStage, source_limit}
 use Rattle.pc_refusals.specs.Derivation.{DerivationStage, in_parts}
-use Rattle.pc_refusals.specs.FromFile.{FromFile, goes_on, refuses}
-use Rattle.pc_refusals.specs.Named.{IsReadingOf, Named, Reading, longer, text_as, whole}
-use Rattle.pc_refusals.specs.Schedule.{ScheduleStage}
-use Rattle.pc_refusals.specs.Source.{SourceStage, source_limit}
-use Rattle.pc_refusals.specs.Verdict.{EndsWith, Verdict}
+use Rattle.pc_refusals.specs.Verdict.{IsReadingOf, Named, Reading, longer, text_as, whole, EndsWith, Verdict}
 use Rattle.pc_refusals.specs.declared.typing.Accepted.{Accepted}
-use Rattle.pc_sched.specs.Limits.{schedule_limit}
+use Rattle.pc_sched.specs.Schedules.{schedule_limit}
 use Rattle.pc_core_commands.specs.Swap.{Swapping}
 use Rattle.pc_top.specs.Commands.Swap.{IsSwap, no_number, placed}
 use Rattle.pc_top.specs.Shapes as shapes

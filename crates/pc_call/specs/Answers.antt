@@ -1,9 +1,7 @@
 -- What a call returns, and what it leaves in its buffers.
 use Rattle.std.specs.Prelude.{ℕ, ◌≡◌}
-use Rattle.pc_buffers.specs.Laying.{Buffer, BufferHolds, IsUntouched}
-use Rattle.pc_buffers.specs.Places.{no_place}
-use Rattle.pc_buffers.specs.declared.place.Place.{Place}
-use Rattle.pc_lists.specs.Texts.{Text}
+use Rattle.pc_buffers.specs.{Laying.Buffer, Laying.BufferHolds, Laying.IsUntouched, Places.no_place, declared.place.Place.Place}
+use Rattle.pc_lists.specs.Lists.{Text}
 use Rattle.pc_refusals.specs.Verdict.{Verdict}
 
 -- What a call returns: a status, two buffers and a place.

@@ -1,23 +1,9 @@
 -- The verdicts on texts in memory. Each text is seen as a file with a name, whose bytes are known and whose reading does not fail.
 use Rattle.std.specs.Prelude.{ℕ, ◌≤◌, codes, decimal}
-use Rattle.pc_lists.specs.Texts.{Text}
-use Rattle.pc_refusals.specs.Named.{Named, text_as}
-use Rattle.pc_refusals.specs.Verdict.{Verdict}
-use Rattle.pc_top.specs.Commands.Check.{IsCheck}
-use Rattle.pc_top.specs.Commands.Events.{IsEvents}
-use Rattle.pc_top.specs.Commands.Explain.{IsExplain}
-use Rattle.pc_top.specs.Commands.Judge.{IsJudge}
+use Rattle.pc_lists.specs.Lists.{Text}
+use Rattle.pc_refusals.specs.Verdict.{Named, text_as, Verdict}
+use Rattle.pc_top.specs.{Commands.Check.IsCheck, Commands.Events.IsEvents, Commands.Explain.IsExplain, Commands.Judge.IsJudge, Commands.Outcomes.IsOutcomes, Commands.Places.IsPlaces, Commands.Play.IsPlay, Commands.Run.IsRun, Commands.Schedule.IsSchedule, Commands.Sends.IsSends, Commands.Show.IsShow, Commands.Swap.IsSwap, Commands.Trace.IsTrace, Commands.Upgrade.IsUpgrade}
 use Rattle.pc_core_commands.specs.Outcomes.{seeds_limit}
-use Rattle.pc_top.specs.Commands.Outcomes.{IsOutcomes}
-use Rattle.pc_top.specs.Commands.Places.{IsPlaces}
-use Rattle.pc_top.specs.Commands.Play.{IsPlay}
-use Rattle.pc_top.specs.Commands.Run.{IsRun}
-use Rattle.pc_top.specs.Commands.Schedule.{IsSchedule}
-use Rattle.pc_top.specs.Commands.Sends.{IsSends}
-use Rattle.pc_top.specs.Commands.Show.{IsShow}
-use Rattle.pc_top.specs.Commands.Swap.{IsSwap}
-use Rattle.pc_top.specs.Commands.Trace.{IsTrace}
-use Rattle.pc_top.specs.Commands.Upgrade.{IsUpgrade}
 
 abbrev pub source_file : Text → Named
 source_file = text_as (codes "source")

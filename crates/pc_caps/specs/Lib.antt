@@ -1,5 +1,5 @@
 pub mod formers
 pub mod Limits
-pub mod Order
 pub mod Tables
 pub mod Closure
+pub mod Computed

@@ -1,11 +1,30 @@
--- The tables on capabilities and forms: storing and sending follow the paper of 2015; the tables on fields and `recover`
--- are this project's profile.
-use Rattle.std.specs.Prelude.{Bool, true, false, ◌&&◌, Option, Some, None}
-use Rattle.pc_caps.specs.Order.{is_below}
-use Rattle.pc_caps.specs.declared.capability.Cap.{Cap}
+-- The order on forms: the reflexive and transitive closure of ten pairs, the smaller form first. A value of the smaller
+-- form may be used wherever one of the larger is expected (the paper of 2015). And the tables on capabilities and forms:
+-- storing and sending follow the paper of 2015; the tables on fields and `recover` are this project's profile.
+use Rattle.std.specs.Prelude.{◌≡◌, ◌⊎◌, Bool, true, false, List, [], ◌∷◌, Option, Some, None}
+use Rattle.pc_caps.specs.{declared.capability.Form.Form, declared.capability.Form.TheVariants.IsoE, declared.capability.Form.TheVariants.TrnE, declared.capability.Form.TheVariants.Iso, declared.capability.Form.TheVariants.Trn, declared.capability.Form.TheVariants.Ref, declared.capability.Form.TheVariants.Val, declared.capability.Form.TheVariants.Box, declared.capability.Form.TheVariants.Tag, declared.capability.Cap.Cap}
 use Rattle.pc_caps.specs.declared.capability.Cap.TheVariants as cap
-use Rattle.pc_caps.specs.declared.capability.Form.{Form}
 use Rattle.pc_caps.specs.declared.capability.Form.TheVariants as form
+
+-- ---- the order
+
+-- The ten pairs.
+abbrev pub pairs : List (Form × Form)
+pairs =
+    (IsoE, TrnE) ∷ (IsoE, Iso) ∷ (TrnE, Trn) ∷ (TrnE, Ref) ∷ (TrnE, Val) ∷ (Trn, Box) ∷ (Ref, Box) ∷ (Val, Box)
+    ∷ (Box, Tag) ∷ (Iso, Tag) ∷ []
+
+-- A pair of forms is in a list.
+abbrev pub IsPairIn : List (Form × Form) → Form → Form → Type 0
+IsPairIn [] a b = ⊥
+IsPairIn (p ∷ ps) a b = ((p.0 ≡ a) × (p.1 ≡ b)) ⊎ IsPairIn ps a b
+
+-- The closure: a path of pairs, of any length, leads from the first form to the second.
+pub data IsBelow : Form → Form → Type 0 where
+  same : {a : Form} → IsBelow a a
+  step : {a b c : Form} → IsPairIn pairs a b → IsBelow b c → IsBelow a c
+
+-- ---- the tables
 
 -- The form of a value read from a place of this capability.
 abbrev pub plain : Cap → Form
@@ -36,10 +55,6 @@ stored form.Ref = cap.Ref
 stored form.Val = cap.Val
 stored form.Box = cap.Box
 stored form.Tag = cap.Tag
-
--- A value of this form may be stored at this capability.
-abbrev pub fits : Form → Cap → Bool
-fits f k = is_below f (unalias k)
 
 -- A row of a table: one entry for each capability, in the order iso, trn, ref, val, box, tag.
 abbrev pub at : {T : Type 0} → T → T → T → T → T → T → Cap → T
@@ -128,10 +143,6 @@ enters form.Ref = λ f k. true
 enters form.Val = λ f k. false
 enters form.Box = λ f k. false
 enters form.Tag = λ f k. false
-
--- A value of this form may be written into a field of this capability of the origin.
-abbrev pub may_write : Form → Form → Cap → Bool
-may_write origin value field = fits value field && enters origin value field
 
 -- The form of a `recover`'s value, by that of its body: `iso^`, `trn^` and `ref` become `iso^`, since nothing outside
 -- reaches what was made inside; `trn`, `box` and `val` become `val`; `iso` and `tag` become `tag`.

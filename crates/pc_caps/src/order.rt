@@ -1,6 +1,8 @@
 //! The order on forms.
+ghost use Rattle.pc_caps.specs.Computed as computed;
 ghost use Rattle.std.specs.Prelude.{◌≡◌, IsTrue, ◌↔◌};
-ghost use Rattle.pc_caps.specs.Order.{IsBelow, is_below};
+ghost use Rattle.pc_caps.specs.Tables.{IsBelow};
+ghost use Rattle.pc_caps.specs.Computed.{is_below};
 ghost use Rattle.pc_caps.specs.Tables as table;
 
 use crate::capability::{Cap, Form, unalias};
@@ -34,7 +36,7 @@ fn is_in_row(lower: Form, upper: Form) -> bool
 /// Whether a value of form `form` may be stored at a place of capability `cap`: `form` is below `unalias(cap)`.
 pub fn fits(form: Form, cap: Cap) -> bool
     ensures order { IsTrue result ↔ IsBelow form (table.unalias cap) }
-    ensures value { result ≡ table.fits form cap }
+    ensures value { result ≡ computed.fits form cap }
 {
     below(form, unalias(cap))
 }

@@ -1,4 +1,5 @@
 //! Reading a field, writing it, and the form of a `recover`: the tables of this project's profile.
+ghost use Rattle.pc_caps.specs.Computed as computed;
 ghost use Rattle.std.specs.Prelude.{◌≡◌};
 ghost use Rattle.pc_caps.specs.Tables as table;
 
@@ -47,7 +48,7 @@ pub fn taken(origin: Form, field: Cap) -> Option<Form>
 /// Whether a value of form `value` may be written into a field of capability `field` of an origin of form `origin`
 /// (safe to write, in this project's profile): the value fits the field, and the origin accepts values of its form.
 pub fn may_write(origin: Form, value: Form, field: Cap) -> bool
-    ensures { result ≡ table.may_write origin value field }
+    ensures { result ≡ computed.may_write origin value field }
 {
     fits(value, field) && is_taken(origin, value, field)
 }

@@ -13,7 +13,7 @@ use Rattle.pc_core.specs.declared.nodes.NodeKind.TheVariants as node
 use Rattle.pc_core.specs.CoreData.{CoreData}
 use Rattle.pc_lists.proofs.Options.{bind_some, bind_is}
 use Rattle.pc_core.specs.Methods.{LocalFits, UsesSlot}
-use Rattle.pc_core.specs.MethodKinds.{this_slot}
+use Rattle.pc_core.specs.Entities.{this_slot}
 use Rattle.pc_core.specs.Nodes.{NamesFit}
 use Rattle.pc_core.specs.Formed.{Formed}
 use Rattle.pc_ann.specs.declared.annotation.Ann.{Ann}

@@ -4,10 +4,8 @@ use Rattle.std.proofs.Common.{inl, inr, ap, subst, ◌∙◌, arith}
 use Rattle.std.proofs.lemmas.Option.{same_Some, none-some}
 use Rattle.std.proofs.lemmas.Bool.{cases_lt}
 use Rattle.pc_core.specs.declared.declarations.Method.{Method}
-use Rattle.pc_core.specs.CoreData.{CoreData}
-use Rattle.pc_lists.specs.Ranges.{Follow}
-use Rattle.pc_lists.specs.Places.{Has}
-use Rattle.pc_core.specs.Lookup.{node_end}
+use Rattle.pc_core.specs.CoreData.{CoreData, node_end}
+use Rattle.pc_lists.specs.Lists.{Follow, Has}
 use Rattle.pc_lists.proofs.Ranges.{run_within}
 use Rattle.pc_lists.proofs.Gets.{get_map}
 use Rattle.pc_core.specs.Formed.{Formed}

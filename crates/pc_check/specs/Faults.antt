@@ -3,8 +3,7 @@ use Rattle.std.specs.Prelude.{◌≡◌, ◌⊎◌, ℕ, ◌+◌, length, Some, 
 use Rattle.pc_core.specs.CoreData.{CoreData}
 use Rattle.pc_ann.specs.declared.annotation.Ann.{Ann}
 use Rattle.pc_sub.specs.DeclarationFaults.{first_fault}
-use Rattle.pc_valid.specs.Words.{Masks}
-use Rattle.pc_valid.specs.NoRule.{NoRule, Unset}
+use Rattle.pc_valid.specs.{Words.Masks, NoRule.NoRule, NoRule.Unset}
 use Rattle.pc_check.specs.declared.fault.CheckFault.{CheckFault}
 use Rattle.pc_check.specs.declared.fault.CheckFault.TheVariants as fault
 

@@ -1,26 +1,17 @@
 -- What follows from a node and the notes before it: its slot's type and its note.
 -- ---- the types of slots
 use Rattle.std.specs.Prelude.{ℕ, ◌+◌, Bool, true, false, ◌&&◌, not, List, [], ◌∷◌, map, Option, Some, None, slice_get, slice_set}
-use Rattle.pc_caps.specs.Tables.{stored}
-use Rattle.pc_caps.specs.declared.capability.Cap.{Cap}
-use Rattle.pc_caps.specs.declared.capability.Cap.TheVariants as cap
-use Rattle.pc_tree.specs.BuiltIn.{none_entity}
-use Rattle.pc_core.specs.declared.declarations.Method.{Method}
-use Rattle.pc_core.specs.declared.nodes.Slot.{Slot}
-use Rattle.pc_core.specs.declared.nodes.Node.{Node}
-use Rattle.pc_core.specs.declared.nodes.NodeKind.{NodeKind}
-use Rattle.pc_core.specs.declared.nodes.NodeKind.TheVariants as node
-use Rattle.pc_core.specs.CoreData.{CoreData}
-use Rattle.pc_lists.specs.Options.{◌>>=◌}
+use Rattle.pc_caps.specs.{Tables.stored, declared.capability.Cap.Cap}
+use Rattle.pc_tree.specs.Kinds.{none_entity}
+use Rattle.pc_core.specs.{declared.declarations.Method.Method, declared.nodes.Slot.Slot, declared.nodes.Node.Node, declared.nodes.NodeKind.NodeKind, CoreData.CoreData}
+use Rattle.pc_lists.specs.Lists.{◌>>=◌}
 use Rattle.pc_masks.specs.declared.mask.Mask.{Mask}
-use Rattle.pc_ann.specs.declared.annotation.Note.{Note}
-use Rattle.pc_ann.specs.declared.annotation.Ann.{Ann}
-use Rattle.pc_ann.specs.declared.annotation.Rule.{Rule}
-use Rattle.pc_ann.specs.declared.annotation.Rule.TheVariants as rule
-use Rattle.pc_rules.specs.declared.said.Said.{Said}
-use Rattle.pc_rules.specs.Parts.{constructs, full, type_of, one_child}
+use Rattle.pc_ann.specs.{declared.annotation.Note.Note, declared.annotation.Ann.Ann, declared.annotation.Rule.Rule}
+use Rattle.pc_rules.specs.{declared.said.Said.Said, Parts.constructs, Parts.full, Parts.type_of, Parts.one_child, Rules.says}
 use Rattle.pc_valid.specs.Words.{Ty, Masks}
-use Rattle.pc_rules.specs.Rules.{says}
+use Rattle.pc_caps.specs.declared.capability.Cap.TheVariants as cap
+use Rattle.pc_core.specs.declared.nodes.NodeKind.TheVariants as node
+use Rattle.pc_ann.specs.declared.annotation.Rule.TheVariants as rule
 
 -- The type of a slot before its definition: the written one, or an arbitrary one if none is written.
 abbrev pub written_type : Option (ℕ × Cap) → ℕ × Cap

@@ -1,12 +1,9 @@
 -- What the faults mean.
 use Rattle.std.specs.Prelude.{◌≡◌, ℕ, ◌<◌, Some, slice_get}
-use Rattle.pc_core.specs.CoreData.{CoreData}
-use Rattle.pc_core.specs.Formed.{Formed}
+use Rattle.pc_core.specs.{CoreData.CoreData, Formed.Formed}
 use Rattle.pc_ann.specs.declared.annotation.Ann.{Ann}
-use Rattle.pc_sub.specs.declared.faults.DeclFault.{DeclFault}
-use Rattle.pc_sub.specs.DeclarationFaults.{first_fault}
-use Rattle.pc_valid.specs.Valid.{Derivable, KeepsWritten}
-use Rattle.pc_valid.specs.NoRule.{NoRule, Unset, MeetsReached}
+use Rattle.pc_sub.specs.{declared.faults.DeclFault.DeclFault, DeclarationFaults.first_fault}
+use Rattle.pc_valid.specs.{Valid.Derivable, Valid.KeepsWritten, NoRule.NoRule, NoRule.Unset, NoRule.MeetsReached}
 
 -- A core with a node to which no rule applies has no valid annotation.
 abbrev pub NoneWithoutRule : Type 0

@@ -1,13 +1,10 @@
 -- The masks of the source of a node.
 use Rattle.std.specs.Prelude.{Option, Some, None, slice_get}
-use Rattle.pc_core.specs.declared.declarations.Method.{Method}
-use Rattle.pc_core.specs.CoreData.{CoreData}
-use Rattle.pc_ann.specs.declared.annotation.Note.{Note}
-use Rattle.pc_ann.specs.declared.annotation.Ann.{Ann}
+use Rattle.pc_core.specs.{declared.declarations.Method.Method, CoreData.CoreData}
+use Rattle.pc_ann.specs.{declared.annotation.Note.Note, declared.annotation.Ann.Ann}
 use Rattle.pc_masks.specs.Masks.{empty}
 use Rattle.pc_valid.specs.Words.{Masks, masks_after}
-use Rattle.pc_check.specs.Sources.{start_masks}
-use Rattle.pc_check.specs.declared.sources.Source.{Source}
+use Rattle.pc_check.specs.{Sources.start_masks, declared.sources.Source.Source}
 use Rattle.pc_check.specs.declared.sources.Source.TheVariants as source
 
 abbrev pub masks_in : CoreData → Option Method → Masks

@@ -1,16 +1,11 @@
 -- Where the masks that reach a node come from.
 use Rattle.std.specs.Prelude.{◌≡◌, ◌⊎◌, ℕ, ◌+◌, ◌<◌, ◌≤◌, List, length, Some, slice_get}
-use Rattle.pc_core.specs.declared.declarations.Method.{Method}
-use Rattle.pc_core.specs.declared.nodes.Node.{Node}
-use Rattle.pc_core.specs.CoreData.{CoreData}
-use Rattle.pc_lists.specs.Places.{Each, Has}
-use Rattle.pc_ann.specs.declared.annotation.Note.{Note}
-use Rattle.pc_ann.specs.declared.annotation.Ann.{Ann}
+use Rattle.pc_core.specs.{declared.declarations.Method.Method, declared.nodes.Node.Node, CoreData.CoreData}
+use Rattle.pc_lists.specs.Lists.{Each, Has}
+use Rattle.pc_ann.specs.{declared.annotation.Note.Note, declared.annotation.Ann.Ann}
 use Rattle.pc_masks.specs.Masks.{first}
 use Rattle.pc_valid.specs.Words.{Masks, masks_after}
-use Rattle.pc_rules.specs.Control.{start_set}
-use Rattle.pc_rules.specs.Trees.{Tree}
-use Rattle.pc_rules.specs.Checks.{StartsFrom}
+use Rattle.pc_rules.specs.{Control.start_set, Trees.Tree, Checks.StartsFrom}
 use Rattle.pc_check.specs.declared.sources.Source.{Source}
 use Rattle.pc_check.specs.declared.sources.Source.TheVariants as source
 

@@ -9,8 +9,7 @@ use Rattle.pc_core.specs.CoreData.{CoreData}
 use Rattle.pc_semantics.specs.declared.outcome.Outcome.{Outcome}
 use Rattle.pc_semantics.specs.declared.outcome.Outcome.TheVariants.{Moved, Skipped, Lacks, TooLong}
 use Rattle.pc_semantics.specs.Configurations.{Configuration, start}
-use Rattle.pc_semantics.specs.Runs.{followed, run_from}
-use Rattle.pc_semantics.specs.Step.{step}
+use Rattle.pc_semantics.specs.Step.{followed, run_from, step}
 use Rattle.pc_draws.specs.Draws.{state}
 use Rattle.pc_choose.specs.declared.point.Point.{Point}
 use Rattle.pc_choose.specs.declared.point.Picked.{Picked}

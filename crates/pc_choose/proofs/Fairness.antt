@@ -7,8 +7,7 @@ use Rattle.pc_core.specs.CoreData.{CoreData}
 use Rattle.pc_semantics.specs.declared.outcome.Outcome.{Outcome}
 use Rattle.pc_semantics.specs.declared.outcome.Outcome.TheVariants.{Moved, Skipped, Lacks, TooLong}
 use Rattle.pc_semantics.specs.Configurations.{Configuration, start}
-use Rattle.pc_semantics.specs.Runs.{after}
-use Rattle.pc_semantics.specs.Step.{step}
+use Rattle.pc_semantics.specs.Step.{after, step}
 use Rattle.pc_choose.specs.declared.point.Point.{Point}
 use Rattle.pc_choose.specs.declared.point.Picked.{Picked}
 use Rattle.pc_choose.specs.Able.{able, able_actors}

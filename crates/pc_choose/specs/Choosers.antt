@@ -2,18 +2,10 @@
 use Rattle.std.specs.Prelude.{◌≡◌, ℕ, ◌*◌, List, Option, Some, None, IfSome, IsSomeAnd, refl}
 use Rattle.std.specs.Coded.{Coded, code_by, coded×, coded_list, coded_ℕ}
 use Rattle.pc_core.specs.CoreData.{CoreData}
-use Rattle.pc_semantics.specs.declared.ahead.Ahead.{Ahead}
-use Rattle.pc_semantics.specs.declared.outcome.Outcome.{Outcome}
-use Rattle.pc_semantics.specs.Ahead.{ahead_of}
-use Rattle.pc_semantics.specs.Configurations.{Configuration}
-use Rattle.pc_semantics.specs.Step.{step}
+use Rattle.pc_semantics.specs.{declared.ahead.Ahead.Ahead, declared.outcome.Outcome.Outcome, Ahead.ahead_of, Configurations.Configuration, Step.step}
 use Rattle.pc_draws.specs.Draws.{state}
-use Rattle.pc_choose.specs.declared.point.Point.{Point}
-use Rattle.pc_choose.specs.declared.step.Onward.{Onward}
-use Rattle.pc_choose.specs.declared.step.Step.{Step}
+use Rattle.pc_choose.specs.{declared.point.Point.Point, declared.step.Onward.Onward, declared.step.Step.Step, Choice.turn, Choice.stepped, Marks.marks_of}
 use Rattle.pc_choose.specs.contracts.point.Point as point
-use Rattle.pc_choose.specs.Choice.{turn, stepped}
-use Rattle.pc_choose.specs.Marks.{marks_of}
 
 -- The seed, the state of its draws, the point, and the marks of the able actors.
 pub record ChooserData : Type 0 where

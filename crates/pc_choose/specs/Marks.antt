@@ -1,10 +1,8 @@
 -- Marks of actors: 1 for one that is able, and 0 for any other.
 use Rattle.std.specs.Prelude.{ℕ, ◌≤◌, Bool, true, false, List, [], ◌∷◌, ◌++◌, map, slice_index, slice_set}
-use Rattle.pc_semantics.specs.declared.actors.Actor.{Actor}
-use Rattle.pc_semantics.specs.Configurations.{Configuration}
-use Rattle.pc_semantics.specs.declared.ahead.Ahead.{Ahead}
-use Rattle.pc_semantics.specs.declared.ahead.Ahead.TheVariants as ahead
+use Rattle.pc_semantics.specs.{declared.actors.Actor.Actor, Configurations.Configuration, declared.ahead.Ahead.Ahead}
 use Rattle.pc_choose.specs.Able.{has_work}
+use Rattle.pc_semantics.specs.declared.ahead.Ahead.TheVariants as ahead
 
 abbrev pub mark : Bool → ℕ
 mark true = 1

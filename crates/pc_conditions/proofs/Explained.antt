@@ -4,8 +4,7 @@ use Rattle.std.proofs.Common.{inl, inr, ap, sym, subst, ◌∙◌}
 use Rattle.std.proofs.lemmas.List.{length-set}
 use Rattle.std.proofs.lemmas.Option.{none-some}
 use Rattle.std.proofs.lemmas.Bool.Decides.{eqb_tells}
-use Rattle.pc_lists.specs.Options.{◌>>=◌}
-use Rattle.pc_lists.specs.Places.{Each, Has}
+use Rattle.pc_lists.specs.Lists.{◌>>=◌, Each, Has}
 use Rattle.pc_lists.proofs.Bools.{false_true}
 use Rattle.pc_lists.proofs.Gets.{get_set_other}
 use Rattle.pc_lists.proofs.Options.{bind_is}

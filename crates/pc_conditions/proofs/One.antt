@@ -2,8 +2,7 @@
 use Rattle.std.specs.Prelude.{◌≡◌, ℕ, suc, ◌+◌, Bool, true, false, ◌&&◌, List, [], ◌∷◌, ◌++◌, length, Option, Some, None, slice_get, if◌then◌else◌, refl}
 use Rattle.std.proofs.Common.{ap, sym, subst, ◌∙◌, arith}
 use Rattle.std.proofs.lemmas.Option.{same_Some, none-some}
-use Rattle.pc_lists.specs.Options.{◌>>=◌}
-use Rattle.pc_lists.specs.Places.{Each}
+use Rattle.pc_lists.specs.Lists.{◌>>=◌, Each}
 use Rattle.pc_lists.proofs.Bools.{false_true}
 use Rattle.pc_lists.proofs.Options.{bind_is}
 use Rattle.pc_masks.specs.Masks.{has}
@@ -27,23 +26,21 @@ use Rattle.pc_rules.specs.Fields.{own_field}
 use Rattle.pc_rules.specs.Children.{type_at}
 use Rattle.pc_valid.specs.NoRule.{NoRule, Reaches}
 use Rattle.pc_rules.proofs.Derivations.{reaches_to, to_reaches, to_reached}
-use Rattle.pc_rules.proofs.Alike.{looked_at, bind_same}
-use Rattle.pc_caps.specs.Tables.{fits}
+use Rattle.pc_rules.proofs.Alike.{looked_at, bind_same, slot_same}
+use Rattle.pc_caps.specs.Computed.{fits}
 use Rattle.pc_core.specs.Methods.{UsesSlot}
 use Rattle.pc_core.specs.Nodes.{HasArity, NamesFit, NamesSlot}
 use Rattle.pc_sub.specs.Computed.{is_sub}
-use Rattle.pc_rules.proofs.Alike.{slot_same}
 use Rattle.pc_rules.proofs.Agreeing.{Agree, use_alike}
 use Rattle.pc_rules.proofs.Homes.{children_before}
 use Rattle.pc_check.specs.Inference.{rules_for, with_inferred, inferred_slot, with_inferred_slot}
 use Rattle.pc_check.proofs.OneFault.{agree_both, carried, reaches_one, one_node}
 use Rattle.pc_conditions.specs.Chosen.{is_chosen}
-use Rattle.pc_conditions.specs.Failing.{failure, with_reason, reasons_among, reasons, reasons_at}
+use Rattle.pc_conditions.specs.Failing.{failure, with_reason, reasons_among, reasons, reasons_at, first_false, holds_of, on, is_found}
 use Rattle.pc_conditions.specs.Laws.{ReachedNode, OneExplanation}
 use Rattle.pc_conditions.proofs.Started.{notes_length, slot_at, placed}
 use Rattle.pc_conditions.specs.Conditions as asked
 use Rattle.pc_rules.specs.Values.{is_var}
-use Rattle.pc_conditions.specs.Failing.{first_false, holds_of, on, is_found}
 use Rattle.pc_conditions.specs.declared.condition.Condition.{Condition}
 use Rattle.pc_conditions.specs.declared.condition.Condition.TheVariants as asks
 

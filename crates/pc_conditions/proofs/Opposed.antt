@@ -4,7 +4,7 @@ use Rattle.std.proofs.Common.{sym, subst}
 use Rattle.std.proofs.lemmas.Option.{none-some}
 use Rattle.pc_ann.specs.declared.annotation.Note.{Note}
 use Rattle.pc_valid.specs.Words.{Ty, Masks}
-use Rattle.pc_lists.specs.Options.{◌>>=◌}
+use Rattle.pc_lists.specs.Lists.{◌>>=◌}
 use Rattle.pc_lists.proofs.Bools.{false_true}
 use Rattle.pc_conditions.specs.Failing.{first_false}
 use Rattle.pc_conditions.specs.declared.condition.Condition.{Condition}

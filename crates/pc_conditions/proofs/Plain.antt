@@ -1,13 +1,13 @@
 -- Rules that depend on one slot, on fields, or on one or two children: each against its conditions.
 use Rattle.std.specs.Prelude.{◌≡◌, ℕ, Bool, true, false, ◌&&◌, ◌||◌, not, List, [], ◌∷◌, Option, Some, None, nat_eq, slice_get, if◌then◌else◌, refl}
-use Rattle.pc_lists.specs.Options.{◌>>=◌}
+use Rattle.pc_lists.specs.Lists.{◌>>=◌}
 use Rattle.pc_lists.proofs.Bools.{false_true}
 use Rattle.pc_masks.specs.Masks.{has, within, same, with_number}
 use Rattle.pc_ann.specs.declared.annotation.Note.{Note}
 use Rattle.pc_ann.specs.declared.annotation.Rule.{Rule}
 use Rattle.pc_ann.specs.declared.annotation.Rule.TheVariants as rule
-use Rattle.pc_caps.specs.Order.{is_below}
-use Rattle.pc_caps.specs.Tables.{fits, view, taken, may_write}
+use Rattle.pc_caps.specs.Computed.{is_below, fits, may_write}
+use Rattle.pc_caps.specs.Tables.{view, taken}
 use Rattle.pc_caps.specs.declared.capability.Cap.{Cap}
 use Rattle.pc_caps.specs.declared.capability.Form.{Form}
 use Rattle.pc_caps.specs.declared.capability.Form.TheVariants as form
@@ -30,8 +30,7 @@ use Rattle.pc_rules.specs.Operators.{value_says, both_read_as}
 use Rattle.pc_rules.specs.Control.{recovered, branch_masks, starts_method, result_ok, joined, is_condition}
 use Rattle.pc_rules.specs.Calls.{is_function}
 use Rattle.pc_rules.specs.Rules.{rule_says}
-use Rattle.pc_conditions.specs.Conditions.{conditions, of_found, get_conditions, get_own_conditions, put_conditions, put_own_conditions, goes}
-use Rattle.pc_conditions.specs.Conditions.{assign_conditions, body_conditions, reads, both_read}
+use Rattle.pc_conditions.specs.Conditions.{conditions, of_found, get_conditions, get_own_conditions, put_conditions, put_own_conditions, goes, assign_conditions, body_conditions, reads, both_read}
 use Rattle.pc_conditions.specs.Failing.{first_false, holds_of, on, is_found}
 use Rattle.pc_conditions.specs.declared.condition.Condition.{Condition}
 use Rattle.pc_conditions.specs.declared.condition.Condition.TheVariants as asks

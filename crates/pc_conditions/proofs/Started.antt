@@ -4,7 +4,7 @@ use Rattle.std.proofs.Common.{ap, sym, subst, ◌∙◌, arith}
 use Rattle.std.proofs.lemmas.Bool.{eq-eqb}
 use Rattle.std.proofs.lemmas.List.{length-set}
 use Rattle.std.proofs.lemmas.Option.{same_Some, none-some}
-use Rattle.pc_lists.specs.Options.{◌>>=◌}
+use Rattle.pc_lists.specs.Lists.{◌>>=◌}
 use Rattle.pc_lists.proofs.Gets.{get_below, get_within, get_set_same}
 use Rattle.pc_lists.proofs.Options.{bind_some, bind_is}
 use Rattle.pc_masks.specs.Masks.{same}
@@ -27,7 +27,7 @@ use Rattle.pc_rules.specs.Checks.StartsFrom.{first_child, else_branch, next_chil
 use Rattle.pc_rules.proofs.Derivations.{to_reaches, to_reached}
 use Rattle.pc_rules.proofs.Agreeing.{slots_within}
 use Rattle.pc_core.proofs.Homes.{home, home_method}
-use Rattle.pc_core.specs.MethodKinds.{this_slot}
+use Rattle.pc_core.specs.Entities.{this_slot}
 use Rattle.pc_rules.proofs.Homes.{children_before}
 use Rattle.pc_rules.proofs.Slotted.{this_known}
 use Rattle.pc_check.specs.Inference.{with_inferred, inferred_slot, with_inferred_slot, unwritten}

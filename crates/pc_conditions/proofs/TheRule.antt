@@ -3,8 +3,7 @@ use Rattle.std.specs.Prelude.{◌≡◌, ℕ, zero, suc, ◌+◌, ◌-◌, ◌�
 use Rattle.std.proofs.Common.{ap, sym, subst, arith}
 use Rattle.std.proofs.lemmas.Bool.{eq-eqb}
 use Rattle.std.proofs.lemmas.Option.{same_Some, none-some}
-use Rattle.pc_lists.specs.Options.{◌>>=◌}
-use Rattle.pc_lists.specs.Places.{Each}
+use Rattle.pc_lists.specs.Lists.{◌>>=◌, Each}
 use Rattle.pc_lists.proofs.Bools.{false_true}
 use Rattle.pc_lists.proofs.Gets.{get_within}
 use Rattle.pc_masks.specs.Masks.{first, same}

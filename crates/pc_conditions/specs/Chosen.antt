@@ -1,17 +1,11 @@
 -- Which rules are considered for a node.
 use Rattle.std.specs.Prelude.{ℕ, Bool, true, false, not, List, Option, Some, None, slice_get, codes}
-use Rattle.pc_ann.specs.declared.annotation.Note.{Note}
-use Rattle.pc_ann.specs.declared.annotation.Rule.{Rule}
-use Rattle.pc_ann.specs.declared.annotation.Rule.TheVariants as rule
-use Rattle.pc_core.specs.CoreData.{CoreData}
-use Rattle.pc_core.specs.declared.declarations.Method.{Method}
-use Rattle.pc_core.specs.declared.nodes.Node.{Node}
-use Rattle.pc_core.specs.declared.nodes.NodeKind.{NodeKind}
-use Rattle.pc_core.specs.declared.nodes.NodeKind.TheVariants as node
-use Rattle.pc_rules.specs.Fields.{incomplete}
-use Rattle.pc_rules.specs.Calls.{is_function, is_behaviour, same_text}
-use Rattle.pc_rules.specs.Operators.{is_arithmetic, is_comparison, is_equality, is_add, is_xor}
+use Rattle.pc_ann.specs.{declared.annotation.Note.Note, declared.annotation.Rule.Rule}
+use Rattle.pc_core.specs.{CoreData.CoreData, declared.declarations.Method.Method, declared.nodes.Node.Node, declared.nodes.NodeKind.NodeKind}
+use Rattle.pc_rules.specs.{Fields.incomplete, Calls.is_function, Calls.is_behaviour, Calls.same_text, Operators.is_arithmetic, Operators.is_comparison, Operators.is_equality, Operators.is_add, Operators.is_xor}
 use Rattle.pc_conditions.specs.Conditions.{callee}
+use Rattle.pc_ann.specs.declared.annotation.Rule.TheVariants as rule
+use Rattle.pc_core.specs.declared.nodes.NodeKind.TheVariants as node
 
 abbrev pub calls_function : Option Method → Bool
 calls_function None = false

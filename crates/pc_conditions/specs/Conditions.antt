@@ -1,23 +1,14 @@
 -- What each rule requires of a node, one condition at a time.
 use Rattle.std.specs.Prelude.{ℕ, ◌+◌, ◌-◌, List, [], ◌∷◌, ◌++◌, length, Option, Some, None, slice_get, if◌then◌else◌}
-use Rattle.pc_ann.specs.declared.annotation.Note.{Note}
-use Rattle.pc_ann.specs.declared.annotation.Rule.{Rule}
-use Rattle.pc_ann.specs.declared.annotation.Rule.TheVariants as rule
+use Rattle.pc_ann.specs.{declared.annotation.Note.Note, declared.annotation.Rule.Rule}
 use Rattle.pc_caps.specs.declared.capability.Cap.{Cap}
-use Rattle.pc_core.specs.CoreData.{CoreData}
-use Rattle.pc_core.specs.declared.declarations.FieldInfo.{FieldInfo}
-use Rattle.pc_core.specs.declared.declarations.Method.{Method}
-use Rattle.pc_core.specs.declared.declarations.ParamInfo.{ParamInfo}
-use Rattle.pc_core.specs.declared.nodes.Node.{Node}
-use Rattle.pc_core.specs.declared.nodes.NodeKind.{NodeKind}
-use Rattle.pc_core.specs.declared.nodes.NodeKind.TheVariants as node
-use Rattle.pc_lists.specs.Options.{◌>>=◌}
-use Rattle.pc_rules.specs.Parts.{slot_of}
+use Rattle.pc_core.specs.{CoreData.CoreData, declared.declarations.FieldInfo.FieldInfo, declared.declarations.Method.Method, declared.declarations.ParamInfo.ParamInfo, declared.nodes.Node.Node, declared.nodes.NodeKind.NodeKind}
+use Rattle.pc_lists.specs.Lists.{◌>>=◌}
+use Rattle.pc_rules.specs.{Parts.slot_of, Fields.field_of, Fields.own_field, Calls.called, Calls.is_function, Children.type_at}
 use Rattle.pc_valid.specs.Words.{Ty, Slots}
-use Rattle.pc_rules.specs.Fields.{field_of, own_field}
-use Rattle.pc_rules.specs.Calls.{called, is_function}
-use Rattle.pc_rules.specs.Children.{type_at}
 use Rattle.pc_conditions.specs.declared.condition.Condition.{Condition}
+use Rattle.pc_ann.specs.declared.annotation.Rule.TheVariants as rule
+use Rattle.pc_core.specs.declared.nodes.NodeKind.TheVariants as node
 use Rattle.pc_conditions.specs.declared.condition.Condition.TheVariants as asks
 
 -- the entities of literals

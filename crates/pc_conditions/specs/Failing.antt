@@ -1,27 +1,15 @@
 -- Whether the conditions of a rule hold, and the first one that does not.
 use Rattle.std.specs.Prelude.{◌≡◌, ℕ, Bool, true, false, ◌||◌, not, List, [], ◌∷◌, Option, Some, None, nat_eq, slice_get, if◌then◌else◌}
-use Rattle.pc_ann.specs.declared.annotation.Ann.{Ann}
-use Rattle.pc_ann.specs.declared.annotation.Note.{Note}
-use Rattle.pc_ann.specs.declared.annotation.Rule.{Rule}
+use Rattle.pc_ann.specs.{declared.annotation.Ann.Ann, declared.annotation.Note.Note, declared.annotation.Rule.Rule}
 use Rattle.pc_masks.specs.Masks.{has, within, same}
-use Rattle.pc_caps.specs.Order.{is_below}
-use Rattle.pc_caps.specs.Tables.{fits, view, taken, may_write, sendable, sendable_form}
-use Rattle.pc_core.specs.CoreData.{CoreData}
-use Rattle.pc_core.specs.declared.nodes.Node.{Node}
-use Rattle.pc_lists.specs.Options.{◌>>=◌}
+use Rattle.pc_caps.specs.{Computed.is_below, Computed.fits, Computed.may_write, Tables.view, Tables.taken, Tables.sendable, Tables.sendable_form}
+use Rattle.pc_core.specs.{CoreData.CoreData, declared.nodes.Node.Node}
+use Rattle.pc_lists.specs.Lists.{◌>>=◌}
 use Rattle.pc_sub.specs.Computed.{is_sub}
 use Rattle.pc_check.specs.Inference.{rules_for}
-use Rattle.pc_rules.specs.Parts.{readable, slot_of, reachable, through_notes, notes_of}
+use Rattle.pc_rules.specs.{Parts.readable, Parts.slot_of, Parts.reachable, Parts.through_notes, Parts.notes_of, Values.is_var, Fields.own_field, Calls.is_function, Calls.is_behaviour, Calls.is_isolated, Calls.is_lent, Children.type_at, Control.recovered}
 use Rattle.pc_valid.specs.Words.{Ty, Masks, Slots}
-use Rattle.pc_rules.specs.Values.{is_var}
-use Rattle.pc_rules.specs.Fields.{own_field}
-use Rattle.pc_rules.specs.Calls.{is_function, is_behaviour, is_isolated, is_lent}
-use Rattle.pc_rules.specs.Children.{type_at}
-use Rattle.pc_rules.specs.Control.{recovered}
-use Rattle.pc_conditions.specs.Conditions.{u64, bool, string, child_field, callee, conditions}
-use Rattle.pc_conditions.specs.Chosen.{is_chosen}
-use Rattle.pc_conditions.specs.declared.condition.Condition.{Condition}
-use Rattle.pc_conditions.specs.declared.reason.Reason.{Reason}
+use Rattle.pc_conditions.specs.{Conditions.u64, Conditions.bool, Conditions.string, Conditions.child_field, Conditions.callee, Conditions.conditions, Chosen.is_chosen, declared.condition.Condition.Condition, declared.reason.Reason.Reason}
 use Rattle.pc_conditions.specs.declared.condition.Condition.TheVariants as asks
 
 -- ---- whether a condition holds

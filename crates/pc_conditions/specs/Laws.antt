@@ -1,22 +1,12 @@
 -- Laws of the conditions of the rules.
 use Rattle.std.specs.Prelude.{◌≡◌, ◌≢◌, ◌⊎◌, ◌↔◌, ℕ, ◌<◌, List, [], length, Some, None, true, false, slice_get}
-use Rattle.pc_ann.specs.declared.annotation.Ann.{Ann}
-use Rattle.pc_ann.specs.declared.annotation.Note.{Note}
-use Rattle.pc_ann.specs.declared.annotation.Rule.{Rule}
-use Rattle.pc_core.specs.CoreData.{CoreData}
-use Rattle.pc_core.specs.Formed.{Formed}
-use Rattle.pc_core.specs.declared.nodes.Node.{Node}
-use Rattle.pc_lists.specs.Places.{Has}
-use Rattle.pc_rules.specs.Parts.{notes_of}
-use Rattle.pc_valid.specs.Words.{Masks, before}
-use Rattle.pc_valid.specs.Rules.{Means}
-use Rattle.pc_valid.specs.Valid.{KeepsWritten}
-use Rattle.pc_valid.specs.NoRule.{NoRule, Reaches, MeetsReached}
-use Rattle.pc_rules.specs.Rules.{rule_says}
+use Rattle.pc_ann.specs.{declared.annotation.Ann.Ann, declared.annotation.Note.Note, declared.annotation.Rule.Rule}
+use Rattle.pc_core.specs.{CoreData.CoreData, Formed.Formed, declared.nodes.Node.Node}
+use Rattle.pc_lists.specs.Lists.{Has}
+use Rattle.pc_rules.specs.{Parts.notes_of, Rules.rule_says}
+use Rattle.pc_valid.specs.{Words.Masks, Words.before, Rules.Means, Valid.KeepsWritten, NoRule.NoRule, NoRule.Reaches, NoRule.MeetsReached}
 use Rattle.pc_check.specs.Inference.{rules_for, with_inferred}
-use Rattle.pc_conditions.specs.Chosen.{is_chosen}
-use Rattle.pc_conditions.specs.Failing.{Because, failing, reasons, reasons_at}
-use Rattle.pc_conditions.specs.declared.condition.Condition.{Condition}
+use Rattle.pc_conditions.specs.{Chosen.is_chosen, Failing.Because, Failing.failing, Failing.reasons, Failing.reasons_at, declared.condition.Condition.Condition}
 
 -- The notes of the nodes before n, each of which satisfies its rule from the masks that reach it.
 pub record Prefix (core : CoreData) (ann : Ann) (n : ℕ) : Type 0 where

@@ -1,7 +1,7 @@
 //! Whether a condition holds.
 ghost use Rattle.std.specs.Prelude.{◌≡◌};
 ghost use Rattle.pc_masks.specs.Masks.{within, same};
-ghost use Rattle.pc_caps.specs.Tables.{may_write as may_write_is};
+ghost use Rattle.pc_caps.specs.Computed.{may_write as may_write_is};
 ghost use Rattle.pc_rules.specs.Calls as calls;
 ghost use Rattle.pc_rules.specs.Control.{recovered as recovered_is};
 ghost use Rattle.pc_rules.specs.Parts as parts;

@@ -5,9 +5,8 @@ use Rattle.pc_lists.proofs.Gets.{map_get, range_get}
 use Rattle.pc_lists.proofs.Ranges.{run_around}
 use Rattle.pc_core.specs.declared.declarations.Method.{Method}
 use Rattle.pc_core.specs.declared.nodes.Node.{Node}
-use Rattle.pc_core.specs.CoreData.{CoreData}
+use Rattle.pc_core.specs.CoreData.{CoreData, node_end}
 use Rattle.pc_core.specs.Formed.{Formed}
-use Rattle.pc_core.specs.Lookup.{node_end}
 use Rattle.pc_core.specs.Methods.{BodyFits}
 
 -- The method with a body to which node n belongs.

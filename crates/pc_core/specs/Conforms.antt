@@ -1,14 +1,16 @@
--- When an entity has what a trait or an interface declares.
-use Rattle.std.specs.Prelude.{◌≡◌, ℕ, length, Some, slice_get}
-use Rattle.pc_caps.specs.Order.{IsBelow}
-use Rattle.pc_caps.specs.Tables.{unalias}
-use Rattle.pc_core.specs.declared.declarations.EntityDef.{EntityDef}
-use Rattle.pc_core.specs.declared.declarations.Method.{Method}
-use Rattle.pc_core.specs.declared.declarations.ParamInfo.{ParamInfo}
-use Rattle.pc_core.specs.CoreData.{CoreData}
-use Rattle.pc_lists.specs.Places.{Each}
-use Rattle.pc_core.specs.Lookup.{own_methods, IsMethod}
-use Rattle.pc_core.specs.Chain.{Chain}
+-- When two entities are the same, or the first is declared by `is` to be the second; and when an entity has what a trait
+-- or an interface declares.
+use Rattle.std.specs.Prelude.{◌≡◌, ◌⊎◌, ℕ, length, Some, slice_get}
+use Rattle.pc_core.specs.{CoreData.CoreData, CoreData.own_methods, CoreData.IsMethod, Entities.Leads, declared.declarations.EntityDef.EntityDef, declared.declarations.Method.Method, declared.declarations.ParamInfo.ParamInfo}
+use Rattle.pc_caps.specs.Tables.{IsBelow, unalias}
+use Rattle.pc_lists.specs.Lists.{Each}
+
+-- The entities are the same, or a chain of `is` leads from the first to the second (nominal subtyping, in the Pony
+-- tutorial).
+abbrev pub Chain : CoreData → (entity above : ℕ) → Type 0
+Chain core a b = (a ≡ b) ⊎ Leads core a b
+
+-- ---- when an entity has what a trait or an interface declares
 
 -- A parameter of the entity's method accepts whatever the declared method's parameter accepts. Here and below entities
 -- are compared by chains of `is` alone, not by their methods.

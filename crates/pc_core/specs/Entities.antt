@@ -1,19 +1,15 @@
--- The built-in entities, and chains of `is` in a core.
+-- The built-in entities, chains of `is` in a core, the kinds of methods, and the slots that a declaration gives.
 use Rattle.std.specs.Prelude.{◌≡◌, ℕ, true, List, [], ◌∷◌, Some, None, slice_get, codes}
-use Rattle.pc_caps.specs.declared.capability.Cap.{Cap}
+use Rattle.pc_caps.specs.{declared.capability.Cap.Cap, declared.span.Span.Span}
+use Rattle.pc_tree.specs.{declared.kinds.EntityKind.EntityKind, Kinds.none_entity, Kinds.u64_entity, Kinds.bool_entity, Kinds.string_entity, Kinds.env_entity, Kinds.out_stream_entity, declared.kinds.MethodWord.MethodWord}
+use Rattle.pc_core.specs.{declared.declarations.EntityDef.EntityDef, declared.declarations.FieldInfo.FieldInfo, declared.declarations.Method.Method, CoreData.CoreData, declared.declarations.MethodKind.MethodKind, declared.declarations.ParamInfo.ParamInfo, declared.nodes.Slot.Slot}
+use Rattle.pc_lists.specs.Lists.{Has}
 use Rattle.pc_caps.specs.declared.capability.Cap.TheVariants as cap
 use Rattle.pc_caps.specs.declared.capability.Form.TheVariants as form
-use Rattle.pc_caps.specs.declared.span.Span.{Span}
-use Rattle.pc_tree.specs.declared.kinds.EntityKind.{EntityKind}
 use Rattle.pc_tree.specs.declared.kinds.EntityKind.TheVariants as kind
-use Rattle.pc_tree.specs.Kinds.{is_abstract}
-use Rattle.pc_tree.specs.BuiltIn.{none_entity, u64_entity, bool_entity, string_entity, env_entity, out_stream_entity}
-use Rattle.pc_core.specs.declared.declarations.EntityDef.{EntityDef}
-use Rattle.pc_core.specs.declared.declarations.FieldInfo.{FieldInfo}
-use Rattle.pc_core.specs.declared.declarations.Method.{Method}
 use Rattle.pc_core.specs.declared.declarations.MethodKind.TheVariants as method
-use Rattle.pc_core.specs.CoreData.{CoreData}
-use Rattle.pc_lists.specs.Places.{Has}
+use Rattle.pc_tree.specs.declared.kinds.MethodWord.TheVariants as word
+use Rattle.pc_core.specs.declared.nodes.SlotKind.TheVariants as slot
 
 -- Built-in parts have no place in the text.
 abbrev pub nowhere : Span
@@ -61,10 +57,6 @@ pub record HasBuiltIn (core : CoreData) : Type 0 where
   pub print_name : slice_get core.names print ≡ Some (codes "print")
   pub method : slice_get core.methods 0 ≡ Some (print_method print)
 
--- An entity is a trait or an interface.
-abbrev pub IsAbstract : CoreData → ℕ → Type 0
-IsAbstract core e = (x : EntityDef) × (slice_get core.entities e ≡ Some x) × (is_abstract x.kind ≡ true)
-
 -- The `is` list of an entity names another.
 abbrev pub Provides : CoreData → (entity above : ℕ) → Type 0
 Provides core a b = (x : EntityDef) × (slice_get core.entities a ≡ Some x) × Has x.provides b
@@ -73,3 +65,25 @@ Provides core a b = (x : EntityDef) × (slice_get core.entities a ≡ Some x) ×
 pub data Leads (core : CoreData) : (entity above : ℕ) → Type 0 where
   one : {a b : ℕ} → Provides core a b → Leads core a b
   more : {a b c : ℕ} → Provides core a b → Leads core b c → Leads core a c
+
+-- ---- the kinds of methods, and the slots that a declaration gives
+
+-- The kind of a constructor, and of a method with this keyword: an actor's constructor spawns it.
+abbrev pub constructor_kind : EntityKind → MethodKind
+constructor_kind kind.Class = method.New
+constructor_kind kind.Actor = method.Spawn
+constructor_kind kind.Primitive = method.New
+constructor_kind kind.Trait = method.New
+constructor_kind kind.Interface = method.New
+
+abbrev pub word_kind : EntityKind → MethodWord → MethodKind
+word_kind e word.Fun = method.Fun
+word_kind e word.Be = method.Be
+word_kind e word.New = constructor_kind e
+
+-- The slot of `this`, and that of a parameter.
+abbrev pub this_slot : ℕ → Method → Slot
+this_slot m x = record { method = m; kind = slot.This; depth = 0; written = Some (x.entity, x.receiver) }
+
+abbrev pub param_slot : ℕ → ParamInfo → Slot
+param_slot m p = record { method = m; kind = slot.Param; depth = 0; written = Some (p.entity, p.cap) }

@@ -1,18 +1,12 @@
 -- When an entity fits its core.
 use Rattle.std.specs.Prelude.{◌≡◌, ◌⊎◌, ◌↔◌, ℕ, ◌<◌, ◌≤◌, true, [], ◌∷◌, ◌++◌, map, length, Some, slice_get, codes}
-use Rattle.pc_caps.specs.declared.capability.Cap.TheVariants as cap
 use Rattle.pc_caps.specs.Limits.{field_limit}
+use Rattle.pc_tree.specs.Kinds.{may_have_fields, env_entity}
+use Rattle.pc_core.specs.{declared.declarations.EntityDef.EntityDef, declared.declarations.Method.Method, declared.declarations.ParamInfo.ParamInfo, CoreData.CoreData, CoreData.own_methods, CoreData.field_name, CoreData.method_name, Further.IsAbstract, Entities.Leads}
+use Rattle.pc_lists.specs.Lists.{Each, Has, Differ, Ascends}
+use Rattle.pc_caps.specs.declared.capability.Cap.TheVariants as cap
 use Rattle.pc_tree.specs.declared.kinds.EntityKind.TheVariants as kind
-use Rattle.pc_tree.specs.Kinds.{may_have_fields}
-use Rattle.pc_tree.specs.BuiltIn.{env_entity}
-use Rattle.pc_core.specs.declared.declarations.EntityDef.{EntityDef}
-use Rattle.pc_core.specs.declared.declarations.Method.{Method}
 use Rattle.pc_core.specs.declared.declarations.MethodKind.TheVariants as method
-use Rattle.pc_core.specs.declared.declarations.ParamInfo.{ParamInfo}
-use Rattle.pc_core.specs.CoreData.{CoreData}
-use Rattle.pc_lists.specs.Places.{Each, Has, Differ, Ascends}
-use Rattle.pc_core.specs.Lookup.{own_methods, field_name, method_name}
-use Rattle.pc_core.specs.Entities.{IsAbstract, Leads}
 
 -- The actor with which a program starts: its `create` takes the environment.
 pub record HasMain (core : CoreData) : Type 0 where

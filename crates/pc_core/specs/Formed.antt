@@ -1,13 +1,7 @@
 -- When the lists of a core fit together.
 use Rattle.std.specs.Prelude.{◌-◌, ◌<◌, ◌^◌, map, length}
-use Rattle.pc_core.specs.CoreData.{CoreData}
-use Rattle.pc_lists.specs.Ranges.{Follow}
-use Rattle.pc_lists.specs.Places.{Each, Differ}
-use Rattle.pc_core.specs.Lookup.{node_end}
-use Rattle.pc_core.specs.Entities.{HasBuiltIn}
-use Rattle.pc_core.specs.EntityFits.{HasMain, EntityFits}
-use Rattle.pc_core.specs.Methods.{MethodFits}
-use Rattle.pc_core.specs.Nodes.{NodeFits}
+use Rattle.pc_core.specs.{CoreData.CoreData, CoreData.node_end, Entities.HasBuiltIn, EntityFits.HasMain, EntityFits.EntityFits, Methods.MethodFits, Nodes.NodeFits}
+use Rattle.pc_lists.specs.Lists.{Follow, Each, Differ}
 
 pub record Formed (core : CoreData) : Type 0 where
   -- each count fits in 32 bits

@@ -1,10 +1,7 @@
 -- A core with what it keeps beside its lists, to look things up in.
 use Rattle.std.specs.Prelude.{◌≡◌, ℕ, List, Option, IfSome, map}
 use Rattle.pc_masks.specs.declared.mask.Mask.{Mask}
-use Rattle.pc_core.specs.CoreData.{CoreData}
-use Rattle.pc_core.specs.Conforming.{TellsConforming}
-use Rattle.pc_core.specs.Formed.{Formed}
-use Rattle.pc_core.specs.MethodKeys.{method_key}
+use Rattle.pc_core.specs.{CoreData.CoreData, Conforming.TellsConforming, Formed.Formed, MethodKeys.method_key}
 
 -- The lists fit together, and what is kept is right: the keys of the methods, and the table of what conforms to what.
 abbrev pub IsWhole : CoreData → Option (List (ℕ × ℕ)) → Option (List (List Mask)) → Type 0

@@ -2,7 +2,7 @@
 ghost use Rattle.std.specs.Prelude.{◌≡◌, ◌↔◌, ◌<◌, IfSome, IsTrue, length};
 ghost use Rattle.pc_core.specs.Conforming.{TellsConforming};
 ghost use Rattle.pc_core.specs.Conforms.{Conforms};
-ghost use Rattle.pc_core.specs.Entities.{IsAbstract};
+ghost use Rattle.pc_core.specs.Further.{IsAbstract};
 
 use crate::cores::Core;
 use crate::entity_set::EntitySet;

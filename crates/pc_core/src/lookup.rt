@@ -1,8 +1,9 @@
 //! Fields and methods by their names.
+ghost use Rattle.pc_core.specs.Further as further;
 ghost use Rattle.std.specs.Prelude.{◌≡◌, ℕ, ◌+◌, ◌<◌, ◌≤◌, ◌^◌, length, MatchOption, slice_range};
 ghost use Rattle.pc_caps.specs.Limits.{field_limit};
-ghost use Rattle.pc_core.specs.Lookup as spec;
-ghost use Rattle.pc_lists.specs.Lookup.{place_of};
+ghost use Rattle.pc_core.specs.CoreData as spec;
+ghost use Rattle.pc_lists.specs.Lists.{place_of};
 
 use crate::cores::Core;
 use crate::declarations::{FieldInfo, Method};
@@ -12,7 +13,7 @@ impl Core {
     /// not allocate.
     pub fn field(&self, entity: u32, name: u32) -> Option<u32>
         ensures value { result ≡ spec.field_named self.now entity name }
-        ensures exact { MatchOption result ((i : ℕ) → ¬ (spec.IsField self.now entity name i)) (λ i. spec.IsField self.now entity name i) }
+        ensures exact { MatchOption result ((i : ℕ) → ¬ (further.IsField self.now entity name i)) (λ i. further.IsField self.now entity name i) }
     {
         self.formed();
         let found = self.entity_at(entity)?;

@@ -3,12 +3,12 @@ use Rattle.std.proofs.Common.{◌≡◌, ℕ, List, sym, subst, ◌∙◌}
 use Rattle.pc_choose.specs.Laws.{ListsAreOne}
 use Rattle.pc_choose.specs.Lists.{Chosen}
 use Rattle.pc_core.specs.CoreData.{CoreData}
-use Rattle.pc_io.specs.Change.{Change}
-use Rattle.pc_lists.specs.Texts.{Text}
-use Rattle.pc_sched_lines.specs.Lines.{IsLine, LinesAreOne}
-use Rattle.pc_refusals.specs.Ends.{TellsPart}
+use Rattle.pc_io.specs.Sink.{Change}
+use Rattle.pc_lists.specs.Lists.{Text}
+use Rattle.pc_sched_lines.specs.Lines.{IsLine}
+use Rattle.pc_sched_lines.specs.Rows.{LinesAreOne}
+use Rattle.pc_refusals.specs.Verdict.{TellsPart, Verdict}
 use Rattle.pc_refusals.specs.Inner.Answering.{WritesVerdict}
-use Rattle.pc_refusals.specs.Verdict.{Verdict}
 use Rattle.pc_refusals.proofs.Statuses.{IsLate}
 use Rattle.pc_core_commands.specs.Play.{RanChosen}
 use Rattle.pc_core_commands.specs.Run.{Ran}

@@ -16,8 +16,7 @@ use Rattle.pc_events.proofs.Plans.{plans, step_is}
 use Rattle.pc_core.specs.CoreData.{CoreData}
 use Rattle.pc_lists.proofs.Cuts.{drop_item}
 use Rattle.pc_semantics.specs.Configurations.{Configuration, start}
-use Rattle.pc_semantics.specs.Runs.{after, followed, run_from}
-use Rattle.pc_semantics.specs.Step.{step}
+use Rattle.pc_semantics.specs.Step.{after, followed, run_from, step}
 use Rattle.pc_semantics.specs.declared.outcome.Outcome.{Outcome}
 use Rattle.pc_semantics.specs.declared.outcome.Outcome.TheVariants.{Moved, Skipped, Lacks, TooLong}
 use Rattle.pc_trace.specs.Traces.{TooManyAt}

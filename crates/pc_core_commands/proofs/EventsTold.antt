@@ -2,7 +2,7 @@
 use Rattle.std.proofs.Common.{◌≡◌, ℕ, List, [], Ok, Err, inl, inr, refl, sym, subst, arith}
 use Rattle.pc_core.specs.CoreData.{CoreData}
 use Rattle.pc_trace.specs.Traces.{TooLongAt, TooManyAt}
-use Rattle.pc_lists.specs.Texts.{Text}
+use Rattle.pc_lists.specs.Lists.{Text}
 use Rattle.pc_refusal_lines.specs.Lines.{many_actors_line, too_long_line}
 use Rattle.pc_run_events.specs.Lines.{events_text_of_run}
 use Rattle.pc_run_events.specs.declared.events.RunEvent.{RunEvent}

@@ -2,14 +2,14 @@
 use Rattle.std.proofs.Common.{◌≡◌, Ok, Err, true, false, refl, ap, subst, arith}
 use Rattle.std.specs.Prelude.{IfErr, Result}
 use Rattle.pc_explain_names.specs.Names.{names_text}
-use Rattle.pc_lists.specs.Texts.{Text}
-use Rattle.pc_names.specs.Names.{IsNotMemory}
+use Rattle.pc_lists.specs.Lists.{Text}
+use Rattle.pc_names.specs.Faults.{IsNotMemory}
 use Rattle.pc_names.specs.declared.fault.NameFault.{NameFault}
 use Rattle.pc_names.specs.declared.fault.NameFault.TheVariants as fault
 use Rattle.pc_tree.specs.Tree as t
 use Rattle.pc_refusals.specs.Inner.Refusals.{IsNameStop}
 use Rattle.pc_refusals.specs.Inner.Stages.{StageStops}
-use Rattle.pc_refusals.specs.NameFaults.{name_line, name_status}
+use Rattle.pc_refusals.specs.FaultLines.{name_line, name_status}
 use Rattle.pc_refusals.specs.Verdict.{Verdict, refused}
 use Rattle.pc_refusals.specs.declared.stop.Stop.{Stop}
 use Rattle.pc_refusals.proofs.Statuses.{IsOther}

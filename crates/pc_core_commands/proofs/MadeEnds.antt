@@ -5,19 +5,17 @@ use Rattle.std.specs.Io.KnownBytes.{Appends}
 use Rattle.std.proofs.KnownBytes.{Appends-kept, Appends-trans}
 use Rattle.std.proofs.Math.Seq.{take-length}
 use Rattle.pc_core.specs.CoreData.{CoreData}
-use Rattle.pc_gen.specs.Schedule.{schedule}
-use Rattle.pc_io.specs.Change.{Change, change}
-use Rattle.pc_io.specs.Sink.{GrowsByPrefix}
+use Rattle.pc_gen.specs.Program.{schedule}
+use Rattle.pc_io.specs.Sink.{Change, change, GrowsByPrefix}
 use Rattle.pc_io.proofs.Prefixes.{grows_more, grows_on, rose_before}
 use Rattle.pc_run.specs.Ends.{NeverLacks}
 use Rattle.pc_run.specs.Spreading.{spread}
-use Rattle.pc_lists.specs.Texts.{Text}
-use Rattle.pc_refusals.specs.Ends.{TellsPart}
+use Rattle.pc_lists.specs.Lists.{Text}
+use Rattle.pc_refusals.specs.Verdict.{TellsPart, Verdict, headed}
 use Rattle.pc_refusals.specs.Inner.Answering.{EndsCommand, CommandStops}
 use Rattle.pc_core_commands.specs.Make.{RanMade, made_line, made_name}
 use Rattle.pc_core_commands.specs.Run.{Ran}
 use Rattle.pc_refusals.specs.Inner.Stages.{StageWriteStops}
-use Rattle.pc_refusals.specs.Verdict.{Verdict, headed}
 use Rattle.pc_refusals.specs.declared.stop.Stop.{Stop}
 use Rattle.pc_refusals.specs.declared.stop.Stop.TheVariants.{Refused, File, Sink, Memory}
 use Rattle.pc_core_commands.proofs.RunEnds.{has_verdict}

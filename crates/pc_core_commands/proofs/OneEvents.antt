@@ -2,17 +2,16 @@
 use Rattle.std.proofs.Common.{◌≡◌, ◌<◌, ℕ, suc, List, Some, Ok, Err, sym, ap, ◌∙◌, subst, arith}
 use Rattle.std.proofs.lemmas.Option.{none-some, same_Some}
 use Rattle.pc_core.specs.CoreData.{CoreData}
-use Rattle.pc_lists.specs.Places.{Has}
-use Rattle.pc_lists.specs.Texts.{Text}
+use Rattle.pc_lists.specs.Lists.{Has, Text}
 use Rattle.pc_run_events.specs.Events.{AllEvents, Does, EventAt}
 use Rattle.pc_run_events.specs.Lines.{events_text_of_run}
 use Rattle.pc_run_events.specs.declared.events.Deed.{Deed}
 use Rattle.pc_run_events.specs.declared.events.RunEvent.{RunEvent}
 use Rattle.pc_run_events.proofs.One.{one_deed}
-use Rattle.pc_semantics.specs.Runs.{outcomes}
+use Rattle.pc_semantics.specs.Step.{outcomes}
 use Rattle.pc_semantics.specs.Text.{end_of}
 use Rattle.pc_semantics.specs.declared.outcome.Outcome.TheVariants as outcome
-use Rattle.pc_refusals.specs.After.{HasOneEnd}
+use Rattle.pc_refusals.specs.Source.{HasOneEnd}
 use Rattle.pc_refusal_lines.specs.Lines.{many_actors_line, too_long_line}
 use Rattle.pc_refusals.specs.Verdict.{refused}
 use Rattle.pc_core_commands.specs.Events.{EventsTelling}

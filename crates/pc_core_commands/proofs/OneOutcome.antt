@@ -2,14 +2,14 @@
 use Rattle.std.proofs.Common.{◌≡◌, ◌≢◌, ◌⊎◌, ℕ, List, [], Ok, Err, inl, inr, refl, sym, ap, ◌∙◌, arith}
 use Rattle.std.specs.Prelude.{Result}
 use Rattle.pc_core.specs.CoreData.{CoreData}
-use Rattle.pc_lists.specs.Texts.{Text}
+use Rattle.pc_lists.specs.Lists.{Text}
 use Rattle.pc_outcome_laws.specs.Laws.{AnswersAreOne}
 use Rattle.pc_outcomes.specs.Tables.{AnswersTable, IsOutcomesTable}
 use Rattle.pc_outcomes.specs.Texts.{outcomes_text}
 use Rattle.pc_outcomes.specs.declared.entry.Entry.{Entry}
 use Rattle.pc_outcomes.specs.declared.fault.OutcomesFault.{OutcomesFault}
 use Rattle.pc_outcomes.specs.declared.fault.OutcomesFault.TheVariants.{Memory, Steps, Texts}
-use Rattle.pc_refusals.specs.After.{HasOneEnd}
+use Rattle.pc_refusals.specs.Source.{HasOneEnd}
 use Rattle.pc_refusals.specs.Verdict.{Verdict, IsAccepting, done, refused}
 use Rattle.pc_refusals.proofs.Statuses.{IsOther, other_refuses}
 use Rattle.pc_core_commands.specs.Outcomes.{IsCount, OutcomesTelling, many_bytes_line, many_steps_line}

@@ -2,17 +2,18 @@
 use Rattle.std.proofs.Common.{◌≡◌, ℕ, List, Some, None, Ok, Err, refl, sym, ap, ◌∙◌, subst, arith}
 use Rattle.std.proofs.lemmas.Option.{none-some}
 use Rattle.pc_core.specs.CoreData.{CoreData}
-use Rattle.pc_sched_lines.specs.Lines.{IsLine, LinesAreOne}
+use Rattle.pc_sched_lines.specs.Lines.{IsLine}
+use Rattle.pc_sched_lines.specs.Rows.{LinesAreOne}
 use Rattle.pc_semantics.specs.Configurations.{Configuration}
-use Rattle.pc_semantics.specs.Runs.{after, outcomes}
+use Rattle.pc_semantics.specs.Step.{after, outcomes}
 use Rattle.pc_semantics.specs.Text.{end_of}
 use Rattle.pc_semantics.specs.declared.outcome.Outcome.TheVariants as outcome
-use Rattle.pc_swap.specs.Kept.{IsKept}
+use Rattle.pc_swap.specs.Apart.{IsKept}
 use Rattle.pc_swap.specs.Laws.{KeptAreNotApart}
 use Rattle.pc_swap.specs.declared.kept.Kept.{Kept}
 use Rattle.pc_swap.specs.declared.kept.Kept.TheVariants.{SameActor, NotMoved, OneMailbox, BothSpawn}
-use Rattle.pc_lists.specs.Texts.{Text}
-use Rattle.pc_refusals.specs.After.{HasOneEnd}
+use Rattle.pc_lists.specs.Lists.{Text}
+use Rattle.pc_refusals.specs.Source.{HasOneEnd}
 use Rattle.pc_refusal_lines.specs.Lines.{too_long_line}
 use Rattle.pc_core_commands.specs.Swap.{IsPlace, Neighbours, SwapText, Swapping, kept_line}
 use Rattle.pc_core_commands.specs.Swap.SwapText.{exchanged, stay}

@@ -5,18 +5,17 @@ use Rattle.std.proofs.lemmas.Option.{none-some, same_Some}
 use Rattle.pc_events.specs.Before.{at_place}
 use Rattle.pc_events.specs.Clock.{Clocks, Many}
 use Rattle.pc_core.specs.CoreData.{CoreData}
-use Rattle.pc_lists.specs.Places.{Has}
-use Rattle.pc_semantics.specs.Runs.{after, outcomes}
+use Rattle.pc_lists.specs.Lists.{Has, Text}
+use Rattle.pc_semantics.specs.Step.{after, outcomes}
 use Rattle.pc_semantics.specs.Safety.{access}
 use Rattle.pc_semantics.specs.Text.{end_of}
 use Rattle.pc_semantics.specs.declared.access.Access.{Access}
 use Rattle.pc_semantics.specs.declared.outcome.Outcome.TheVariants as outcome
 use Rattle.pc_trace.specs.Traces.{AllTouches, TooManyAt, TouchAt, actor_limit}
 use Rattle.pc_trace.specs.declared.touch.Touch.{Touch}
-use Rattle.pc_lists.specs.Texts.{Text}
-use Rattle.pc_refusals.specs.After.{HasOneEnd}
+use Rattle.pc_refusals.specs.Source.{HasOneEnd}
 use Rattle.pc_refusal_lines.specs.Lines.{many_actors_line, too_long_line}
-use Rattle.pc_run_events.specs.TouchLines.{trace_text}
+use Rattle.pc_run_events.specs.Lines.{trace_text}
 use Rattle.pc_core_commands.specs.Trace.{Tracing}
 use Rattle.pc_core_commands.specs.Trace.Tracing.{tells, too_long, too_many}
 use Rattle.pc_refusals.specs.Verdict.{refused}

@@ -3,20 +3,18 @@ use Rattle.std.proofs.Common.{◌≡◌, ℕ, List, [], length, Some, Ok, refl, 
 use Rattle.std.specs.Io.KnownBytes.{Appends}
 use Rattle.std.proofs.Math.Seq.{take-length}
 use Rattle.pc_core.specs.CoreData.{CoreData}
-use Rattle.pc_io.specs.Sink.{GrowsByPrefix}
+use Rattle.pc_io.specs.Sink.{GrowsByPrefix, Change}
 use Rattle.pc_run.specs.Ends.{NeverLacks, IsAnswer}
 use Rattle.pc_run.specs.declared.report.Report.{Report}
-use Rattle.pc_semantics.specs.Runs.{outcomes}
+use Rattle.pc_semantics.specs.Step.{outcomes}
 use Rattle.pc_semantics.specs.Text.{end_of, run_text}
 use Rattle.pc_semantics.specs.declared.outcome.Outcome.TheVariants.{TooLong}
-use Rattle.pc_lists.specs.Texts.{Text}
-use Rattle.pc_io.specs.Change.{Change}
-use Rattle.pc_refusals.specs.Ends.{TellsPart}
+use Rattle.pc_lists.specs.Lists.{Text}
+use Rattle.pc_refusals.specs.Verdict.{TellsPart, done, stopped}
 use Rattle.pc_refusals.specs.Inner.Answering.{WritesVerdict}
 use Rattle.pc_refusal_lines.specs.Lines.{too_long_line}
 use Rattle.pc_core_commands.specs.Run.{Ran}
 use Rattle.pc_core_commands.specs.Run.Ran.{whole, cut}
-use Rattle.pc_refusals.specs.Verdict.{done, stopped}
 use Rattle.pc_core_commands.proofs.RunEnds.{has_verdict}
 
 module _ (name : Text) (core : CoreData) (list : List ℕ) (out : Change) where

@@ -2,12 +2,11 @@
 use Rattle.std.proofs.Common.{◌≡◌, ◌+◌, ◌⊎◌, ℕ, List, [], ◌∷◌, Option, Some, None, inl, inr, refl, sym, ap, ◌∙◌, subst}
 use Rattle.std.proofs.lemmas.Option.{same_Some}
 use Rattle.pc_core.specs.CoreData.{CoreData}
-use Rattle.pc_lists.specs.Texts.{Text}
+use Rattle.pc_lists.specs.Lists.{Text}
 use Rattle.pc_run.specs.Ends.{NeverLacks}
 use Rattle.pc_semantics.specs.Configurations.{Configuration, start}
-use Rattle.pc_semantics.specs.Runs.{followed, outcomes, outcomes_from, run_from}
+use Rattle.pc_semantics.specs.Step.{followed, outcomes, outcomes_from, run_from, step}
 use Rattle.pc_semantics.specs.Safety.{LacksNothing}
-use Rattle.pc_semantics.specs.Step.{step}
 use Rattle.pc_semantics.specs.Text.{ended_at, run_text}
 use Rattle.pc_semantics.specs.declared.outcome.Outcome.{Outcome}
 use Rattle.pc_semantics.specs.declared.outcome.Outcome.TheVariants.{Moved, Skipped, Lacks, TooLong}

@@ -3,12 +3,12 @@ use Rattle.std.proofs.Common.{◌≡◌, ◌≤◌, ◌<◌, ◌+◌, ℕ, List,
 use Rattle.std.specs.Prelude.{Result}
 use Rattle.pc_core.specs.CoreData.{CoreData}
 use Rattle.pc_sched_lines.specs.Lines.{IsLine}
-use Rattle.pc_sched.specs.Limits.{turn_limit}
-use Rattle.pc_swap.specs.Swapping.{SwapEnds}
+use Rattle.pc_sched.specs.Schedules.{turn_limit}
+use Rattle.pc_swap.specs.Ends.{SwapEnds}
 use Rattle.pc_swap.specs.declared.kept.Kept.{Kept}
 use Rattle.pc_swap.specs.declared.kept.SwapFault.{SwapFault}
 use Rattle.pc_swap.specs.declared.kept.SwapFault.TheVariants as fault
-use Rattle.pc_lists.specs.Texts.{Text}
+use Rattle.pc_lists.specs.Lists.{Text}
 use Rattle.pc_refusal_lines.specs.Lines.{too_long_line}
 use Rattle.pc_refusals.specs.Verdict.{IsAccepting, Verdict, refused}
 use Rattle.pc_refusals.proofs.Statuses.{IsLate}

@@ -9,12 +9,11 @@ use Rattle.pc_core.specs.declared.declarations.Method.{Method}
 use Rattle.pc_lists.proofs.Gets.{get_within}
 use Rattle.pc_noted_receivers.specs.Noted.{noted_entities, noted_in}
 use Rattle.pc_valid.specs.Valid.{Valid}
-use Rattle.pc_sends.specs.Reach.{Sends, next}
-use Rattle.pc_sends.specs.Tables.{IsTable}
+use Rattle.pc_sends.specs.Tables.{Sends, next, IsTable}
 use Rattle.pc_sends.specs.declared.table.Table.{Table}
 use Rattle.pc_sends.proofs.There.{reach_below}
-use Rattle.pc_lists.specs.Texts.{Text}
-use Rattle.pc_run_events.specs.Names.{MethodHasName}
+use Rattle.pc_lists.specs.Lists.{Text}
+use Rattle.pc_run_events.specs.Lines.{MethodHasName}
 use Rattle.pc_core_commands.specs.Sends.{IsSendsText, NamesAreThere, table_text}
 
 -- ---- what is noted

@@ -3,9 +3,9 @@ use Rattle.std.proofs.Common.{◌≡◌, ℕ, List, [], Ok, Err, inl, inr, refl,
 use Rattle.pc_core.specs.CoreData.{CoreData}
 use Rattle.pc_trace.specs.Traces.{TooLongAt, TooManyAt}
 use Rattle.pc_trace.specs.declared.touch.Touch.{Touch}
-use Rattle.pc_lists.specs.Texts.{Text}
+use Rattle.pc_lists.specs.Lists.{Text}
 use Rattle.pc_refusal_lines.specs.Lines.{many_actors_line, too_long_line}
-use Rattle.pc_run_events.specs.TouchLines.{trace_text}
+use Rattle.pc_run_events.specs.Lines.{trace_text}
 use Rattle.pc_refusals.specs.Verdict.{IsAccepting, Verdict, refused}
 use Rattle.pc_refusals.proofs.Statuses.{IsLate}
 use Rattle.pc_core_commands.specs.Trace.{Traced, Tracing}

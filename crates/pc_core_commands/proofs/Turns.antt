@@ -1,8 +1,7 @@
 -- The steps of a schedule's turns are not too many.
 use Rattle.std.proofs.Common.{◌≡◌, ◌≤◌, ℕ, List, length, ap, arith}
 use Rattle.pc_run.specs.Spreading.{spread}
-use Rattle.pc_sched.specs.Limits.{turn_limit}
-use Rattle.pc_sched.specs.Schedules.{total}
+use Rattle.pc_sched.specs.Schedules.{turn_limit, total}
 use Rattle.pc_sched.specs.declared.turns.Turn.{Turn}
 use Rattle.pc_sched_lines.proofs.Spreads.{length-spread}
 

@@ -1,13 +1,9 @@
 -- `events SRC SCHED`: the events of a run.
 use Rattle.std.specs.Prelude.{ℕ, ◌≡◌, List, Result, Ok, Err}
 use Rattle.pc_core.specs.CoreData.{CoreData}
-use Rattle.pc_run_events.specs.Events.{AllEvents, touches_in}
-use Rattle.pc_run_events.specs.Lines.{events_text_of_run}
-use Rattle.pc_run_events.specs.Names.{AllNamed}
-use Rattle.pc_run_events.specs.declared.events.RunEvent.{RunEvent}
-use Rattle.pc_trace.specs.Traces.{AllTouches, RanOn, TooLongAt, TooManyAt, VerdictIs}
-use Rattle.pc_trace.specs.declared.touch.Verdict.TheVariants.{Ordered}
-use Rattle.pc_lists.specs.Texts.{Text}
+use Rattle.pc_run_events.specs.{Events.AllEvents, Events.touches_in, Lines.events_text_of_run, Lines.AllNamed, declared.events.RunEvent.RunEvent}
+use Rattle.pc_trace.specs.{Traces.AllTouches, Traces.RanOn, Traces.TooLongAt, Traces.TooManyAt, Traces.VerdictIs, declared.touch.Verdict.TheVariants.Ordered}
+use Rattle.pc_lists.specs.Lists.{Text}
 use Rattle.pc_refusal_lines.specs.Lines.{many_actors_line, too_long_line}
 use Rattle.pc_refusals.specs.Verdict.{Verdict, refused}
 

@@ -5,17 +5,15 @@ use Rattle.pc_core_relation.specs.Files.{IsCoreOf}
 use Rattle.pc_explain.specs.Explanation.{IsExplanation}
 use Rattle.pc_explain_names.specs.Names.{names_text}
 use Rattle.pc_file_spec.specs.Cores.{IsElabFault}
-use Rattle.pc_lex.specs.Answers.{TokenList}
-use Rattle.pc_lists.specs.Texts.{Text}
-use Rattle.pc_names.specs.Names.{IsNotMemory, IsNameFault}
-use Rattle.pc_names.specs.declared.fault.NameFault.{NameFault}
-use Rattle.pc_names.specs.declared.fault.NameFault.TheVariants as fault
-use Rattle.pc_refusals.specs.NameFaults.{name_line, name_status}
-use Rattle.pc_refusals.specs.Verdict.{Verdict, refused}
+use Rattle.pc_lex.specs.Pieces.{TokenList}
+use Rattle.pc_lists.specs.Lists.{Text}
+use Rattle.pc_names.specs.{Faults.IsNotMemory, Faults.IsNameFault, declared.fault.NameFault.NameFault}
+use Rattle.pc_refusals.specs.{FaultLines.name_line, FaultLines.name_status, Verdict.Verdict, Verdict.refused}
 use Rattle.pc_valid.specs.Valid.{Derivable}
 use Rattle.pc_token.specs.declared.kinds.Token.{Token}
-use Rattle.pc_tree.specs.Tree as t
 use Rattle.pc_core_commands.specs.Judge.{accepted_text}
+use Rattle.pc_names.specs.declared.fault.NameFault.TheVariants as fault
+use Rattle.pc_tree.specs.Tree as t
 
 -- The text for a core: that it is accepted, because it has a derivation, or why it has none.
 pub data CoreText (name bytes : Text) (tokens : List Token) (core : CoreData) : Text → Type 0 where

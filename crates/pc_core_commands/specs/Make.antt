@@ -1,10 +1,10 @@
 -- `make SEED SIZE`: the numbers among its words, and the run of the program that is made of them.
 use Rattle.std.specs.Prelude.{ℕ, ◌≡◌, Option, Some, None, length, codes}
-use Rattle.pc_args.specs.Numbers.{IsSeed, IsSize}
+use Rattle.pc_args.specs.Line.{IsSeed, IsSize}
 use Rattle.pc_core.specs.CoreData.{CoreData}
-use Rattle.pc_gen.specs.Schedule.{schedule}
+use Rattle.pc_gen.specs.Program.{schedule}
 use Rattle.pc_run.specs.Spreading.{spread}
-use Rattle.pc_lists.specs.Texts.{Text}
+use Rattle.pc_lists.specs.Lists.{Text}
 use Rattle.pc_refusal_lines.specs.Lines.{counts_line}
 use Rattle.pc_refusals.specs.Verdict.{Verdict, headed}
 use Rattle.pc_core_commands.specs.Run.{Ran}

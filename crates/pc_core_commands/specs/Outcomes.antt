@@ -1,11 +1,9 @@
 -- `outcomes SRC COUNT`: the table of the outcomes of a core.
 use Rattle.std.specs.Prelude.{ℕ, ◌≡◌, ◌<◌, ◌≤◌, ◌++◌, List, Result, Ok, Err, codes, decimal}
-use Rattle.pc_args.specs.Numbers.{IsNumber}
+use Rattle.pc_args.specs.Line.{IsNumber}
 use Rattle.pc_core.specs.CoreData.{CoreData}
-use Rattle.pc_lists.specs.Texts.{Text, line_end}
-use Rattle.pc_outcomes.specs.Tables.{StepsPass, TextsPass, IsOutcomesTable}
-use Rattle.pc_outcomes.specs.Texts.{outcomes_text}
-use Rattle.pc_outcomes.specs.declared.entry.Entry.{Entry}
+use Rattle.pc_lists.specs.Lists.{Text, line_end}
+use Rattle.pc_outcomes.specs.{Tables.StepsPass, Tables.TextsPass, Tables.IsOutcomesTable, Texts.outcomes_text, declared.entry.Entry.Entry}
 use Rattle.pc_refusals.specs.Verdict.{Verdict, refused}
 
 -- The greatest number of seeds that are played.

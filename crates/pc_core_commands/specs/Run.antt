@@ -1,10 +1,8 @@
 -- `run SRC SCHED`: the run of a core.
 use Rattle.std.specs.Prelude.{ℕ, ◌≡◌, List, Some, None}
-use Rattle.pc_lists.specs.Texts.{Text}
+use Rattle.pc_lists.specs.Lists.{Text}
 use Rattle.pc_core.specs.CoreData.{CoreData}
-use Rattle.pc_semantics.specs.Runs.{outcomes}
-use Rattle.pc_semantics.specs.Text.{end_of, run_text}
-use Rattle.pc_semantics.specs.declared.outcome.Outcome.TheVariants.{TooLong}
+use Rattle.pc_semantics.specs.{Step.outcomes, Text.end_of, Text.run_text, declared.outcome.Outcome.TheVariants.TooLong}
 use Rattle.pc_refusal_lines.specs.Lines.{too_long_line}
 use Rattle.pc_refusals.specs.Verdict.{Verdict, done, stopped}
 

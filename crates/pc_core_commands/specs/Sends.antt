@@ -2,14 +2,11 @@
 use Rattle.std.specs.Prelude.{ℕ, ◌≡◌, List, [], ◌∷◌, ◌++◌, IsSome, slice_get, codes}
 use Rattle.pc_ann.specs.declared.annotation.Ann.{Ann}
 use Rattle.pc_core.specs.CoreData.{CoreData}
-use Rattle.pc_lists.specs.Places.{Each}
+use Rattle.pc_lists.specs.Lists.{Each, Text, line_end}
 use Rattle.pc_noted_receivers.specs.Noted.{noted_entities}
-use Rattle.pc_semantics.specs.Runs.{after}
-use Rattle.pc_sends.specs.Tables.{IsTable, TableTells}
-use Rattle.pc_sends.specs.declared.table.Row.{Row}
-use Rattle.pc_sends.specs.declared.table.Table.{Table}
-use Rattle.pc_lists.specs.Texts.{Text, line_end}
-use Rattle.pc_run_events.specs.Names.{name_of_entity, method_text, MethodHasName}
+use Rattle.pc_semantics.specs.Step.{after}
+use Rattle.pc_sends.specs.{Tables.IsTable, Tables.TableTells, declared.table.Row.Row, declared.table.Table.Table}
+use Rattle.pc_run_events.specs.Lines.{name_of_entity, method_text, MethodHasName}
 
 -- ---- lines
 

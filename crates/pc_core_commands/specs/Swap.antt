@@ -1,18 +1,15 @@
 -- `swap SRC SCHED PLACE`: the exchange of two turns of a list.
 use Rattle.std.specs.Prelude.{ℕ, ◌≡◌, ◌+◌, ◌≤◌, List, ◌∷◌, ◌++◌, length, Result, Ok, Err, Some, None, codes}
 use Rattle.pc_core.specs.CoreData.{CoreData}
-use Rattle.pc_args.specs.Numbers.{IsNumber}
+use Rattle.pc_args.specs.Line.{IsNumber}
 use Rattle.pc_sched_lines.specs.Lines.{IsLine}
-use Rattle.pc_semantics.specs.Runs.{after, outcomes}
-use Rattle.pc_semantics.specs.Text.{end_of}
-use Rattle.pc_semantics.specs.declared.outcome.Outcome.TheVariants as outcome
-use Rattle.pc_swap.specs.Kept.{IsKept}
-use Rattle.pc_swap.specs.Swapping.{Exchanged}
-use Rattle.pc_swap.specs.declared.kept.Kept.{Kept}
-use Rattle.pc_swap.specs.declared.kept.Kept.TheVariants as kept
-use Rattle.pc_lists.specs.Texts.{Text, line_end}
+use Rattle.pc_semantics.specs.{Step.after, Step.outcomes, Text.end_of}
+use Rattle.pc_swap.specs.{Apart.IsKept, Swapping.Exchanged, declared.kept.Kept.Kept}
+use Rattle.pc_lists.specs.Lists.{Text, line_end}
 use Rattle.pc_refusal_lines.specs.Lines.{no_place_line, too_long_line}
 use Rattle.pc_refusals.specs.Verdict.{Verdict, refused}
+use Rattle.pc_semantics.specs.declared.outcome.Outcome.TheVariants as outcome
+use Rattle.pc_swap.specs.declared.kept.Kept.TheVariants as kept
 
 -- One to seven digits, and a number of at least 1. There may be leading zeros.
 abbrev pub IsPlace : Text → ℕ → Type 0

@@ -1,13 +1,11 @@
 -- `trace SRC SCHED`: the accesses of a run.
 use Rattle.std.specs.Prelude.{ℕ, ◌≡◌, List, Result, Ok, Err}
 use Rattle.pc_core.specs.CoreData.{CoreData}
-use Rattle.pc_trace.specs.Traces.{AllTouches, RanOn, TooLongAt, TooManyAt, VerdictIs}
-use Rattle.pc_trace.specs.declared.touch.Touch.{Touch}
-use Rattle.pc_trace.specs.declared.touch.Verdict.TheVariants.{Ordered}
-use Rattle.pc_lists.specs.Texts.{Text}
+use Rattle.pc_trace.specs.{Traces.AllTouches, Traces.RanOn, Traces.TooLongAt, Traces.TooManyAt, Traces.VerdictIs, declared.touch.Touch.Touch, declared.touch.Verdict.TheVariants.Ordered}
+use Rattle.pc_lists.specs.Lists.{Text}
 use Rattle.pc_refusal_lines.specs.Lines.{many_actors_line, too_long_line}
 use Rattle.pc_refusals.specs.Verdict.{Verdict, refused}
-use Rattle.pc_run_events.specs.TouchLines.{trace_text}
+use Rattle.pc_run_events.specs.Lines.{trace_text}
 
 -- These are all accesses of a run, in order and with their clocks; no step ended the run. Of any two events of
 -- different actors that touch the same field, where one of them writes it, the earlier comes before the later.

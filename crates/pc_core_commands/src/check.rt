@@ -1,8 +1,6 @@
 //! `check SRC`: the text of a derivation.
 ghost use Rattle.std.specs.Prelude.{◌≡◌, ◌≤◌, IfOk, length};
-ghost use Rattle.pc_deriv.specs.Faults.{IsText};
-ghost use Rattle.pc_deriv.specs.Limits.{derivation_node_limit, derivation_slot_limit};
-ghost use Rattle.pc_deriv.specs.Text.{deriv_text};
+ghost use Rattle.pc_deriv.specs.Text.{IsText, derivation_node_limit, derivation_slot_limit, deriv_text};
 ghost use Rattle.pc_deriv.specs.declared.version.Version.TheVariants as version;
 
 use pc_caps::List;

@@ -1,8 +1,7 @@
 //! `events SRC SCHED`: the events of a run.
 ghost use Rattle.std.specs.Prelude.{◌≤◌, length};
 ghost use Rattle.pc_run.specs.Spreading.{spread};
-ghost use Rattle.pc_sched.specs.Limits.{turn_limit};
-ghost use Rattle.pc_sched.specs.Schedules.{total};
+ghost use Rattle.pc_sched.specs.Schedules.{turn_limit, total};
 ghost use Rattle.pc_semantics.specs.Safety.{Safe};
 ghost use Rattle.pc_refusals.specs.Inner.Stages.{StageEnds};
 ghost use Rattle.pc_core_commands.specs.Events.{EventsTelling};

@@ -1,8 +1,8 @@
 //! `explain SRC`: the text for a core, or for the fault of a tree that has none.
 ghost use Rattle.std.specs.Prelude.{◌≡◌, ◌≤◌, IfOk, length};
 ghost use Rattle.pc_check.specs.Faults.{RefusesCore};
-ghost use Rattle.pc_lex.specs.Limits.{bytes_limit};
-ghost use Rattle.pc_names.specs.Names.{IsNotMemory};
+ghost use Rattle.pc_lex.specs.Pieces.{bytes_limit};
+ghost use Rattle.pc_names.specs.Faults.{IsNotMemory};
 ghost use Rattle.pc_places.specs.Text.{HasTokens};
 ghost use Rattle.pc_refusals.specs.Inner.Stages.{StageEnds};
 ghost use Rattle.pc_tree.specs.View.{file_view};

@@ -1,6 +1,6 @@
 //! `make SEED SIZE`: the numbers among its words, and the run of the core of the program that is made of them.
 ghost use Rattle.std.specs.Prelude.{◌≤◌};
-ghost use Rattle.pc_io.specs.Change.{change};
+ghost use Rattle.pc_io.specs.Sink.{change};
 ghost use Rattle.pc_run.specs.Ends.{NeverLacks};
 ghost use Rattle.pc_refusals.specs.Inner.Answering.{EndsCommand};
 ghost use Rattle.pc_core_commands.specs.Make.{RanMade, ReadsNumbers};

@@ -1,10 +1,9 @@
 //! `run SRC SCHED`: the run of a core.
 ghost use Rattle.std.specs.Prelude.{◌≤◌};
-ghost use Rattle.pc_io.specs.Change.{change};
+ghost use Rattle.pc_io.specs.Sink.{change};
 ghost use Rattle.pc_run.specs.Ends.{NeverLacks};
 ghost use Rattle.pc_run.specs.Spreading.{spread};
-ghost use Rattle.pc_sched.specs.Limits.{turn_limit};
-ghost use Rattle.pc_sched.specs.Schedules.{total};
+ghost use Rattle.pc_sched.specs.Schedules.{turn_limit, total};
 ghost use Rattle.pc_refusals.specs.Inner.Answering.{EndsCommand};
 ghost use Rattle.pc_core_commands.specs.Run.{Ran};
 

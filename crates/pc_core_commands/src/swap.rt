@@ -1,9 +1,8 @@
 //! `swap SRC SCHED PLACE`: the place among its words, and the exchange of two turns.
 ghost use Rattle.std.specs.Prelude.{◌≡◌, ◌<◌, ◌≤◌, ◌^◌, IfOk, length};
-ghost use Rattle.pc_args.specs.Numbers.{IsNumber, Reads};
+ghost use Rattle.pc_args.specs.Line.{IsNumber, Reads};
 ghost use Rattle.pc_run.specs.Spreading.{spread};
-ghost use Rattle.pc_sched.specs.Limits.{turn_limit};
-ghost use Rattle.pc_sched.specs.Schedules.{total};
+ghost use Rattle.pc_sched.specs.Schedules.{turn_limit, total};
 ghost use Rattle.pc_semantics.specs.Safety.{Safe};
 ghost use Rattle.pc_refusals.specs.Inner.Stages.{StageEnds};
 ghost use Rattle.pc_core_commands.specs.Swap as spec;

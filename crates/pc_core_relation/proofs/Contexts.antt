@@ -4,7 +4,7 @@ use Rattle.std.specs.Prelude.{slice_get, slice_range, codes}
 use Rattle.std.proofs.lemmas.Option.{same_Some}
 use Rattle.pc_caps.specs.declared.capability.Cap.{Cap}
 use Rattle.pc_caps.specs.declared.capability.Cap.TheVariants as cap
-use Rattle.pc_lists.specs.Places.{Has}
+use Rattle.pc_lists.specs.Lists.{Has, Text}
 use Rattle.pc_lists.proofs.Gets.{get_map, get_range}
 use Rattle.pc_lists.proofs.Ranges.{run_within}
 use Rattle.pc_lists.proofs.Elements.{has_behind}
@@ -15,19 +15,13 @@ use Rattle.pc_tree.specs.declared.kinds.MethodWord.TheVariants as word
 use Rattle.pc_tree.specs.Tree as t
 use Rattle.pc_core.specs.declared.declarations.Method.{Method}
 use Rattle.pc_core.specs.CoreData.{CoreData}
-use Rattle.pc_core.specs.MethodKinds.{constructor_kind, word_kind}
-use Rattle.pc_lists.specs.Texts.{Text}
-use Rattle.pc_members.specs.Words.{is_new, field_texts, method_texts, built_in_names, entity_names, or_nil}
-use Rattle.pc_tree.specs.BuiltIn.{first_own}
-use Rattle.pc_members.specs.Members.{Member, written, added, member_text, is_constructor}
-use Rattle.pc_members.specs.MemberLists.{members}
+use Rattle.pc_core.specs.Entities.{constructor_kind, word_kind}
+use Rattle.pc_members.specs.Members.{is_new, field_texts, method_texts, built_in_names, entity_names, or_nil, Member, written, added, member_text}
+use Rattle.pc_tree.specs.Kinds.{first_own}
+use Rattle.pc_members.specs.MemberLists.{is_constructor, members}
 use Rattle.pc_body_spec.specs.Scopes.{Context, KnownEntity, Constructor}
-use Rattle.pc_file_spec.specs.Members.{Owned, owned}
-use Rattle.pc_file_spec.specs.Known as known
-use Rattle.pc_file_spec.specs.Known.{constructors_from, known_from, known_value, known_of}
-use Rattle.pc_file_spec.specs.Signatures.{kind_of, context_of, placed_of}
-use Rattle.pc_file_spec.specs.Parts.{Parts, built_in_parts}
-use Rattle.pc_file_spec.specs.Cores.{core_with, core_entity, entities_from}
+use Rattle.pc_file_spec.specs.Cores.{Owned, owned, constructors_from, known_from, known_value, known_of, kind_of, context_of, placed_of, Parts, built_in_parts, core_with, core_entity, entities_from}
+use Rattle.pc_file_spec.specs.Cores as known
 use Rattle.pc_file_spec.proofs.Tables.{member_there, language_kept, text_found}
 use Rattle.pc_file_spec.proofs.Collects.{Collects}
 use Rattle.pc_file_spec.proofs.Origins.{Sort, sort_of}
@@ -35,8 +29,7 @@ use Rattle.pc_file_spec.proofs.Owners.{starts, entity_at, own_member, methods_ru
 use Rattle.pc_file_spec.proofs.Parts.{At, AllAt}
 use Rattle.pc_file_spec.proofs.Formation.{names_given}
 use Rattle.pc_file_spec.proofs.Settings.{all_members, method_at, at_get}
-use Rattle.pc_core_relation.specs.Lists.{Match}
-use Rattle.pc_core_relation.specs.Contexts.{makes, text_at, constructors_among, seen_entity, seen_entities}
+use Rattle.pc_core_relation.specs.Methods.{Match, makes, text_at, constructors_among, seen_entity, seen_entities}
 use Rattle.pc_core_relation.proofs.Lists.{match_rest, range_count}
 use Rattle.pc_core_relation.proofs.Mirror.{owned_context}
 use Rattle.pc_core_relation.proofs.Types.{entity_name}

@@ -5,7 +5,7 @@ use Rattle.std.proofs.lemmas.Option.{none-some}
 use Rattle.pc_caps.specs.declared.capability.Cap.{Cap}
 use Rattle.pc_caps.specs.declared.capability.Form.{Form}
 use Rattle.pc_caps.specs.declared.span.Span.{Span}
-use Rattle.pc_lists.specs.Places.{Differ}
+use Rattle.pc_lists.specs.Lists.{Differ, Text}
 use Rattle.pc_tree.specs.declared.kinds.MethodWord.{MethodWord}
 use Rattle.pc_tree.specs.declared.kinds.MethodWord.TheVariants as word
 use Rattle.pc_tree.specs.declared.written_names.TypeRef.{TypeRef}
@@ -16,19 +16,14 @@ use Rattle.pc_core.specs.declared.declarations.ParamInfo.{ParamInfo}
 use Rattle.pc_core.specs.declared.nodes.Slot.{Slot}
 use Rattle.pc_core.specs.declared.nodes.SlotKind.{SlotKind}
 use Rattle.pc_core.specs.CoreData.{CoreData}
-use Rattle.pc_lists.specs.Texts.{Text}
 use Rattle.pc_members.specs.Members.{Member, written, added}
 use Rattle.pc_body_spec.specs.Scopes.{Context, KnownEntity, text_from}
-use Rattle.pc_body_spec.specs.Slots.{Local, local_slot, type_of_name, written_of}
-use Rattle.pc_file_spec.specs.Members.{Owned}
-use Rattle.pc_file_spec.specs.Signatures.{or_value, type_in, param_of, params_of, result_form, written_result, word_result, result_of}
-use Rattle.pc_file_spec.specs.Cores.{core_field}
+use Rattle.pc_body_spec.specs.Slots.{Local}
+use Rattle.pc_body_spec.specs.Fold.{local_slot, type_of_name, written_of}
+use Rattle.pc_file_spec.specs.Cores.{Owned, or_value, type_in, param_of, params_of, result_form, written_result, word_result, result_of, core_field}
 use Rattle.pc_file_spec.proofs.Tables.{text_found}
-use Rattle.pc_core_relation.specs.Lists.{Match}
-use Rattle.pc_core_relation.specs.Types.{IsType, IsWritten}
-use Rattle.pc_core_relation.specs.Contexts.{seen_entities}
-use Rattle.pc_core_relation.specs.Methods.{ParamStands, LocalStands}
-use Rattle.pc_core_relation.specs.Entities.{FieldStands}
+use Rattle.pc_core_relation.specs.Methods.{Match, IsType, IsWritten, seen_entities, ParamStands, LocalStands}
+use Rattle.pc_core_relation.specs.Files.{FieldStands}
 use Rattle.pc_core_relation.proofs.Lists.{match_one}
 use Rattle.pc_core_relation.proofs.Mirror.{params_in, AnswerIs, WordResultIs, ResultIs}
 use Rattle.pc_core_relation.proofs.Types.{entity_name, type_is, is_type}

@@ -5,8 +5,7 @@ use Rattle.std.specs.Str.{bytes_eq}
 use Rattle.std.proofs.lemmas.Option.{same_Some, none-some}
 use Rattle.std.proofs.lemmas.List.{length-map}
 use Rattle.pc_caps.specs.Limits.{method_limit}
-use Rattle.pc_lists.specs.Places.{Has}
-use Rattle.pc_lists.specs.Ranges.{Follow}
+use Rattle.pc_lists.specs.Lists.{Has, Follow}
 use Rattle.pc_lists.proofs.Gets.{map_get, get_map, get_append, get_below, get_within}
 use Rattle.pc_lists.proofs.Elements.{ascends_none, has_front}
 use Rattle.pc_tree.specs.declared.written_names.Name.{Name}
@@ -15,20 +14,14 @@ use Rattle.pc_core.specs.declared.declarations.EntityDef.{EntityDef}
 use Rattle.pc_core.specs.declared.declarations.Method.{Method}
 use Rattle.pc_core.specs.CoreData.{CoreData}
 use Rattle.pc_core.specs.Entities.{HasBuiltIn}
-use Rattle.pc_members.specs.Chains.{IsAbove, IsTransitiveClosure, LeadsInFile}
+use Rattle.pc_members.specs.Members.{IsAbove, IsTransitiveClosure, LeadsInFile, Member, built_in_names, entity_names, field_texts, method_texts, or_nil}
 use Rattle.pc_members.specs.Founded.{IsFounded}
-use Rattle.pc_tree.specs.BuiltIn.{first_own}
-use Rattle.pc_members.specs.Chains as chain
-use Rattle.pc_members.specs.Members.{Member}
+use Rattle.pc_tree.specs.Kinds.{first_own}
+use Rattle.pc_members.specs.Members as chains
 use Rattle.pc_members.specs.MemberLists.{members}
-use Rattle.pc_members.specs.Words as words
-use Rattle.pc_members.specs.Words.{built_in_names, entity_names, field_texts, method_texts, or_nil}
 use Rattle.pc_members.proofs.Closings.{no_entity}
 use Rattle.pc_names.proofs.Founded.{collected_founded}
-use Rattle.pc_file_spec.specs.Members.{Owned, owned}
-use Rattle.pc_file_spec.specs.Known.{texts_of_file, known_of, default_cap}
-use Rattle.pc_file_spec.specs.Parts.{Parts, built_in_parts}
-use Rattle.pc_file_spec.specs.Cores.{core_with, built_ins, core_field, core_entity, entities_from}
+use Rattle.pc_file_spec.specs.Cores.{Owned, owned, texts_of_file, known_of, default_cap, Parts, built_in_parts, core_with, built_ins, core_field, core_entity, entities_from}
 use Rattle.pc_file_spec.proofs.Entities.{position_get}
 use Rattle.pc_members.proofs.Named.{is_trait_named}
 use Rattle.pc_file_spec.proofs.Tables.{language_kept, member_there, text_found}
@@ -38,11 +31,8 @@ use Rattle.pc_file_spec.proofs.Counts.{members_limited}
 use Rattle.pc_file_spec.proofs.Parts.{At, AllAt}
 use Rattle.pc_file_spec.proofs.Formation.{stands_with, parts_are}
 use Rattle.pc_file_spec.proofs.Settings.{all_members, entities_length, entity_get, entity_cases, method_at, at_get}
-use Rattle.pc_core_relation.specs.Names.{NamesAreRight}
-use Rattle.pc_core_relation.specs.Types.{EntityHasName}
-use Rattle.pc_core_relation.specs.Methods.{MethodStands}
-use Rattle.pc_core_relation.specs.Entities.{FieldStands, EntityStands}
-use Rattle.pc_core_relation.specs.Files.{IsCoreOf, above_of}
+use Rattle.pc_core_relation.specs.Files.{NamesAreRight, FieldStands, EntityStands, IsCoreOf, above_of}
+use Rattle.pc_core_relation.specs.Methods.{EntityHasName, MethodStands}
 use Rattle.pc_core_relation.specs.Laws.{MadeCoresStand}
 use Rattle.pc_core_relation.proofs.Lists.{map_matches}
 use Rattle.pc_core_relation.proofs.Texts.{texts_are_firsts}
@@ -55,11 +45,11 @@ use Rattle.pc_core_relation.proofs.Sound.{names_are_right}
 
 -- ---- what is above the built-in entities
 
-nothing_above : (file : t.File) (n : ℕ) (b : ℕ) → ((e : t.Entity) → chain.entity_at file n e → ⊥) → LeadsInFile file n b → ⊥
-nothing_above file n b f (chain.one h) = f h.0 h.1
-nothing_above file n b f (chain.more h r) = f h.0 h.1
+nothing_above : (file : t.File) (n : ℕ) (b : ℕ) → ((e : t.Entity) → chains.entity_at file n e → ⊥) → LeadsInFile file n b → ⊥
+nothing_above file n b f (chains.one h) = f h.0 h.1
+nothing_above file n b f (chains.more h r) = f h.0 h.1
 
-no_leads : (file : t.File) (n : ℕ) (x : EntityDef) → slice_get built_ins n ≡ Some x → (e : t.Entity) → chain.entity_at file n e → ⊥
+no_leads : (file : t.File) (n : ℕ) (x : EntityDef) → slice_get built_ins n ≡ Some x → (e : t.Entity) → chains.entity_at file n e → ⊥
 no_leads file zero x h e g = no_entity e g
 no_leads file (suc zero) x h e g = no_entity e g
 no_leads file (suc (suc zero)) x h e g = no_entity e g
@@ -142,7 +132,7 @@ module _ (file : t.File) (above : List (List ℕ)) (q : Parts) (c : Collects fil
   provided : (i : ℕ) (e : t.Entity) (n : Name) → slice_get file.entities i ≡ Some e → Has e.provides n → Has (entity_names file) n.text
   provided i e n h g =
       let r = is_trait_named file.entities n.text ((c.sound e (i, h)).provides n g) in
-      (first_own + r.1.0, get_append built_in_names (words.texts_of file.entities) r.1.0 ∙ get_map (λ (y : t.Entity). y.name.text) file.entities r.1.0 r.0 r.1.1 ∙ ap Some r.3)
+      (first_own + r.1.0, get_append built_in_names (chains.texts_of file.entities) r.1.0 ∙ get_map (λ (y : t.Entity). y.name.text) file.entities r.1.0 r.0 r.1.1 ∙ ap Some r.3)
 
   named : (n : Name) (b : ℕ) → position (bytes_eq n.text) (entity_names file) ≡ Some b → EntityHasName core n b
   named n b h =

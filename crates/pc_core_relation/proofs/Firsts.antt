@@ -3,17 +3,15 @@ use Rattle.std.proofs.Common.{◌≡◌, ℕ, zero, suc, ◌<◌, ◌&&◌, List
 use Rattle.std.specs.Prelude.{slice_get, ◌↔◌}
 use Rattle.std.proofs.lemmas.Bool.{cases_lt, not-true}
 use Rattle.std.proofs.lemmas.Option.{same_Some, none-some}
-use Rattle.pc_lists.specs.Places.{Has}
+use Rattle.pc_lists.specs.Lists.{Has, Text}
 use Rattle.pc_lists.proofs.Bools.{true_false, no_both, first_true, second_true}
 use Rattle.pc_lists.proofs.Elements.{has_on, has_front, has_behind, has_either}
 use Rattle.pc_tree.specs.declared.kinds.EntityKind.{EntityKind}
 use Rattle.pc_tree.specs.Tree as t
-use Rattle.pc_lists.specs.Texts.{Text}
-use Rattle.pc_members.specs.Words.{is_among}
+use Rattle.pc_members.specs.MemberLists.{is_among, firsts, methods_taken_over}
 use Rattle.pc_members.specs.Members.{is_takable}
-use Rattle.pc_members.specs.MemberLists.{firsts, methods_taken_over}
 use Rattle.pc_members.proofs.Differences.{among_has, has_among}
-use Rattle.pc_core_relation.specs.Members.{IsFirstOfName, AreFirstOfNames, AnyMethod}
+use Rattle.pc_core_relation.specs.Files.{IsFirstOfName, AreFirstOfNames, AnyMethod}
 use Rattle.pc_core_relation.proofs.Lists.{only_one, one_order}
 
 -- ---- one walk for both

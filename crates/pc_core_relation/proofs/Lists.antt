@@ -4,9 +4,9 @@ use Rattle.std.specs.Prelude.{slice_get, slice_range}
 use Rattle.std.proofs.lemmas.Option.{same_Some, none-some}
 use Rattle.std.proofs.Math.Seq.{take-append-add}
 use Rattle.std.proofs.lemmas.List.{length-map, take-append-drop}
-use Rattle.pc_lists.specs.Places.{Has}
+use Rattle.pc_lists.specs.Lists.{Has}
 use Rattle.pc_lists.proofs.Gets.{get_map}
-use Rattle.pc_core_relation.specs.Lists.{Match}
+use Rattle.pc_core_relation.specs.Methods.{Match}
 
 -- ---- lists that match
 

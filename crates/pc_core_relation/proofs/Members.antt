@@ -3,7 +3,7 @@ use Rattle.std.proofs.Common.{◌≡◌, ℕ, ◌+◌, ◌≤◌, List, [], ◌+
 use Rattle.std.specs.Prelude.{slice_range, ◌↔◌}
 use Rattle.std.proofs.lemmas.List.{append_assoc}
 use Rattle.pc_caps.specs.declared.capability.Cap.{Cap}
-use Rattle.pc_lists.specs.Places.{Has, Differ}
+use Rattle.pc_lists.specs.Lists.{Has, Differ}
 use Rattle.pc_tree.specs.declared.kinds.MethodWord.{MethodWord}
 use Rattle.pc_tree.specs.declared.kinds.MethodWord.TheVariants as word
 use Rattle.pc_tree.specs.declared.written_names.TypeRef.{TypeRef}
@@ -11,19 +11,13 @@ use Rattle.pc_tree.specs.Tree as t
 use Rattle.pc_core.specs.declared.declarations.Method.{Method}
 use Rattle.pc_core.specs.declared.nodes.Node.{Node}
 use Rattle.pc_core.specs.declared.nodes.Slot.{Slot}
-use Rattle.pc_core.specs.CoreData.{CoreData}
-use Rattle.pc_core.specs.Lookup.{own_slots}
-use Rattle.pc_members.specs.Words.{entity_names}
-use Rattle.pc_members.specs.Members.{Member, written, added, member_text}
+use Rattle.pc_core.specs.CoreData.{CoreData, own_slots}
+use Rattle.pc_members.specs.Members.{entity_names, Member, written, added, member_text}
 use Rattle.pc_members.specs.MemberLists.{members}
 use Rattle.pc_body_spec.specs.Scopes.{Context}
-use Rattle.pc_body_spec.specs.Slots.{local_slot, type_of_name, written_of}
-use Rattle.pc_file_spec.specs.Members.{Owned}
-use Rattle.pc_file_spec.specs.Known.{known_of}
-use Rattle.pc_file_spec.specs.Known as known
-use Rattle.pc_file_spec.specs.Signatures.{context_of, slots_from, param_of, params_of, member_locals, type_in, word_result, result_of, written_result}
-use Rattle.pc_file_spec.specs.Parts.{Parts, built_in_parts}
-use Rattle.pc_file_spec.specs.Cores.{core_with}
+use Rattle.pc_body_spec.specs.Fold.{local_slot, type_of_name, written_of}
+use Rattle.pc_file_spec.specs.Cores.{Owned, known_of, context_of, slots_from, param_of, params_of, member_locals, type_in, word_result, result_of, written_result, Parts, built_in_parts, core_with}
+use Rattle.pc_file_spec.specs.Cores as known
 use Rattle.pc_file_spec.proofs.Ranges.{range_middle}
 use Rattle.pc_file_spec.proofs.Tables.{text_found}
 use Rattle.pc_file_spec.proofs.Collects.{Collects}
@@ -32,10 +26,7 @@ use Rattle.pc_file_spec.proofs.Declared.{types_are}
 use Rattle.pc_file_spec.proofs.Steps.{member_rose, member_faults, member_names, slots_count}
 use Rattle.pc_file_spec.proofs.Parts.{At, AllAt}
 use Rattle.pc_file_spec.proofs.Settings.{all_members, method_at}
-use Rattle.pc_core_relation.specs.Lists.{Match}
-use Rattle.pc_core_relation.specs.Types.{IsType, IsWritten}
-use Rattle.pc_core_relation.specs.Numbers.{IsNumbered}
-use Rattle.pc_core_relation.specs.Methods.{ParamStands, LocalStands, BodyIs, MethodStands}
+use Rattle.pc_core_relation.specs.Methods.{Match, IsType, IsWritten, IsNumbered, ParamStands, LocalStands, BodyIs, MethodStands}
 use Rattle.pc_core_relation.proofs.Lists.{match_none, map_matches}
 use Rattle.pc_core_relation.proofs.Mirror.{params_in, AnswerIs, WordResultIs, ResultIs, rose_of, faults_in, owned_context, ByTables, said}
 use Rattle.pc_core_relation.proofs.Numbers.{numbered_in, what_is_put_is_numbered}

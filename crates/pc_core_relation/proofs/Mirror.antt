@@ -13,24 +13,19 @@ use Rattle.pc_tree.specs.declared.kinds.MethodWord.TheVariants as word
 use Rattle.pc_tree.specs.declared.written_names.TypeRef.{TypeRef}
 use Rattle.pc_tree.specs.declared.file.ParamDef.{ParamDef}
 use Rattle.pc_tree.specs.Tree as t
-use Rattle.pc_tree.specs.BuiltIn.{none_entity}
+use Rattle.pc_tree.specs.Kinds.{none_entity}
 use Rattle.pc_core.specs.declared.declarations.Method.{Method}
 use Rattle.pc_core.specs.declared.declarations.ParamInfo.{ParamInfo}
 use Rattle.pc_core.specs.CoreData.{CoreData}
-use Rattle.pc_members.specs.Members.{Member, written, added, member_text, member_span}
-use Rattle.pc_body_spec.specs.Roses.{Rose}
+use Rattle.pc_members.specs.Members.{Member, written, added, member_text}
+use Rattle.pc_members.specs.MemberLists.{member_span}
+use Rattle.pc_body_spec.specs.Bodies.{Rose, body_of, added_body}
 use Rattle.pc_body_spec.specs.Scopes.{Context}
-use Rattle.pc_body_spec.specs.Bodies.{body_of, added_body}
 use Rattle.pc_body_spec.specs.Faults.{BodyNameFault, body_faults, initial_faults}
 use Rattle.pc_body_spec.specs.Slots.{cap_or}
-use Rattle.pc_file_spec.specs.Members.{Owned, owned}
-use Rattle.pc_file_spec.specs.Known.{default_cap}
-use Rattle.pc_file_spec.specs.Signatures.{kind_of, receiver_cap, word_receiver, result_form, object_of, member_locals, placed_of}
-use Rattle.pc_core_relation.specs.Lists.{Match}
-use Rattle.pc_core_relation.specs.Types.{IsType}
-use Rattle.pc_core_relation.specs.Contexts.{context_in}
-use Rattle.pc_core_relation.specs.Entities.{IsOwnCap}
-use Rattle.pc_core_relation.specs.Methods.{IsReceiver, ParamStands, IsForm, IsFunctionResult, IsObject, IsResult, SlotsStand, BodyIs, MethodStands}
+use Rattle.pc_file_spec.specs.Cores.{Owned, owned, default_cap, kind_of, receiver_cap, word_receiver, result_form, object_of, member_locals, placed_of}
+use Rattle.pc_core_relation.specs.Methods.{Match, IsType, context_in, IsReceiver, ParamStands, IsForm, IsFunctionResult, IsObject, IsResult, SlotsStand, BodyIs, MethodStands}
+use Rattle.pc_core_relation.specs.Files.{IsOwnCap}
 use Rattle.pc_core_relation.proofs.Lists.{match_none}
 
 -- ---- by tables

@@ -6,41 +6,31 @@ use Rattle.std.proofs.lemmas.Bool.{lt-ltb, le-ltb, and_parts}
 use Rattle.std.proofs.lemmas.Option.{same_Some, none-some}
 use Rattle.std.proofs.lemmas.List.{length_push, append_assoc}
 use Rattle.pc_caps.specs.Limits.{field_limit, method_limit}
-use Rattle.pc_lists.specs.Places.{Has, Differ}
-use Rattle.pc_lists.specs.Ranges.{Follow}
-use Rattle.pc_lists.specs.Texts.{Text}
+use Rattle.pc_lists.specs.Lists.{Has, Differ, Follow, Text}
 use Rattle.pc_lists.proofs.Bools.{true_false}
 use Rattle.pc_lists.proofs.Elements.{has_on, has_front}
 use Rattle.pc_lists.proofs.Gets.{get_front, get_behind, get_below, get_append, get_drop, get_map}
 use Rattle.pc_tree.specs.declared.file.ParamDef.{ParamDef}
 use Rattle.pc_tree.specs.declared.written_names.Name.{Name}
 use Rattle.pc_tree.specs.declared.written_names.TypeRef.{TypeRef}
-use Rattle.pc_tree.specs.Kinds.{is_abstract}
+use Rattle.pc_tree.specs.Kinds.{is_abstract, first_own}
 use Rattle.pc_tree.specs.Tree as t
-use Rattle.pc_tree.specs.BuiltIn.{first_own}
 use Rattle.pc_names.specs.declared.fault.NameFault.{NameFault}
 use Rattle.pc_names.specs.declared.fault.NameFault.TheVariants as fault
 use Rattle.pc_names.specs.declared.fault.Which.TheVariants as which
-use Rattle.pc_members.specs.Words.{is_among, built_in_names, texts_of, entity_names, field_texts, method_texts, has_added}
-use Rattle.pc_members.specs.Tables.{with_name, with_traits, trait_names}
-use Rattle.pc_members.specs.Chains.{IsTransitiveClosure}
+use Rattle.pc_members.specs.MemberLists.{is_among, with_name, with_traits, trait_names}
+use Rattle.pc_members.specs.Members.{built_in_names, texts_of, entity_names, field_texts, method_texts, has_added, IsTransitiveClosure, added_text, own_texts}
 use Rattle.pc_members.specs.Founded.{IsFounded}
-use Rattle.pc_members.specs.Members.{added_text, own_texts}
-use Rattle.pc_members.specs.Reach.{has_number}
+use Rattle.pc_members.specs.Edges.{has_number}
 use Rattle.pc_members.proofs.Completed.{among_parts}
 use Rattle.pc_members.proofs.Differences.{among_has, equal_texts, has_among, same_text}
 use Rattle.pc_members.proofs.Reaches.{has_in, in_get}
-use Rattle.pc_names.specs.Faults.{where_, either_fault, type_faults, result_faults, provided_faults, field_faults, param_faults, signature_faults}
-use Rattle.pc_names.specs.Faults.{method_faults, is_member_name, added_faults, entity_faults, entities_faults, entity_name_faults, declaration_faults}
-use Rattle.pc_names.specs.Faults.{known_limit}
-use Rattle.pc_names.specs.Counts.{count_faults, method_count}
-use Rattle.pc_names.specs.Cycles.{cycle_faults}
-use Rattle.pc_names.specs.Mains.{is_main, main_faults}
-use Rattle.pc_names.specs.Names.{name_faults}
+use Rattle.pc_names.specs.Faults.{where_, either_fault, type_faults, result_faults, provided_faults, field_faults, param_faults, signature_faults, method_faults, is_member_name, added_faults, entity_faults, entities_faults, entity_name_faults, declaration_faults, known_limit, count_faults, method_count, cycle_faults, main_faults, name_faults}
+use Rattle.pc_names.specs.Mains.{is_main}
 use Rattle.pc_names.proofs.CycleFirsts.{bad}
 use Rattle.pc_names.proofs.Founded.{Adds}
 use Rattle.pc_file_spec.proofs.Entities.{own_entity}
-use Rattle.pc_core_relation.specs.Names.{NamesTrait, param_texts, SignatureIsRight, DeclarationsAreRight, NamesAreRight}
+use Rattle.pc_core_relation.specs.Files.{NamesTrait, param_texts, SignatureIsRight, DeclarationsAreRight, NamesAreRight}
 
 -- ---- lists of no faults
 

@@ -7,11 +7,12 @@ use Rattle.pc_caps.specs.declared.span.Span.{Span}
 use Rattle.pc_lists.proofs.Gets.{get_front, get_behind, get_below}
 use Rattle.pc_core.specs.declared.nodes.Node.{Node}
 use Rattle.pc_core.specs.declared.nodes.NodeKind.{NodeKind}
-use Rattle.pc_body_spec.specs.Roses.{Rose, Roses, rose, more, no_roses, and_then, put, puts, push, node_of}
+use Rattle.pc_body_spec.specs.Bodies.{Rose, Roses, rose, more, no_roses, node_of}
+use Rattle.pc_body_spec.specs.Fold.{and_then, put, puts, push}
 use Rattle.pc_caps.specs.Limits.{node_limit}
 use Rattle.pc_body_spec.specs.Laws.{WasPut}
 use Rattle.pc_body_spec.proofs.PostOrders.{Parts, parts, Pushed, pushed, AllStand, post, posts}
-use Rattle.pc_core_relation.specs.Numbers.{IsNumbered, AreNumbered}
+use Rattle.pc_core_relation.specs.Methods.{IsNumbered, AreNumbered}
 use Rattle.pc_core_relation.proofs.Lists.{take_count}
 use Rattle.pc_core_relation.specs.Laws.{WhatIsPutIsNumbered, WhatIsNumberedIsPut}
 

@@ -6,8 +6,7 @@ use Rattle.std.proofs.lemmas.List.{length-map}
 use Rattle.pc_caps.specs.declared.capability.Cap.{Cap}
 use Rattle.pc_caps.specs.declared.capability.Cap.TheVariants as cap
 use Rattle.pc_caps.specs.declared.span.Span.{Span}
-use Rattle.pc_lists.specs.Places.{Differ, Each}
-use Rattle.pc_lists.specs.Ranges.{Follow}
+use Rattle.pc_lists.specs.Lists.{Differ, Each, Follow, Text}
 use Rattle.pc_lists.proofs.Cuts.{drop_item}
 use Rattle.pc_lists.proofs.Elements.{differ_none}
 use Rattle.pc_lists.proofs.Gets.{get_map, map_get, get_append, get_drop, get_range}
@@ -21,34 +20,23 @@ use Rattle.pc_core.specs.declared.declarations.FieldInfo.{FieldInfo}
 use Rattle.pc_core.specs.declared.declarations.Method.{Method}
 use Rattle.pc_core.specs.declared.nodes.Node.{Node}
 use Rattle.pc_core.specs.declared.nodes.Slot.{Slot}
-use Rattle.pc_core.specs.CoreData.{CoreData}
+use Rattle.pc_core.specs.CoreData.{CoreData, own_methods}
 use Rattle.pc_core.specs.Entities.{print_method, built_in, built_in_value, out_field}
-use Rattle.pc_core.specs.Lookup.{own_methods}
-use Rattle.pc_members.specs.Words as words
-use Rattle.pc_lists.specs.Texts.{Text}
-use Rattle.pc_members.specs.Words.{built_in_names, entity_names, or_nil}
+use Rattle.pc_members.specs.Members as words
+use Rattle.pc_members.specs.Members.{built_in_names, entity_names, or_nil, Member}
 use Rattle.pc_members.specs.Founded.{IsFounded}
 use Rattle.pc_members.specs.Edges.{entity_numbers}
-use Rattle.pc_tree.specs.BuiltIn.{first_own}
-use Rattle.pc_members.specs.Members.{Member}
+use Rattle.pc_tree.specs.Kinds.{first_own}
 use Rattle.pc_members.specs.MemberLists.{members}
-use Rattle.pc_names.specs.Counts.{count_faults}
-use Rattle.pc_names.specs.Names.{NamesData, Collected}
-use Rattle.pc_file_spec.specs.Members.{Owned, owned, members_from}
-use Rattle.pc_file_spec.specs.Known.{texts_of_file, known_of, known_from, default_cap, constructors_from}
-use Rattle.pc_file_spec.specs.Parts.{if_ok, parts_of}
-use Rattle.pc_file_spec.specs.Cores.{core_with, core_of, built_ins, core_field, core_entity, entities_from, Stands}
+use Rattle.pc_names.specs.Faults.{count_faults, NamesData, Collected}
+use Rattle.pc_file_spec.specs.Cores.{Owned, owned, members_from, texts_of_file, known_of, known_from, default_cap, constructors_from, if_ok, parts_of, core_with, core_of, built_ins, core_field, core_entity, entities_from, Stands}
 use Rattle.pc_file_spec.proofs.Ones.{one_core}
 use Rattle.pc_file_spec.proofs.Tables.{language_kept, texts_differ}
 use Rattle.pc_file_spec.proofs.Owners.{starts, entity_at, methods_run, members_follow, Owner, owner_of}
 use Rattle.pc_file_spec.proofs.Collects.{Collects, collects}
 use Rattle.pc_file_spec.proofs.Parts.{slots_run, nodes_run}
-use Rattle.pc_core_relation.specs.Lists.{Match}
-use Rattle.pc_core_relation.specs.Types.{EntityHasName}
-use Rattle.pc_core_relation.specs.Contexts.{constructors_among, seen_entity, seen_entities}
-use Rattle.pc_core_relation.specs.Methods.{MethodStands}
-use Rattle.pc_core_relation.specs.Entities.{FieldStands, EntityStands}
-use Rattle.pc_core_relation.specs.Files.{IsCoreOf, above_of}
+use Rattle.pc_core_relation.specs.Methods.{Match, EntityHasName, constructors_among, seen_entity, seen_entities, MethodStands}
+use Rattle.pc_core_relation.specs.Files.{FieldStands, EntityStands, IsCoreOf, above_of}
 use Rattle.pc_core_relation.specs.Laws.{StandingCoresAreMade, StandingCoresAreOne}
 use Rattle.pc_core_relation.proofs.Lists.{match_one, range_count}
 use Rattle.pc_core_relation.proofs.Texts.{firsts_are_texts}

@@ -4,8 +4,7 @@ use Rattle.std.specs.Prelude.{codes}
 use Rattle.std.specs.Str.{bytes_eq}
 use Rattle.std.proofs.lemmas.Option.{same_Some, none-some}
 use Rattle.std.proofs.lemmas.List.{append_assoc}
-use Rattle.pc_lists.specs.Places.{Has, Differ}
-use Rattle.pc_lists.specs.Texts.{Text}
+use Rattle.pc_lists.specs.Lists.{Has, Differ, Text}
 use Rattle.pc_lists.proofs.Cuts.{nil_left, nil_right}
 use Rattle.pc_lists.proofs.Elements.{differ_none}
 use Rattle.pc_lists.proofs.Gets.{get_front}
@@ -14,19 +13,16 @@ use Rattle.pc_tree.specs.declared.written_names.Name.{Name}
 use Rattle.pc_tree.specs.Tree as t
 use Rattle.pc_names.specs.declared.fault.NameFault.{NameFault}
 use Rattle.pc_names.specs.declared.fault.NameFault.TheVariants as fault
-use Rattle.pc_members.specs.Words.{is_among, built_in_names, entity_names, field_texts, method_texts, has_added}
-use Rattle.pc_members.specs.Tables.{trait_names}
-use Rattle.pc_members.specs.Members.{added_text, own_texts}
+use Rattle.pc_members.specs.MemberLists.{is_among, trait_names}
+use Rattle.pc_members.specs.Members.{built_in_names, entity_names, field_texts, method_texts, has_added, added_text, own_texts}
 use Rattle.pc_members.proofs.Completed.{among_parts}
 use Rattle.pc_members.proofs.Differences.{differ_push, equal_texts}
 use Rattle.pc_members.proofs.Named.{is_trait_named}
-use Rattle.pc_names.specs.Faults.{where_, either_fault, type_faults, provided_faults, field_faults, param_faults, signature_faults, method_faults, added_faults}
-use Rattle.pc_names.specs.Faults.{entity_faults, entities_faults, entity_name_faults, declaration_faults}
-use Rattle.pc_names.specs.Mains.{is_main, main_faults}
-use Rattle.pc_names.specs.Names.{NamesData, Collected}
+use Rattle.pc_names.specs.Faults.{where_, either_fault, type_faults, provided_faults, field_faults, param_faults, signature_faults, method_faults, added_faults, entity_faults, entities_faults, entity_name_faults, declaration_faults, main_faults, NamesData, Collected}
+use Rattle.pc_names.specs.Mains.{is_main}
 use Rattle.pc_names.proofs.Founded.{where_none, either_none, Adds, adds_differ, collected_founded}
 use Rattle.pc_file_spec.proofs.Collects.{Sound, Collects, collects}
-use Rattle.pc_core_relation.specs.Names.{param_texts, SignatureIsRight, DeclarationsAreRight, NamesAreRight}
+use Rattle.pc_core_relation.specs.Files.{param_texts, SignatureIsRight, DeclarationsAreRight, NamesAreRight}
 
 -- ---- names in an `is` list, and of parameters
 

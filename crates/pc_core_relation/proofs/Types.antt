@@ -4,23 +4,21 @@ use Rattle.std.specs.Prelude.{slice_get, position, option_to_list}
 use Rattle.std.specs.Str.{bytes_eq}
 use Rattle.std.proofs.lemmas.Option.{same_Some, none-some}
 use Rattle.pc_caps.specs.declared.capability.Cap.{Cap}
-use Rattle.pc_lists.specs.Places.{Has, Differ}
+use Rattle.pc_lists.specs.Lists.{Has, Differ, Text}
 use Rattle.pc_lists.proofs.Bools.{true_false}
 use Rattle.pc_lists.proofs.Gets.{get_map, map_get}
 use Rattle.pc_tree.specs.declared.written_names.Name.{Name}
 use Rattle.pc_tree.specs.declared.written_names.TypeRef.{TypeRef}
 use Rattle.pc_core.specs.declared.declarations.EntityDef.{EntityDef}
 use Rattle.pc_core.specs.CoreData.{CoreData}
-use Rattle.pc_lists.specs.Texts.{Text}
 use Rattle.pc_members.specs.Edges.{entity_numbers}
 use Rattle.pc_body_spec.specs.Scopes.{KnownEntity}
-use Rattle.pc_body_spec.specs.Slots.{cap_or, type_of_name}
-use Rattle.pc_file_spec.specs.Signatures.{or_value, type_in}
+use Rattle.pc_body_spec.specs.Slots.{cap_or}
+use Rattle.pc_body_spec.specs.Fold.{type_of_name}
+use Rattle.pc_file_spec.specs.Cores.{or_value, type_in}
 use Rattle.pc_file_spec.proofs.Aboves.{get_position}
 use Rattle.pc_members.proofs.Differences.{equal_texts, same_text}
-use Rattle.pc_core_relation.specs.Lists.{Match}
-use Rattle.pc_core_relation.specs.Types.{IsType}
-use Rattle.pc_core_relation.specs.Contexts.{seen_entity, seen_entities}
+use Rattle.pc_core_relation.specs.Methods.{Match, IsType, seen_entity, seen_entities}
 use Rattle.pc_core_relation.proofs.Lists.{match_none, match_cons, match_rest}
 
 -- ---- what is found

@@ -5,8 +5,7 @@ use Rattle.std.proofs.lemmas.Option.{slice_get_past}
 use Rattle.pc_caps.specs.declared.span.Span.{Span}
 use Rattle.pc_caps.specs.declared.capability.Cap.{Cap}
 use Rattle.pc_caps.specs.declared.capability.Form.{Form}
-use Rattle.pc_lists.specs.Places.{Differ}
-use Rattle.pc_lists.specs.Ranges.{Follow}
+use Rattle.pc_lists.specs.Lists.{Differ, Follow}
 use Rattle.pc_lists.proofs.Cuts.{take_whole}
 use Rattle.pc_lists.proofs.Ranges.{run_within}
 use Rattle.pc_tree.specs.Tree as t
@@ -16,24 +15,19 @@ use Rattle.pc_core.specs.declared.declarations.ParamInfo.{ParamInfo}
 use Rattle.pc_core.specs.declared.nodes.Node.{Node}
 use Rattle.pc_core.specs.declared.nodes.Slot.{Slot}
 use Rattle.pc_core.specs.declared.nodes.SlotKind.TheVariants as slot
-use Rattle.pc_core.specs.CoreData.{CoreData}
-use Rattle.pc_core.specs.Lookup.{own_slots, node_end}
-use Rattle.pc_core.specs.MethodKinds.{param_slot, this_slot}
-use Rattle.pc_members.specs.Members.{Member, written, added, member_text, member_span}
-use Rattle.pc_members.specs.MemberLists.{members}
-use Rattle.pc_body_spec.specs.Roses.{Rose, put}
+use Rattle.pc_core.specs.CoreData.{CoreData, own_slots, node_end}
+use Rattle.pc_core.specs.Entities.{param_slot, this_slot}
+use Rattle.pc_members.specs.Members.{Member, written, added, member_text}
+use Rattle.pc_members.specs.MemberLists.{member_span, members}
+use Rattle.pc_body_spec.specs.Bodies.{Rose}
+use Rattle.pc_body_spec.specs.Fold.{put, local_slot}
 use Rattle.pc_caps.specs.Limits.{node_limit}
 use Rattle.pc_body_spec.specs.Scopes.{Context, KnownEntity, text_from}
-use Rattle.pc_body_spec.specs.Slots.{local_slot}
 use Rattle.pc_body_spec.specs.Methods.{unless_fault, unless_name, unless_full, numbered_or_full, put_body}
-use Rattle.pc_file_spec.specs.Members.{Owned}
-use Rattle.pc_file_spec.specs.Known.{texts_of_file, known_of}
-use Rattle.pc_file_spec.specs.Signatures.{context_of, slots_from, member_locals, params_of, own_this, kind_of, receiver_cap, result_of, declared}
-use Rattle.pc_file_spec.specs.Parts.{Parts, outcome, with_outcome, and_member, and_members, if_ok}
+use Rattle.pc_file_spec.specs.Cores.{Owned, texts_of_file, known_of, context_of, slots_from, member_locals, params_of, own_this, kind_of, receiver_cap, result_of, declared, Parts, outcome, with_outcome, and_member, and_members, if_ok}
 use Rattle.pc_file_spec.proofs.Steps.{member_rose, member_faults, member_names, slots_count}
 use Rattle.pc_file_spec.proofs.Parts.{slots_run, nodes_run}
-use Rattle.pc_core_relation.specs.Contexts.{seen_entities}
-use Rattle.pc_core_relation.specs.Methods.{LocalStands, BodyIs}
+use Rattle.pc_core_relation.specs.Methods.{seen_entities, LocalStands, BodyIs}
 use Rattle.pc_core_relation.proofs.Lists.{match_one, range_count, take_count, take_run}
 use Rattle.pc_core_relation.proofs.Numbers.{what_is_numbered_is_put, numbered_from}
 use Rattle.pc_core_relation.proofs.Types.{entity_name}

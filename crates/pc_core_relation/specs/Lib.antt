@@ -1,11 +1,3 @@
-pub mod Numbers
-pub mod Lists
-pub mod Texts
-pub mod Types
-pub mod Names
-pub mod Members
-pub mod Contexts
 pub mod Methods
-pub mod Entities
 pub mod Files
 pub mod Laws

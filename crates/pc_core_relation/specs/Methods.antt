@@ -1,34 +1,88 @@
 -- Which method of a finished core represents a member of an entity.
-use Rattle.std.specs.Prelude.{◌≡◌, ℕ, ◌≤◌, Bool, true, false, List, [], ◌∷◌, ◌++◌, map, Option, Some, None, slice_get, codes}
-use Rattle.pc_caps.specs.Tables.{plain, unalias}
-use Rattle.pc_caps.specs.declared.capability.Cap.{Cap}
-use Rattle.pc_caps.specs.declared.capability.Cap.TheVariants as cap
-use Rattle.pc_caps.specs.declared.capability.Form.{Form}
-use Rattle.pc_caps.specs.declared.capability.Form.TheVariants as form
-use Rattle.pc_caps.specs.Limits.{slot_limit}
-use Rattle.pc_tree.specs.declared.kinds.EntityKind.{EntityKind}
-use Rattle.pc_tree.specs.declared.kinds.EntityKind.TheVariants as kind
-use Rattle.pc_tree.specs.declared.kinds.MethodWord.{MethodWord}
-use Rattle.pc_tree.specs.declared.kinds.MethodWord.TheVariants as word
-use Rattle.pc_tree.specs.declared.written_names.TypeRef.{TypeRef}
-use Rattle.pc_tree.specs.declared.file.ParamDef.{ParamDef}
+use Rattle.std.specs.Prelude.{◌≡◌, ℕ, List, length, Some, slice_get, ◌↔◌, Option, None, ◌+◌, [], ◌∷◌, suc, Bool, true, false, map, if◌then◌else◌, ◌≤◌, ◌++◌, codes}
+use Rattle.pc_caps.specs.{declared.capability.Cap.Cap, Tables.plain, Tables.unalias, declared.capability.Form.Form, Limits.slot_limit}
+use Rattle.pc_tree.specs.{declared.written_names.Name.Name, declared.written_names.TypeRef.TypeRef, declared.kinds.EntityKind.EntityKind, declared.kinds.MethodWord.MethodWord, declared.file.ParamDef.ParamDef, Kinds.none_entity}
+use Rattle.pc_core.specs.{declared.declarations.EntityDef.EntityDef, CoreData.CoreData, CoreData.own_methods, CoreData.own_slots, declared.nodes.Node.Node, declared.declarations.Method.Method, declared.declarations.MethodKind.MethodKind, declared.declarations.ParamInfo.ParamInfo, declared.nodes.Slot.Slot, Entities.constructor_kind, Entities.word_kind, Entities.this_slot, Entities.param_slot}
+use Rattle.pc_body_spec.specs.{Slots.cap_or, Slots.Local, Slots.added_slots, Slots.initial_locals, Slots.local_kind, Slots.method_locals, Slots.slots_of, Bodies.Rose, Bodies.Roses, Bodies.rose, Bodies.more, Bodies.no_roses, Bodies.node_of, Bodies.body_of, Bodies.added_body, Scopes.Context, Scopes.KnownEntity, Scopes.Constructor, Scopes.PlacedLocal, Faults.body_faults, Faults.initial_faults}
+use Rattle.pc_lists.specs.Lists.{Text}
+use Rattle.pc_members.specs.Members.{field_texts, or_nil, Member, member_text, written, added}
 use Rattle.pc_tree.specs.Tree as t
-use Rattle.pc_tree.specs.BuiltIn.{none_entity}
-use Rattle.pc_core.specs.declared.declarations.Method.{Method}
-use Rattle.pc_core.specs.declared.declarations.ParamInfo.{ParamInfo}
-use Rattle.pc_core.specs.declared.nodes.Slot.{Slot}
-use Rattle.pc_core.specs.CoreData.{CoreData}
-use Rattle.pc_core.specs.Lookup.{own_slots}
-use Rattle.pc_core.specs.MethodKinds.{constructor_kind, word_kind, this_slot, param_slot}
-use Rattle.pc_members.specs.Members.{Member, written, added}
-use Rattle.pc_body_spec.specs.Roses.{Rose}
-use Rattle.pc_body_spec.specs.Bodies.{body_of, added_body}
-use Rattle.pc_body_spec.specs.Faults.{body_faults, initial_faults}
-use Rattle.pc_body_spec.specs.Slots.{Local, added_slots, cap_or, initial_locals, local_kind, method_locals, slots_of}
-use Rattle.pc_core_relation.specs.Lists.{Match}
-use Rattle.pc_core_relation.specs.Types.{IsType, IsWritten}
-use Rattle.pc_core_relation.specs.Contexts.{context_in}
-use Rattle.pc_core_relation.specs.Numbers.{IsNumbered}
+use Rattle.pc_core.specs.declared.declarations.MethodKind.TheVariants as method
+use Rattle.pc_caps.specs.declared.capability.Cap.TheVariants as cap
+use Rattle.pc_caps.specs.declared.capability.Form.TheVariants as form
+use Rattle.pc_tree.specs.declared.kinds.EntityKind.TheVariants as kind
+use Rattle.pc_tree.specs.declared.kinds.MethodWord.TheVariants as word
+
+-- ---- lists that match element by element
+
+-- The lists are equally long, and their elements at each place are related in this way.
+abbrev pub Match : {A B : Type 0} → (A → B → Type 0) → List A → List B → Type 0
+Match {A} {B} R xs ys = (length xs ≡ length ys) × ((i : ℕ) (x : A) (y : B) → slice_get xs i ≡ Some x → slice_get ys i ≡ Some y → R x y)
+
+-- ---- what a type written in a file is in a finished core
+
+-- Entity number e has this name.
+abbrev pub EntityHasName : CoreData → Name → ℕ → Type 0
+EntityHasName core n e = (x : EntityDef) × (slice_get core.entities e ≡ Some x) × (x.name ≡ n.text)
+
+-- A type: the entity with its name, and the capability that is written, or else that of the entity.
+abbrev pub IsType : CoreData → TypeRef → ℕ × Cap → Type 0
+IsType core ty p = (x : EntityDef) × (slice_get core.entities p.0 ≡ Some x) × (x.name ≡ ty.name.text) × (p.1 ≡ cap_or ty.cap x.cap)
+
+-- The same for an optional type: if none is written, there is none.
+abbrev pub IsWritten : CoreData → Option TypeRef → Option (ℕ × Cap) → Type 0
+IsWritten core None w = w ≡ None
+IsWritten core (Some ty) w = (p : ℕ × Cap) → (w ≡ Some p) ↔ IsType core ty p
+
+-- ---- the numbers of a rose's nodes in a finished list of nodes
+
+-- The nodes of a rose of method m have exactly the numbers from `from` to n: first come those of its children, one
+-- child after the other in the order of evaluation, and then its own, number n, which has the rose's kind, span and
+-- depth, and refers to the children by their numbers.
+abbrev mutual
+  pub IsNumbered : List Node → (m from : ℕ) → Rose → (n : ℕ) → Type 0
+  IsNumbered nodes m from (rose k s d rs) n = (ks : List ℕ) × AreNumbered nodes m from rs ks n × (slice_get nodes n ≡ Some (node_of m k s d ks))
+
+  -- Roses whose own nodes have these numbers take the numbers from `from` up to, but not including, `next`.
+  pub AreNumbered : List Node → (m from : ℕ) → Roses → (ks : List ℕ) → (next : ℕ) → Type 0
+  AreNumbered nodes m from no_roses ks next = (ks ≡ []) × (from ≡ next)
+  AreNumbered nodes m from (more r rs) ks next = (k : ℕ) × (rest : List ℕ) × (ks ≡ k ∷ rest) × IsNumbered nodes m from r k × AreNumbered nodes m (k + 1) rs rest next
+
+-- ---- what the body of a method knows of a finished core
+
+-- A method of this kind makes an object.
+abbrev pub makes : MethodKind → Bool
+makes method.Fun = false
+makes method.Be = false
+makes method.New = true
+makes method.Spawn = true
+
+-- The text with this number.
+abbrev pub text_at : List Text → ℕ → Text
+text_at names n = or_nil (slice_get names n)
+
+-- The constructors among these methods, the first of which has this number.
+abbrev pub constructors_among : List Text → ℕ → List Method → List Constructor
+constructors_among names at [] = []
+constructors_among names at (m ∷ ms) = if makes m.kind then record { name = text_at names m.name; method = at } ∷ constructors_among names (suc at) ms else constructors_among names (suc at) ms
+
+-- An entity of the core, with its constructors.
+abbrev pub seen_entity : CoreData → EntityDef → KnownEntity
+seen_entity core x = record { name = x.name; kind = x.kind; cap = x.cap; constructors = constructors_among core.names x.first_method (own_methods core x) }
+
+abbrev pub seen_entities : CoreData → List KnownEntity
+seen_entities core = map (seen_entity core) core.entities
+
+-- What the body of a member knows: the names of its entity's fields and of these members, the entities and texts of the
+-- core, and for each of its locals, by the place of its name, the slot.
+abbrev pub context_in : CoreData → List Member → t.Entity → List PlacedLocal → Context
+context_in core members e slots = record {
+  fields = field_texts e.fields;
+  methods = map member_text members;
+  entities = seen_entities core;
+  texts = core.names;
+  slots = slots;
+}
 
 -- ---- receivers, parameters and results
 

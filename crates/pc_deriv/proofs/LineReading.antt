@@ -7,12 +7,9 @@ use Rattle.pc_masks.specs.declared.mask.Mask.{Mask}
 use Rattle.pc_ann.specs.declared.annotation.Rule.{Rule}
 use Rattle.pc_ann.specs.declared.annotation.Note.{Note}
 use Rattle.pc_deriv.specs.declared.version.Version.{Version}
-use Rattle.pc_deriv.specs.Names.{version_name, rule_name, cap_name, form_name}
-use Rattle.pc_lists.specs.Texts.{line_end}
-use Rattle.pc_deriv.specs.Text.{head_line, slot_line, type_text, mask_text, shown_after, note_line, CountsFit, SlotFits, TypeFits, MaskFits, NoteFits}
-use Rattle.pc_deriv.specs.Reading.{digit_of, after_bytes, or_else, beside, version_at, rule_at, cap_at, form_at, number_at, decimal_at, mask_at, head_at}
-use Rattle.pc_deriv.specs.Reading.{read_slot, some_type_at, read_type_or_none, masks_at, note_at}
-use Rattle.pc_lists.specs.Options.{◌>>=◌}
+use Rattle.pc_deriv.specs.Text.{version_name, rule_name, cap_name, form_name, head_line, slot_line, type_text, mask_text, shown_after, note_line, CountsFit, SlotFits, TypeFits, MaskFits, NoteFits}
+use Rattle.pc_lists.specs.Lists.{line_end, ◌>>=◌}
+use Rattle.pc_deriv.specs.Reading.{digit_of, after_bytes, or_else, beside, version_at, rule_at, cap_at, form_at, number_at, decimal_at, mask_at, head_at, read_slot, some_type_at, read_type_or_none, masks_at, note_at}
 use Rattle.pc_deriv.proofs.Digits.{ten, sixteen}
 use Rattle.pc_deriv.proofs.NumberReading.{bind_own, number_sound, number_own}
 use Rattle.std.proofs.lemmas.Option.{same_Some}

@@ -12,7 +12,7 @@ use Rattle.pc_ann.specs.declared.annotation.Rule.TheVariants as rule
 use Rattle.pc_deriv.specs.declared.vocabulary.TheConstants.{VERSIONS, RULES, CAPS, FORMS}
 use Rattle.pc_deriv.specs.declared.version.Version.{Version}
 use Rattle.pc_deriv.specs.declared.version.Version.TheVariants as version
-use Rattle.pc_deriv.specs.Names.{version_name, rule_name, cap_name, form_name}
+use Rattle.pc_deriv.specs.Text.{version_name, rule_name, cap_name, form_name}
 use Rattle.pc_deriv.specs.Reading.{after_bytes, after_word, or_else, beside, read_named, version_at, rule_at, cap_at, form_at}
 use Rattle.std.proofs.lemmas.Option.{same_Some}
 use Rattle.pc_lists.proofs.Options.{none_some, bind_some}

@@ -7,7 +7,7 @@ use Rattle.std.proofs.lemmas.Nat.{div-add-mod'}
 use Rattle.std.specs.Char.{is_ascii_digit, is_ascii_lowercase}
 use Rattle.std.specs.Fmt.{digit_glyph, digits}
 use Rattle.pc_deriv.specs.Reading.{digit_of, at_most, with_digit, digits_on, number_at}
-use Rattle.pc_lists.specs.Options.{◌>>=◌}
+use Rattle.pc_lists.specs.Lists.{◌>>=◌}
 use Rattle.pc_deriv.proofs.Digits.{Base}
 use Rattle.pc_lists.proofs.Options.{none_some, bind_some}
 use Rattle.std.proofs.lemmas.Option.{same_Some}

@@ -6,9 +6,8 @@ use Rattle.pc_ann.specs.declared.annotation.Ann.{Ann}
 use Rattle.pc_deriv.specs.declared.line.Line.{Line}
 use Rattle.pc_deriv.specs.declared.line.LineFault.{LineFault}
 use Rattle.pc_deriv.specs.declared.line.LineFault.TheVariants as fault
-use Rattle.pc_deriv.specs.Faults.{IsText, IsBadLine, IsTooMany, IsFault}
-use Rattle.pc_deriv.specs.Lines.{Taken, nothing_taken, line_in, within_limits, checked, line_meaning, behind, answered, with_line_byte, took_at, took}
-use Rattle.pc_deriv.specs.Lines.{with_first_line, fed, longest_line, is_whole, fault_at_end, ended_so, lines_of}
+use Rattle.pc_deriv.specs.Text.{IsText, IsBadLine, IsTooMany, IsFault}
+use Rattle.pc_deriv.specs.Lines.{Taken, nothing_taken, line_in, within_limits, checked, line_meaning, behind, answered, with_line_byte, took_at, took, with_first_line, fed, longest_line, is_whole, fault_at_end, ended_so, lines_of}
 use Rattle.pc_deriv.specs.Pieces.{NoEnd}
 use Rattle.pc_deriv.specs.Laws.{as_read, IsRead}
 use Rattle.pc_lists.proofs.Options.{none_some}

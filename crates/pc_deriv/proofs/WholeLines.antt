@@ -11,8 +11,7 @@ use Rattle.pc_deriv.specs.declared.line.Line.TheVariants as line
 use Rattle.pc_deriv.specs.declared.line.LineFault.{LineFault}
 use Rattle.pc_deriv.specs.Text.{slot_line, note_line, SlotFits, NoteFits}
 use Rattle.pc_deriv.specs.Reading.{head_at, read_slot, note_at}
-use Rattle.pc_deriv.specs.Lines.{Taken, slot_line_in, node_in, line_in, checked, line_meaning, behind, answered, with_line_byte, took_at, took, with_first_line}
-use Rattle.pc_deriv.specs.Lines.{fed, longest_line}
+use Rattle.pc_deriv.specs.Lines.{Taken, slot_line_in, node_in, line_in, checked, line_meaning, behind, answered, with_line_byte, took_at, took, with_first_line, fed, longest_line}
 use Rattle.pc_deriv.specs.Front.{counted, head_says, slot_says, front_slot, front_node, front_line}
 use Rattle.pc_deriv.specs.Pieces.{NoEnd, EndsOnce, IsNext}
 use Rattle.pc_lists.proofs.Options.{none_some}

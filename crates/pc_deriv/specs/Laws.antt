@@ -1,13 +1,9 @@
 -- Laws of all derivation texts.
 use Rattle.std.specs.Prelude.{◌≡◌, ℕ, List, ◌++◌, Some, Result, Ok, Err}
 use Rattle.pc_ann.specs.declared.annotation.Ann.{Ann}
-use Rattle.pc_deriv.specs.declared.fault.DerivFault.{DerivFault}
+use Rattle.pc_deriv.specs.{declared.fault.DerivFault.DerivFault, declared.line.Line.Line, declared.line.LineFault.LineFault, Lines.Taken, Lines.nothing_taken, Lines.fed, Lines.ended_so, Lines.lines_of, Text.IsText, Text.IsFault}
 use Rattle.pc_deriv.specs.declared.fault.DerivFault.TheVariants as fault
-use Rattle.pc_deriv.specs.declared.line.Line.{Line}
-use Rattle.pc_deriv.specs.declared.line.LineFault.{LineFault}
 use Rattle.pc_deriv.specs.declared.line.LineFault.TheVariants as line_fault
-use Rattle.pc_deriv.specs.Lines.{Taken, nothing_taken, fed, ended_so, lines_of}
-use Rattle.pc_deriv.specs.Faults.{IsText, IsFault}
 
 -- No bytes are the text of two annotations, in one version or in different ones.
 abbrev pub OneAnnotation : Type 0

@@ -1,7 +1,4 @@
-pub mod Names
-pub mod Limits
 pub mod Text
-pub mod Faults
 pub mod Answers
 pub mod Reading
 pub mod Stops

@@ -2,14 +2,9 @@
 use Rattle.std.specs.Prelude.{ℕ, ◌+◌, ◌==◌, nat_le, Bool, false, ◌&&◌, List, [], ◌∷◌, ◌++◌, length, map, Option, Some, None, option_map, Result, Ok, Err, if◌then◌else◌}
 use Rattle.pc_caps.specs.declared.capability.Cap.{Cap}
 use Rattle.pc_ann.specs.declared.annotation.Ann.{Ann}
-use Rattle.pc_deriv.specs.Limits.{derivation_slot_limit, derivation_node_limit}
-use Rattle.pc_deriv.specs.Reading.{head_at, read_slot, note_at}
-use Rattle.pc_deriv.specs.Names.{version_number}
-use Rattle.pc_deriv.specs.declared.version.Version.{Version}
+use Rattle.pc_deriv.specs.{Text.derivation_slot_limit, Text.derivation_node_limit, Text.version_number, Reading.head_at, Reading.read_slot, Reading.note_at, declared.version.Version.Version, declared.line.Line.Line, declared.line.LineFault.LineFault}
 use Rattle.pc_deriv.specs.declared.version.Version.TheVariants as version
-use Rattle.pc_deriv.specs.declared.line.Line.{Line}
 use Rattle.pc_deriv.specs.declared.line.Line.TheVariants as line
-use Rattle.pc_deriv.specs.declared.line.LineFault.{LineFault}
 use Rattle.pc_deriv.specs.declared.line.LineFault.TheVariants as fault
 
 -- The state after some bytes: the version and the counts of the first line, once it has ended; how many lines have

@@ -1,15 +1,92 @@
 -- The derivation text of an annotation, in each version.
-use Rattle.std.specs.Prelude.{ℕ, ◌<◌, ◌^◌, false, List, [], ◌∷◌, ◌++◌, length, Option, None, Some, codes, decimal, bit_xor, ⊤}
-use Rattle.std.specs.Fmt.{digits}
-use Rattle.pc_lists.specs.Texts.{line_end}
-use Rattle.pc_caps.specs.declared.capability.Cap.{Cap}
-use Rattle.pc_caps.specs.declared.capability.Form.{Form}
+use Rattle.std.specs.Prelude.{ℕ, List, codes, ◌<◌, ◌^◌, false, [], ◌∷◌, ◌++◌, length, Option, None, Some, decimal, bit_xor, ⊤, ◌≡◌, ◌+◌, ◌≤◌}
+use Rattle.std.specs.{Fmt.digits, List.AllByRecursion}
+use Rattle.pc_caps.specs.{declared.capability.Cap.Cap, declared.capability.Form.Form}
+use Rattle.pc_ann.specs.{declared.annotation.Rule.Rule, declared.annotation.Note.Note, declared.annotation.Ann.Ann}
+use Rattle.pc_deriv.specs.{declared.version.Version.Version, declared.fault.DerivFault.DerivFault}
+use Rattle.pc_lists.specs.Lists.{line_end}
 use Rattle.pc_masks.specs.declared.mask.Mask.{Mask}
-use Rattle.pc_ann.specs.declared.annotation.Note.{Note}
-use Rattle.pc_ann.specs.declared.annotation.Ann.{Ann}
-use Rattle.pc_deriv.specs.Names.{version_name, rule_name, cap_name, form_name}
-use Rattle.pc_deriv.specs.declared.version.Version.{Version}
+use Rattle.pc_caps.specs.Limits as program
+use Rattle.pc_caps.specs.declared.capability.Cap.TheVariants as cap
+use Rattle.pc_caps.specs.declared.capability.Form.TheVariants as form
+use Rattle.pc_ann.specs.declared.annotation.Rule.TheVariants as rule
 use Rattle.pc_deriv.specs.declared.version.Version.TheVariants as version
+use Rattle.pc_deriv.specs.declared.fault.DerivFault.TheVariants as fault
+
+-- ---- the limits of an annotation's text: its bytes, and as many slots and nodes as a program may have
+
+-- the greatest number of bytes of a derivation
+abbrev pub derivation_limit : ℕ
+derivation_limit = 33554432
+
+abbrev pub derivation_slot_limit : ℕ
+derivation_slot_limit = program.program_slot_limit
+
+abbrev pub derivation_node_limit : ℕ
+derivation_node_limit = program.node_limit
+
+-- ---- the names of versions, rules, capabilities and forms
+
+abbrev pub version_number : Version → ℕ
+version_number version.One = 1
+version_number version.Two = 2
+
+abbrev pub version_name : Version → List ℕ
+version_name version.One = codes "1"
+version_name version.Two = codes "2"
+
+abbrev pub rule_name : Rule → List ℕ
+rule_name rule.Number = codes "number"
+rule_name rule.Truth = codes "truth"
+rule_name rule.Text = codes "text"
+rule_name rule.Prim = codes "prim"
+rule_name rule.This = codes "this"
+rule_name rule.Local = codes "local"
+rule_name rule.Consume = codes "consume"
+rule_name rule.Get = codes "get"
+rule_name rule.GetOwn = codes "getown"
+rule_name rule.Put = codes "put"
+rule_name rule.PutOwn = codes "putown"
+rule_name rule.Define = codes "define"
+rule_name rule.Assign = codes "assign"
+rule_name rule.New = codes "new"
+rule_name rule.Spawn = codes "spawn"
+rule_name rule.Call = codes "call"
+rule_name rule.CallRecover = codes "callrecover"
+rule_name rule.Send = codes "send"
+rule_name rule.Builtin = codes "builtin"
+rule_name rule.Arith = codes "arith"
+rule_name rule.Compare = codes "compare"
+rule_name rule.Equal = codes "equal"
+rule_name rule.Join = codes "join"
+rule_name rule.Logic = codes "logic"
+rule_name rule.Lazy = codes "lazy"
+rule_name rule.Identity = codes "identity"
+rule_name rule.Seq = codes "seq"
+rule_name rule.If = codes "if"
+rule_name rule.While = codes "while"
+rule_name rule.Recover = codes "recover"
+rule_name rule.Body = codes "body"
+
+abbrev pub cap_name : Cap → List ℕ
+cap_name cap.Iso = codes "iso"
+cap_name cap.Trn = codes "trn"
+cap_name cap.Ref = codes "ref"
+cap_name cap.Val = codes "val"
+cap_name cap.Box = codes "box"
+cap_name cap.Tag = codes "tag"
+
+abbrev pub form_name : Form → List ℕ
+form_name form.IsoE = codes "iso^"
+form_name form.TrnE = codes "trn^"
+form_name form.Iso = codes "iso"
+form_name form.Trn = codes "trn"
+form_name form.Ref = codes "ref"
+form_name form.Val = codes "val"
+form_name form.Box = codes "box"
+form_name form.Tag = codes "tag"
+
+-- ---- the text
 
 abbrev pub blank : List ℕ
 blank = 32 ∷ []
@@ -75,3 +152,63 @@ MasksFit note = (MaskFits note.live_before × MaskFits note.set_before) × (Mask
 
 abbrev pub NoteFits : Note → Type 0
 NoteFits note = TypeFits note.ty × MasksFit note
+
+-- ---- when bytes are the text of an annotation, and otherwise the first line that is malformed
+
+-- The counts of slots and of nodes are within their limits.
+abbrev pub Within : ℕ × ℕ → Type 0
+Within (slots, nodes) = (slots ≤ derivation_slot_limit) × (nodes ≤ derivation_node_limit)
+
+-- The bytes are the annotation's text in some version, and the annotation is within the limits.
+pub record IsText (bytes : List ℕ) (ann : Ann) : Type 0 where
+  pub version : Version
+  pub slots : AllByRecursion SlotFits ann.slots
+  pub notes : AllByRecursion NoteFits ann.notes
+  pub within : Within (length ann.slots, length ann.notes)
+  pub same : bytes ≡ deriv_text version ann
+
+-- The text is the lines of these things, followed by the rest.
+pub record BeginsLine {A : Type 0} (line : A → List ℕ) (Fits : A → Type 0) (text : List ℕ) (xs : List A) (rest : List ℕ) : Type 0 where
+  pub fit : AllByRecursion Fits xs
+  pub cut : text ≡ each_line line xs ++ rest
+
+-- The text does not begin with a line of this form.
+abbrev pub NoLine : {A : Type 0} → (A → List ℕ) → (A → Type 0) → List ℕ → Type 0
+NoLine {A} line Fits text = (x : A) (rest : List ℕ) → Fits x → text ≡ line x ++ rest → ⊥
+
+-- The text begins with a first line of this version and these counts, followed by the rest.
+abbrev pub BeginsHead : List ℕ → Version → ℕ × ℕ → List ℕ → Type 0
+BeginsHead text version counts rest = CountsFit counts × (text ≡ head_line version counts ++ rest)
+
+-- The text does not begin with a first line in any version.
+abbrev pub NoHead : List ℕ → Type 0
+NoHead text = (version : Version) → NoLine (head_line version) CountsFit text
+
+-- Line n is the first that is malformed. The forms are those of the version that the first line names.
+pub data IsBadLine (bytes : List ℕ) (n : ℕ) : Type 0 where
+  -- the first line
+  bad_head : NoHead bytes → n ≡ 1 → IsBadLine bytes n
+  -- after some slots, fewer than the first line states, there is no line of a slot
+  bad_slot : (version : Version) {counts : ℕ × ℕ} {text rest : List ℕ} {slots : List (ℕ × Cap)} → BeginsHead bytes version counts text → Within counts → BeginsLine slot_line SlotFits text slots rest → length slots < counts.0
+      → NoLine slot_line SlotFits rest → n ≡ length slots + 2 → IsBadLine bytes n
+  -- after all slots and some nodes, fewer than the first line states, there is no line of a node
+  bad_node : (version : Version) {counts : ℕ × ℕ} {text mid rest : List ℕ} {slots : List (ℕ × Cap)} {notes : List Note} → BeginsHead bytes version counts text → Within counts → BeginsLine slot_line SlotFits text slots mid → length slots ≡ counts.0
+      → BeginsLine (note_line version) NoteFits mid notes rest → length notes < counts.1 → NoLine (note_line version) NoteFits rest → n ≡ counts.0 + length notes + 2 → IsBadLine bytes n
+  -- something follows the whole text
+  bad_end : (version : Version) {counts : ℕ × ℕ} {text mid rest : List ℕ} {slots : List (ℕ × Cap)} {notes : List Note} → BeginsHead bytes version counts text → Within counts → BeginsLine slot_line SlotFits text slots mid → length slots ≡ counts.0
+      → BeginsLine (note_line version) NoteFits mid notes rest → length notes ≡ counts.1 → 0 < length rest → n ≡ counts.0 + counts.1 + 2 → IsBadLine bytes n
+
+-- The first line is well-formed, and a count in it exceeds its limit.
+abbrev pub IsTooMany : List ℕ → Type 0
+IsTooMany bytes = (version : Version) × (counts : ℕ × ℕ) × (rest : List ℕ) × BeginsHead bytes version counts rest × (Within counts → ⊥)
+
+-- The fault of the bytes.
+abbrev pub IsFault : List ℕ → DerivFault → Type 0
+IsFault bytes (fault.BadLine n) = IsBadLine bytes n
+IsFault bytes fault.TooMany = IsTooMany bytes
+IsFault bytes fault.Memory = ⊥
+
+-- The fault of the bytes, or memory ran out.
+abbrev pub RefusesDerivation : List ℕ → DerivFault → Type 0
+RefusesDerivation bytes fault.Memory = ⊤
+RefusesDerivation bytes f = IsFault bytes f

@@ -1,7 +1,6 @@
 //! The versions of the derivation text.
 ghost use Rattle.std.specs.Prelude.{◌≡◌};
 ghost use Rattle.pc_deriv.specs.Lines as lines;
-ghost use Rattle.pc_deriv.specs.Names as names;
 ghost use Rattle.pc_deriv.specs.Text as text;
 
 use pc_masks::Mask;
@@ -18,7 +17,7 @@ pub enum Version {
 impl Version {
     /// The number that names the version: 1 or 2.
     pub fn number(self) -> u32
-        ensures { result ≡ names.version_number self }
+        ensures { result ≡ text.version_number self }
     {
         match self {
             Version::One => 1,

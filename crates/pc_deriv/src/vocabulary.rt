@@ -1,6 +1,6 @@
 //! The names of versions, rules, capabilities and forms.
 ghost use Rattle.std.specs.Prelude.{◌≡◌, ℕ, List, option_map};
-ghost use Rattle.pc_deriv.specs.Names as names;
+ghost use Rattle.pc_deriv.specs.Text as names;
 ghost use Rattle.pc_deriv.specs.Reading as reading;
 
 use crate::version::Version;

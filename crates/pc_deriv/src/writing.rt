@@ -4,8 +4,7 @@ ghost use Rattle.pc_ann.specs.declared.annotation.Note.{Note};
 ghost use Rattle.std.specs.List.{AllByRecursion};
 ghost use Rattle.pc_deriv.specs.Text as text;
 ghost use Rattle.pc_deriv.specs.declared.version.Version.TheVariants as version;
-ghost use Rattle.pc_deriv.specs.Faults.{IsText};
-ghost use Rattle.pc_deriv.specs.Limits.{derivation_slot_limit, derivation_node_limit};
+ghost use Rattle.pc_deriv.specs.Text.{IsText, derivation_slot_limit, derivation_node_limit};
 
 use crate::number_writing::{push_decimal, push_hex};
 use crate::version::{Version, shown_after};

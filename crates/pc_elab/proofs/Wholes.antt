@@ -15,18 +15,15 @@ use Rattle.pc_core.specs.Formed.{Formed}
 use Rattle.pc_core.specs.CoreData.{CoreData}
 use Rattle.pc_names.specs.declared.fault.NameFault.{NameFault}
 use Rattle.pc_names.specs.declared.fault.NameFault.TheVariants as fault
-use Rattle.pc_tree.specs.BuiltIn.{first_own}
-use Rattle.pc_names.specs.Names.{NamesData, Collected}
+use Rattle.pc_tree.specs.Kinds.{first_own}
+use Rattle.pc_names.specs.Faults.{NamesData, Collected}
 use Rattle.pc_text_order.specs.Laws.{BodiesAscend}
 use Rattle.pc_body_spec.specs.Scopes.{Context}
 use Rattle.pc_members.specs.Members.{Member}
 use Rattle.pc_members.specs.MemberLists.{members}
-use Rattle.pc_file_spec.specs.Members.{members_from}
-use Rattle.pc_file_spec.specs.Known.{known_of, known_from, texts_of_file, built_in_known}
+use Rattle.pc_file_spec.specs.Cores.{members_from, known_of, known_from, texts_of_file, built_in_known, built_ins, entities_from, core_with, core_of, Stands, Parts, parts_of, and_members, if_ok, built_in_parts}
 use Rattle.pc_file_spec.specs.Order as o
-use Rattle.pc_file_spec.specs.Cores.{built_ins, entities_from, core_with, core_of, Stands}
 use Rattle.pc_file_spec.specs.Laws.{StandsIsFormed}
-use Rattle.pc_file_spec.specs.Parts.{Parts, parts_of, and_members, if_ok, built_in_parts}
 use Rattle.pc_file_spec.proofs.Collects.{collects}
 use Rattle.pc_file_spec.proofs.Steps.{same_ok}
 use Rattle.pc_file_spec.proofs.Owners.{known_count}

@@ -1,26 +1,17 @@
 -- The elaboration of the members of a file, in terms of the code.
 use Rattle.std.specs.Prelude.{◌≡◌, ℕ, suc, List, [], ◌∷◌, ◌++◌, map, length, Option, Some, None, Result, Ok, Err, slice_get, ◌-◌}
-use Rattle.pc_caps.specs.declared.span.Span.{Span}
-use Rattle.pc_caps.specs.Limits.{slot_limit}
+use Rattle.pc_caps.specs.{declared.span.Span.Span, Limits.slot_limit}
 use Rattle.pc_tree.specs.declared.written_names.Name.{Name}
-use Rattle.pc_tree.specs.Tree as t
 use Rattle.pc_core.specs.declared.nodes.Node.{Node}
 use Rattle.pc_names.specs.declared.fault.NameFault.{NameFault}
+use Rattle.pc_body_walks.specs.declared.fault.BodyFault.{BodyFault}
+use Rattle.pc_members.specs.{Members.field_texts, Members.Member, Members.written, Members.added, Members.member_text, MemberLists.member_span}
+use Rattle.pc_body_spec.specs.{Bodies.Rose, Bodies.body_of, Bodies.added_body, Scopes.Context, Scopes.PlacedLocal, Faults.BodyNameFault, Faults.body_faults, Faults.initial_faults, Slots.Local, Methods.MethodFault, Methods.MethodOutcome, Methods.param_names, Methods.local_names, Methods.unless_fault, Methods.unless_full, Methods.put_body}
+use Rattle.pc_file_spec.specs.Cores.{Owned, owned, placed_of, slots_from, declared, Parts, name_fault, if_ok, and_member}
+use Rattle.pc_tree.specs.Tree as t
 use Rattle.pc_names.specs.declared.fault.NameFault.TheVariants as fault
 use Rattle.pc_names.specs.declared.fault.Which.TheVariants as which
-use Rattle.pc_body_walks.specs.declared.fault.BodyFault.{BodyFault}
 use Rattle.pc_body_walks.specs.declared.fault.BodyFault.TheVariants as body
-use Rattle.pc_members.specs.Words.{field_texts}
-use Rattle.pc_body_spec.specs.Roses.{Rose}
-use Rattle.pc_body_spec.specs.Scopes.{Context, PlacedLocal}
-use Rattle.pc_body_spec.specs.Bodies.{body_of, added_body}
-use Rattle.pc_body_spec.specs.Faults.{BodyNameFault, body_faults, initial_faults}
-use Rattle.pc_body_spec.specs.Slots.{Local}
-use Rattle.pc_body_spec.specs.Methods.{MethodFault, MethodOutcome, param_names, local_names, unless_fault, unless_full, put_body}
-use Rattle.pc_members.specs.Members.{Member, written, added, member_span, member_text}
-use Rattle.pc_file_spec.specs.Members.{Owned, owned}
-use Rattle.pc_file_spec.specs.Signatures.{placed_of, slots_from, declared}
-use Rattle.pc_file_spec.specs.Parts.{Parts, name_fault, if_ok, and_member}
 
 -- The fault of a file that corresponds to a fault of a body.
 abbrev pub as_name_fault : BodyFault → NameFault

@@ -1,14 +1,11 @@
 -- Lists parallel to the entities of a file and to the table of their members.
 use Rattle.std.specs.Prelude.{ℕ, suc, ◌+◌, List, [], ◌∷◌, map, length, slice_get}
-use Rattle.pc_tree.specs.Tree as t
 use Rattle.pc_core.specs.declared.declarations.EntityDef.{EntityDef}
-use Rattle.pc_names.specs.Names.{NamesData}
-use Rattle.pc_members.specs.Edges.{entity_numbers}
-use Rattle.pc_members.specs.Words.{or_nil}
+use Rattle.pc_names.specs.Faults.{NamesData}
+use Rattle.pc_members.specs.{Edges.entity_numbers, Members.or_nil, Members.Member}
 use Rattle.pc_body_spec.specs.Scopes.{KnownEntity, Context}
-use Rattle.pc_members.specs.Members.{Member}
-use Rattle.pc_file_spec.specs.Known.{default_cap, constructors_from}
-use Rattle.pc_file_spec.specs.Cores.{core_field}
+use Rattle.pc_file_spec.specs.Cores.{default_cap, constructors_from, core_field}
+use Rattle.pc_tree.specs.Tree as t
 
 -- What bodies know of an entity with these members, of which the first has this number among the methods.
 abbrev pub known_with : ℕ → t.Entity → List Member → KnownEntity

@@ -1,13 +1,10 @@
 -- The slots of a member, for its parameters and its locals.
 use Rattle.std.specs.Prelude.{ℕ, ◌+◌, List, ◌∷◌, ◌++◌, map, length, Some}
-use Rattle.pc_core.specs.declared.declarations.ParamInfo.{ParamInfo}
-use Rattle.pc_core.specs.declared.nodes.Slot.{Slot}
-use Rattle.pc_core.specs.declared.nodes.SlotKind.TheVariants as slot
-use Rattle.pc_core.specs.MethodKinds.{param_slot}
-use Rattle.pc_body_spec.specs.Scopes.{Context}
-use Rattle.pc_body_spec.specs.Slots.{Local, local_slot}
+use Rattle.pc_core.specs.{declared.declarations.ParamInfo.ParamInfo, declared.nodes.Slot.Slot, Entities.param_slot}
+use Rattle.pc_body_spec.specs.{Scopes.Context, Slots.Local, Fold.local_slot}
 use Rattle.pc_members.specs.Members.{Member, written, added}
-use Rattle.pc_file_spec.specs.Signatures.{receiver_cap}
+use Rattle.pc_file_spec.specs.Cores.{receiver_cap}
+use Rattle.pc_core.specs.declared.nodes.SlotKind.TheVariants as slot
 
 -- The index of the slot of the first local.
 abbrev pub first_local : Member → ℕ

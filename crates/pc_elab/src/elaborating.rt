@@ -2,9 +2,8 @@
 ghost use Rattle.std.specs.Prelude.{◌≡◌, ◌<◌, ◌^◌, map, length, IfOk, IfErr};
 ghost use Rattle.pc_tree.specs.View.{file_view};
 ghost use Rattle.pc_core.specs.Formed.{Formed};
-ghost use Rattle.pc_names.specs.Names.{Collected};
-ghost use Rattle.pc_file_spec.specs.Cores.{Stands, core_of};
-ghost use Rattle.pc_file_spec.specs.Known.{known_of, texts_of_file};
+ghost use Rattle.pc_names.specs.Faults.{Collected};
+ghost use Rattle.pc_file_spec.specs.Cores.{Stands, core_of, known_of, texts_of_file};
 ghost use Rattle.pc_members.specs.MemberLists.{members};
 ghost use Rattle.pc_members.specs.Views.{table_view};
 ghost use Rattle.pc_elab.specs.Cores as spec;

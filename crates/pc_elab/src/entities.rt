@@ -2,8 +2,8 @@
 ghost use Rattle.std.specs.Prelude.{◌≡◌, ◌++◌, [], ◌+◌, ◌<◌, ◌^◌, map, length, slice_get, IfOk, OnOk};
 ghost use Rattle.pc_tree.specs.View.{entity_view, field_view};
 ghost use Rattle.pc_members.specs.Edges.{entity_numbers};
-ghost use Rattle.pc_tree.specs.BuiltIn.{first_own};
-ghost use Rattle.pc_members.specs.Words.{or_nil};
+ghost use Rattle.pc_tree.specs.Kinds.{first_own};
+ghost use Rattle.pc_members.specs.Members.{or_nil};
 ghost use Rattle.pc_members.specs.Views.{table_view};
 ghost use Rattle.pc_file_spec.specs.Cores as spec;
 ghost use Rattle.pc_elab.specs.Rows as rows;

@@ -1,12 +1,10 @@
 //! The parts of a program, entity by entity.
 ghost use Rattle.std.specs.Prelude.{◌≡◌, ◌+◌, ◌<◌, ◌^◌, map, length, IfOk, OnOk};
 ghost use Rattle.pc_tree.specs.View.{entity_view, field_view};
-ghost use Rattle.pc_tree.specs.BuiltIn.{first_own};
-ghost use Rattle.pc_members.specs.Words.{field_texts};
-ghost use Rattle.pc_members.specs.Members.{member_text};
+ghost use Rattle.pc_tree.specs.Kinds.{first_own};
+ghost use Rattle.pc_members.specs.Members.{field_texts, member_text};
 ghost use Rattle.pc_members.specs.Views.{member_view, members_view, table_view};
-ghost use Rattle.pc_file_spec.specs.Members.{owned};
-ghost use Rattle.pc_file_spec.specs.Signatures.{placed_of as placed_in};
+ghost use Rattle.pc_file_spec.specs.Cores.{owned, placed_of as placed_in};
 ghost use Rattle.pc_elab.specs.Outcomes as spec;
 ghost use Rattle.pc_elab.specs.Views.{parts_view};
 

@@ -5,9 +5,8 @@ ghost use Rattle.pc_body_walks.specs.Checking.{TellsFirstBodyFault};
 ghost use Rattle.pc_emit.specs.Giving.{GivesBody};
 ghost use Rattle.pc_members.specs.Views.{member_view};
 ghost use Rattle.pc_body_spec.specs.Methods.{local_names};
-ghost use Rattle.pc_file_spec.specs.Members.{owned};
-ghost use Rattle.pc_file_spec.specs.Parts.{and_member, built_in_parts as language_parts};
-ghost use Rattle.pc_file_spec.specs.Signatures as signatures;
+ghost use Rattle.pc_file_spec.specs.Cores.{owned, and_member, built_in_parts as language_parts};
+ghost use Rattle.pc_file_spec.specs.Cores as signatures;
 ghost use Rattle.pc_elab.specs.Outcomes as spec;
 ghost use Rattle.pc_elab.specs.Views.{parts_view};
 

@@ -1,8 +1,8 @@
 //! What a member declares.
 ghost use Rattle.std.specs.Prelude.{◌≡◌, map, IfOk};
 ghost use Rattle.pc_tree.specs.View.{method_view};
-ghost use Rattle.pc_core.specs.MethodKinds as core_spec;
-ghost use Rattle.pc_file_spec.specs.Signatures as spec;
+ghost use Rattle.pc_core.specs.Entities as core_spec;
+ghost use Rattle.pc_file_spec.specs.Cores as spec;
 ghost use Rattle.pc_members.specs.Views.{member_view};
 
 use crate::known::cap_or;

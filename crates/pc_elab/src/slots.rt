@@ -1,11 +1,12 @@
 //! The slots of a member.
+ghost use Rattle.pc_body_spec.specs.Fold as fold;
 ghost use Rattle.std.specs.Prelude.{◌≡◌, ◌++◌, map, IfOk, OnOk};
 ghost use Rattle.std.specs.Option.{option_copied};
 ghost use Rattle.pc_tree.specs.View.{entity_view};
-ghost use Rattle.pc_core.specs.MethodKinds as methods;
+ghost use Rattle.pc_core.specs.Entities as methods;
 ghost use Rattle.pc_members.specs.Views.{member_view};
 ghost use Rattle.pc_body_spec.specs.Slots as local_specs;
-ghost use Rattle.pc_file_spec.specs.Signatures as spec;
+ghost use Rattle.pc_file_spec.specs.Cores as spec;
 ghost use Rattle.pc_elab.specs.Slots as counts;
 
 use crate::signature::receiver_of;
@@ -92,7 +93,7 @@ fn param_slot(method: u32, param: &ParamInfo) -> Slot
 
 // The type that is written for a local.
 fn written_of(context: &Context, ty: Option<&TypeRef>) -> Option<(u32, Cap)>
-    ensures { result ≡ local_specs.written_of context.now (option_copied ty.entry) }
+    ensures { result ≡ fold.written_of context.now (option_copied ty.entry) }
 {
     match ty {
         Some(ty) => context.type_of(ty),
@@ -102,7 +103,7 @@ fn written_of(context: &Context, ty: Option<&TypeRef>) -> Option<(u32, Cap)>
 
 // The slot of a local.
 fn local_slot(context: &Context, method: u32, local: &Local) -> Slot
-    ensures { result ≡ local_specs.local_slot context.now method local.now }
+    ensures { result ≡ fold.local_slot context.now method local.now }
 {
     Slot {
         method,
@@ -133,7 +134,7 @@ fn add_locals(
     method: u32,
     locals: &[Local],
 ) -> Result<(), AllocError>
-    ensures { OnOk result (slots.new ≡ slots.old ++ map (local_specs.local_slot context.now method) locals.now) }
+    ensures { OnOk result (slots.new ≡ slots.old ++ map (fold.local_slot context.now method) locals.now) }
 {
     for local in locals {
         slots.push(local_slot(context, method, local))?;

@@ -1,7 +1,7 @@
 //! The texts of a file.
 ghost use Rattle.std.specs.Prelude.{◌≡◌, ◌<◌, [], ◌^◌, length, IfOk, OnOk};
 ghost use Rattle.pc_tree.specs.View.{file_view};
-ghost use Rattle.pc_file_spec.specs.Known.{texts_of_file};
+ghost use Rattle.pc_file_spec.specs.Cores.{texts_of_file};
 
 use pc_body_walks::add_texts;
 use pc_caps::List;

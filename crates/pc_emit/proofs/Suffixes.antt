@@ -1,7 +1,6 @@
 -- A chain of suffixes, cut before its last one, and how it starts.
 use Rattle.std.proofs.Common.{◌≡◌, ℕ, zero, suc, ◌+◌, ◌-◌, ◌<◌, ◌≤◌, Bool, true, false, Option, take, drop, length, List, [], ◌∷◌, ◌++◌, Some, None, refl, ap, ◌∙◌, sym, subst, arith, map, if◌then◌else◌}
-use Rattle.std.specs.Prelude.{slice_get, IsTrue, ◌↔◌}
-use Rattle.std.specs.Prelude.{slice_index_or, option_map}
+use Rattle.std.specs.Prelude.{slice_get, IsTrue, ◌↔◌, slice_index_or, option_map}
 use Rattle.std.specs.declared.boxed.Box.{Box}
 use Rattle.std.specs.declared.alloc.Global.{Global}
 use Rattle.pc_tree.proofs.Views.{view_chain}
@@ -17,18 +16,14 @@ use Rattle.pc_caps.specs.declared.span.Span.{Span}
 use Rattle.pc_tree.specs.declared.written_names.Name.{Name}
 use Rattle.pc_tree.specs.Tree as t
 use Rattle.pc_core.specs.declared.nodes.NodeKind.TheVariants as node
-use Rattle.pc_body_spec.specs.Roses.{Rose}
+use Rattle.pc_body_spec.specs.Bodies.{Rose, expr_of, assign_of, chain_start, chain_of, named_of, roses_of_exprs, joined_span, apply, call, call_named, new_object_rose, read_field, read_name, read_type, use_field, use_other, create_name, apply_name, Use, read, write, Start, with_value, with_method, with_type}
 use Rattle.pc_body_spec.specs.Scopes.{Context, Scope, Constructor, local, field, resolve, primitive, created, no_value, type_meaning, constructor_named, number_of_text}
-use Rattle.pc_body_spec.specs.Expressions.{expr_of, assign_of, chain_start, chain_of, named_of, roses_of_exprs, joined_span, apply, call, call_named}
-use Rattle.pc_body_spec.specs.Expressions.{new_object_rose, read_field, read_name, read_type, use_field, use_other, create_name, apply_name, Use, read, write, Start, with_value}
-use Rattle.pc_body_spec.specs.Expressions.{with_method, with_type}
 use Rattle.pc_emit.specs.declared.chains.First.TheVariants as first
 use Rattle.pc_emit.specs.declared.chains.Beginning.{Beginning}
 use Rattle.pc_emit.specs.declared.chains.Beginning.TheVariants as begins
 use Rattle.pc_emit.specs.declared.chains.Reading.TheVariants as reads
 use Rattle.pc_emit.specs.declared.chains.Atom.TheVariants as atoms
-use Rattle.pc_emit.specs.Closing.{IsCut, IsBefore, BeginsChain, begun, first_of, IsSplit, written_end, object, taken, is_args, is_chain, is_empty_args, link_of}
-use Rattle.pc_emit.specs.Closing.{ReadsAtom, reading_rose, only, rest_of}
+use Rattle.pc_emit.specs.Closing.{IsCut, IsBefore, BeginsChain, begun, first_of, IsSplit, written_end, object, taken, is_args, is_chain, is_empty_args, link_of, ReadsAtom, reading_rose, only, rest_of}
 use Rattle.pc_lists.proofs.Cuts.{take_whole}
 use Rattle.pc_lists.proofs.Gets.{get_drop}
 

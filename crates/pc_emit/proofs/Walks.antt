@@ -18,16 +18,14 @@ use Rattle.pc_tree.specs.declared.expression.Item.{Item}
 use Rattle.std.proofs.lemmas.List.{length-append, length-take, take-append-le}
 use Rattle.pc_tree.specs.declared.expression.Seq.{Seq}
 use Rattle.std.proofs.lemmas.Bool.{true≢false}
-use Rattle.pc_body_spec.specs.Roses.{Rose, Roses, rose, more, no_roses, two, three, and_last, Numbered, and_then, put, puts, push}
+use Rattle.pc_body_spec.specs.Bodies.{Rose, Roses, rose, more, no_roses, two, three, and_last, expr_of, roses_of_exprs, assign_of, chain_of, named_of, write_name, read_field, call_named, apply, Start, chain_start, with_value, write, operands_of, operation, joined_span, or_added_none, sequence, if_of}
+use Rattle.pc_body_spec.specs.Fold.{Numbered, and_then, put, puts, push}
 use Rattle.pc_body_spec.specs.Scopes.{Context, Scope, Meaning, local, field, method, nothing, resolve, scope_after, number_of_text}
-use Rattle.pc_body_spec.specs.Expressions.{expr_of, roses_of_exprs, assign_of, chain_of, named_of, write_name, read_field, call_named, apply, Start}
-use Rattle.pc_body_spec.specs.Expressions.{chain_start, with_value, write, operands_of, operation, joined_span, or_added_none, sequence, if_of}
 use Rattle.pc_emit.specs.declared.stop.EmitStop.{EmitStop}
 use Rattle.pc_emit.specs.declared.stop.EmitStop.TheVariants as stop
 use Rattle.pc_emit.specs.declared.waiting.Link.{Link}
 use Rattle.pc_emit.specs.Giving.{GivesNodes}
-use Rattle.pc_emit.specs.Closing.{TakesLast, closing, arm_after, arm_closes, none_closes, seq_closes, name_closes, names_none, is_missing, written_end}
-use Rattle.pc_emit.specs.Closing.{written_kind, begun_by, OpensInnerPart, OpensChain, OpensOne}
+use Rattle.pc_emit.specs.Closing.{TakesLast, closing, arm_after, arm_closes, none_closes, seq_closes, name_closes, names_none, is_missing, written_end, written_kind, begun_by, OpensInnerPart, OpensChain, OpensOne}
 
 pub on_ok : {A P : Type 0} (r : Result A EmitStop) → P → OnOk r P
 on_ok (Ok a) h = h

@@ -1,27 +1,16 @@
 -- Pending nodes, which still need the number of a part.
 use Rattle.std.specs.Prelude.{ℕ, ◌-◌, ◌+◌, ◌≡◌, Bool, true, false, List, [], ◌∷◌, ◌++◌, Option, Some, None, Result, Ok, Err, take, drop, slice_get, if◌then◌else◌}
 use Rattle.pc_caps.specs.declared.span.Span.{Span}
-use Rattle.pc_core.specs.declared.nodes.Node.{Node}
-use Rattle.pc_core.specs.declared.nodes.NodeKind.{NodeKind}
+use Rattle.pc_core.specs.{declared.nodes.Node.Node, declared.nodes.NodeKind.NodeKind}
+use Rattle.pc_tree.specs.{declared.written_names.Name.Name, Kinds.none_entity}
+use Rattle.pc_body_spec.specs.{Bodies.Rose, Bodies.rose, Bodies.leaf, Bodies.one, Bodies.two, Bodies.and_last, Bodies.joined_span, Bodies.gap, Bodies.value_then, Bodies.write_name, Bodies.expr_of, Bodies.roses_of_exprs, Bodies.chain_of, Bodies.Start, Bodies.with_value, Bodies.Use, Bodies.read, Bodies.write, Fold.Numbered, Fold.and_then, Fold.push, Scopes.Context, Scopes.Scope, Scopes.Meaning, Scopes.local, Scopes.field, Scopes.method, Scopes.nothing, Scopes.resolve, Scopes.number_of_text}
+use Rattle.pc_emit.specs.{declared.stop.EmitStop.EmitStop, declared.waiting.OpenArm.OpenArm, declared.waiting.Link.Link, declared.waiting.OpenChain.OpenChain, declared.chains.First.First, declared.chains.Beginning.Beginning, declared.chains.Reading.Reading, declared.chains.Atom.Atom}
 use Rattle.pc_core.specs.declared.nodes.NodeKind.TheVariants as node
-use Rattle.pc_tree.specs.declared.written_names.Name.{Name}
 use Rattle.pc_tree.specs.Tree as t
-use Rattle.pc_tree.specs.BuiltIn.{none_entity}
-use Rattle.pc_body_spec.specs.Roses.{Rose, rose, leaf, one, two, and_last, Numbered, and_then, push}
-use Rattle.pc_body_spec.specs.Scopes.{Context, Scope, Meaning, local, field, method, nothing, resolve, number_of_text}
-use Rattle.pc_body_spec.specs.Expressions.{joined_span, gap, value_then, write_name, expr_of, roses_of_exprs, chain_of, Start, with_value, Use, read, write}
-use Rattle.pc_emit.specs.declared.stop.EmitStop.{EmitStop}
 use Rattle.pc_emit.specs.declared.stop.EmitStop.TheVariants as stop
-use Rattle.pc_emit.specs.declared.waiting.OpenArm.{OpenArm}
-use Rattle.pc_emit.specs.declared.waiting.Link.{Link}
-use Rattle.pc_emit.specs.declared.waiting.OpenChain.{OpenChain}
-use Rattle.pc_emit.specs.declared.chains.First.{First}
 use Rattle.pc_emit.specs.declared.chains.First.TheVariants as first
-use Rattle.pc_emit.specs.declared.chains.Beginning.{Beginning}
 use Rattle.pc_emit.specs.declared.chains.Beginning.TheVariants as begins
-use Rattle.pc_emit.specs.declared.chains.Reading.{Reading}
 use Rattle.pc_emit.specs.declared.chains.Reading.TheVariants as reads
-use Rattle.pc_emit.specs.declared.chains.Atom.{Atom}
 use Rattle.pc_emit.specs.declared.chains.Atom.TheVariants as atoms
 
 -- The pending nodes, the outermost first, each completed by the number of the part inside it.

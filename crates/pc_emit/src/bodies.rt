@@ -2,9 +2,9 @@
 ghost use Rattle.std.specs.Prelude.{◌≡◌, ◌++◌, [], IfOk, map};
 ghost use Rattle.pc_tree.specs.View.{expr_view, field_view, maybe_expr, items_view, method_view, seq_view};
 ghost use Rattle.pc_body_spec.specs.Bodies as spec;
-ghost use Rattle.pc_body_spec.specs.Roses.{Roses, put, puts};
+ghost use Rattle.pc_body_spec.specs.Bodies.{Roses};
+ghost use Rattle.pc_body_spec.specs.Fold.{put, puts};
 ghost use Rattle.pc_body_spec.specs.Scopes.{params_scope as scope_of};
-ghost use Rattle.pc_body_spec.specs.Expressions as parts;
 ghost use Rattle.pc_emit.specs.Giving.{GivesNodes, GivesBody};
 ghost use Rattle.pc_emit.specs.Closing.{LeadsOn, behind_tops, ends_with, body_closes};
 
@@ -101,7 +101,7 @@ fn own_items(
     method: &MethodDef,
     seq: &Seq,
 ) -> Result<Tops, EmitStop>
-    ensures { GivesNodes result nodes.new (puts number (spec.none_last (spec.gives_none method.now.word method.now.result) method.now.name.span (parts.roses_of_items context.now (scope_of method.now.params) 0 (items_view seq.now.items))) nodes.old) }
+    ensures { GivesNodes result nodes.new (puts number (spec.none_last (spec.gives_none method.now.word method.now.result) method.now.name.span (spec.roses_of_items context.now (scope_of method.now.params) 0 (items_view seq.now.items))) nodes.old) }
 {
     let mut scope = params_scope(alloc, method.params.as_slice())?;
     let setting = Setting {
@@ -204,7 +204,7 @@ fn initial(
     name: &Name,
     value: &Expr,
 ) -> Result<u32, EmitStop>
-    ensures { GivesNodes result nodes.new (put number (parts.write_field context.now name.now.span name.now 0 (parts.expr_of context.now [] 0 (expr_view value.now)) (parts.added_this name.now 0)) nodes.old) }
+    ensures { GivesNodes result nodes.new (put number (spec.write_field context.now name.now.span name.now 0 (spec.expr_of context.now [] 0 (expr_view value.now)) (spec.added_this name.now 0)) nodes.old) }
 {
     let mut scope = List::new(alloc);
     let setting = Setting {

@@ -1,11 +1,11 @@
 //! The nodes of names and texts on their own.
+ghost use Rattle.pc_body_spec.specs.Fold as fold;
 ghost use Rattle.std.specs.Prelude.{◌≡◌, ◌∷◌, [], Some, option_map, if◌then◌else◌};
 ghost use Rattle.pc_core.specs.declared.nodes.NodeKind.TheVariants as kinds;
-ghost use Rattle.pc_body_spec.specs.Roses as roses;
-ghost use Rattle.pc_body_spec.specs.Roses.{put};
+ghost use Rattle.pc_body_spec.specs.Fold.{put};
 ghost use Rattle.pc_resolve.specs.Meanings.{meaning_view};
 ghost use Rattle.pc_body_spec.specs.Scopes.{Meaning as Seen, resolve, type_meaning, slot_named as slot_in, constructor_named as constructor_in, number_of_text as text_in};
-ghost use Rattle.pc_body_spec.specs.Expressions as spec;
+ghost use Rattle.pc_body_spec.specs.Bodies as spec;
 ghost use Rattle.pc_emit.specs.Giving.{GivesNodes};
 ghost use Rattle.pc_emit.specs.Closing.{name_closes};
 
@@ -86,7 +86,7 @@ pub(crate) fn write_field(
     name: &Name,
     value: u32,
 ) -> Result<u32, EmitStop>
-    ensures { GivesNodes result nodes.new (roses.and_then (roses.push setting.now.number kinds.This name.now.span setting.now.depth [] nodes.old) (λ this. roses.push setting.now.number (kinds.SetField (text_in setting.now.context.now name.now.text)) span setting.now.depth (value ∷ this ∷ []))) }
+    ensures { GivesNodes result nodes.new (fold.and_then (fold.push setting.now.number kinds.This name.now.span setting.now.depth [] nodes.old) (λ this. fold.push setting.now.number (kinds.SetField (text_in setting.now.context.now name.now.text)) span setting.now.depth (value ∷ this ∷ []))) }
 {
     let this = leaf(setting, nodes, NodeKind::This, name.span)?;
     let kind = NodeKind::SetField(setting.context.text_of(name.text.as_slice()));
@@ -100,7 +100,7 @@ pub(crate) fn read_text(
     bytes: &SharedList<u8>,
     span: Span,
 ) -> Result<u32, EmitStop>
-    ensures { GivesNodes result nodes.new (put setting.now.number (roses.leaf (kinds.Text bytes.now) span setting.now.depth) nodes.old) }
+    ensures { GivesNodes result nodes.new (put setting.now.number (spec.leaf (kinds.Text bytes.now) span setting.now.depth) nodes.old) }
 {
     leaf(setting, nodes, NodeKind::Text(bytes.share()?), span)
 }
@@ -134,7 +134,7 @@ fn create(
     actor: bool,
     constructors: &Constructors,
 ) -> Result<u32, EmitStop>
-    ensures { GivesNodes result nodes.new (put setting.now.number (spec.new_object_rose actor span setting.now.depth roses.no_roses (constructor_in constructors.now spec.create_name)) nodes.old) }
+    ensures { GivesNodes result nodes.new (put setting.now.number (spec.new_object_rose actor span setting.now.depth spec.no_roses (constructor_in constructors.now spec.create_name)) nodes.old) }
 {
     match constructors.create() {
         Some(method) => leaf(setting, nodes, object_kind(actor, method), span),

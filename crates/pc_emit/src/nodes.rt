@@ -1,7 +1,7 @@
 //! Single nodes, and their spans.
+ghost use Rattle.pc_body_spec.specs.Fold as fold;
 ghost use Rattle.std.specs.Prelude.{◌≡◌, ◌++◌, ◌∷◌, [], IfOk};
-ghost use Rattle.pc_body_spec.specs.Roses as roses;
-ghost use Rattle.pc_body_spec.specs.Expressions as spec;
+ghost use Rattle.pc_body_spec.specs.Bodies as spec;
 ghost use Rattle.pc_emit.specs.Giving.{GivesNodes};
 
 use crate::setting::Setting;
@@ -13,7 +13,7 @@ use pc_tree::Op;
 use std::alloc::{AllocError, Global};
 
 /// Appends a node of this method. Its number is its place.
-#[tactic(auto, unfolding(pc_body_spec::specs::Roses::push))]
+#[tactic(auto, unfolding(pc_body_spec::specs::Fold::push))]
 pub(crate) fn push(
     setting: &Setting,
     nodes: &mut List<Node>,
@@ -21,7 +21,7 @@ pub(crate) fn push(
     span: Span,
     children: Children,
 ) -> Result<u32, EmitStop>
-    ensures { GivesNodes result nodes.new (roses.push setting.now.number kind span setting.now.depth children nodes.old) }
+    ensures { GivesNodes result nodes.new (fold.push setting.now.number kind span setting.now.depth children nodes.old) }
 {
     let place = nodes.len();
     if place >= NODE_LIMIT as usize {
@@ -44,7 +44,7 @@ pub(crate) fn leaf(
     kind: NodeKind,
     span: Span,
 ) -> Result<u32, EmitStop>
-    ensures { GivesNodes result nodes.new (roses.push setting.now.number kind span setting.now.depth [] nodes.old) }
+    ensures { GivesNodes result nodes.new (fold.push setting.now.number kind span setting.now.depth [] nodes.old) }
 {
     push(setting, nodes, kind, span, Children::none())
 }
@@ -57,7 +57,7 @@ pub(crate) fn single(
     span: Span,
     child: u32,
 ) -> Result<u32, EmitStop>
-    ensures { GivesNodes result nodes.new (roses.push setting.now.number kind span setting.now.depth (child ∷ []) nodes.old) }
+    ensures { GivesNodes result nodes.new (fold.push setting.now.number kind span setting.now.depth (child ∷ []) nodes.old) }
 {
     push(setting, nodes, kind, span, Children::one(child))
 }
@@ -71,7 +71,7 @@ pub(crate) fn double(
     first: u32,
     second: u32,
 ) -> Result<u32, EmitStop>
-    ensures { GivesNodes result nodes.new (roses.push setting.now.number kind span setting.now.depth (first ∷ second ∷ []) nodes.old) }
+    ensures { GivesNodes result nodes.new (fold.push setting.now.number kind span setting.now.depth (first ∷ second ∷ []) nodes.old) }
 {
     push(setting, nodes, kind, span, Children::two(first, second))
 }
@@ -84,7 +84,7 @@ pub(crate) fn several(
     span: Span,
     children: Tops,
 ) -> Result<u32, EmitStop>
-    ensures { GivesNodes result nodes.new (roses.push setting.now.number kind span setting.now.depth children nodes.old) }
+    ensures { GivesNodes result nodes.new (fold.push setting.now.number kind span setting.now.depth children nodes.old) }
 {
     let children = Children::from_slice(setting.alloc, children.as_slice())?;
     push(setting, nodes, kind, span, children)
@@ -99,7 +99,7 @@ pub(crate) fn several_and(
     children: Tops,
     last: u32,
 ) -> Result<u32, EmitStop>
-    ensures { GivesNodes result nodes.new (roses.push setting.now.number kind span setting.now.depth (children ++ last ∷ []) nodes.old) }
+    ensures { GivesNodes result nodes.new (fold.push setting.now.number kind span setting.now.depth (children ++ last ∷ []) nodes.old) }
 {
     let mut children = children;
     children.push(last)?;
@@ -108,7 +108,7 @@ pub(crate) fn several_and(
 
 /// Appends the node of a missing name.
 pub(crate) fn gap(setting: &Setting, nodes: &mut List<Node>, span: Span) -> Result<u32, EmitStop>
-    ensures { GivesNodes result nodes.new (roses.put setting.now.number (spec.gap span setting.now.depth) nodes.old) }
+    ensures { GivesNodes result nodes.new (fold.put setting.now.number (spec.gap span setting.now.depth) nodes.old) }
 {
     let this = leaf(setting, nodes, NodeKind::This, span)?;
     single(setting, nodes, NodeKind::Body, span, this)

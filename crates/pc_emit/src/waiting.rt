@@ -1,6 +1,7 @@
 //! Pending nodes, which still need the number of a part.
+ghost use Rattle.pc_body_spec.specs.Fold as fold;
 ghost use Rattle.std.specs.Prelude.{◌≡◌, ◌∷◌, []};
-ghost use Rattle.pc_body_spec.specs.Roses as roses;
+ghost use Rattle.pc_body_spec.specs.Bodies as roses;
 ghost use Rattle.pc_emit.specs.Giving.{GivesNodes};
 ghost use Rattle.pc_emit.specs.Closing.{TakesLast, closing, arm_closes, link_closes, none_closes, seq_closes, this_closes, written_kind};
 
@@ -111,7 +112,7 @@ pub(crate) fn close_write(
     origin: u32,
     value: u32,
 ) -> Result<u32, EmitStop>
-    ensures { GivesNodes result nodes.new (roses.and_then (closing (link_closes setting.now.number setting.now.depth) links origin nodes.old) (λ top. roses.push setting.now.number (written_kind field) span setting.now.depth (value ∷ top ∷ []))) }
+    ensures { GivesNodes result nodes.new (fold.and_then (closing (link_closes setting.now.number setting.now.depth) links origin nodes.old) (λ top. fold.push setting.now.number (written_kind field) span setting.now.depth (value ∷ top ∷ []))) }
 {
     let top = close_links(setting, nodes, links, origin)?;
     let kind = written(field);

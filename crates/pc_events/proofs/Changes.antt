@@ -2,9 +2,8 @@
 -- actor, a text.
 use Rattle.std.specs.Prelude.{ℕ, zero, suc, Bool, true, false, List, [], ◌∷◌, ◌++◌, length, Option, Some, None, slice_get}
 use Rattle.std.specs.FinMap.{insert}
-use Rattle.pc_heap.specs.Objects.{ObjectMap, with_value}
+use Rattle.pc_heap.specs.Objects.{ObjectMap, with_value, Object}
 use Rattle.pc_heap.specs.declared.value.Address.{Address}
-use Rattle.pc_heap.specs.Object.{Object}
 use Rattle.pc_heap.specs.declared.value.Value.{Value}
 use Rattle.pc_heap.specs.declared.value.Value.TheVariants.{Text, At}
 use Rattle.pc_core.specs.CoreData.{CoreData}
@@ -15,8 +14,7 @@ use Rattle.pc_semantics.specs.declared.frames.Task.{Task}
 use Rattle.pc_semantics.specs.declared.mailbox.Message.{Message}
 use Rattle.pc_semantics.specs.Configurations.{Configuration, own_address}
 use Rattle.pc_semantics.specs.Around.{Move, Stuck, Overflows, Goes, Writes, Makes, Spawns, Enters, Sends, Leaves, first_frame}
-use Rattle.pc_semantics.specs.Tasks.{task_move}
-use Rattle.pc_semantics.specs.Step.{left}
+use Rattle.pc_semantics.specs.Step.{task_move, left}
 
 -- ---- the objects
 

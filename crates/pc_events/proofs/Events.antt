@@ -6,12 +6,12 @@ use Rattle.std.proofs.lemmas.Bool.{eq-eqb}
 use Rattle.std.proofs.lemmas.Bool.Decides.{eqb_tells, leb_tells}
 use Rattle.std.proofs.lemmas.List.{length-append, length-take-le, append-nil}
 use Rattle.pc_lists.specs.Counts.{one_if}
-use Rattle.pc_lists.specs.Places.{Ascends}
+use Rattle.pc_lists.specs.Lists.{Ascends}
 use Rattle.pc_lists.proofs.Gets.{get_front, get_behind, get_push, get_take, take_get}
 use Rattle.pc_core.specs.CoreData.{CoreData}
 use Rattle.pc_semantics.specs.declared.outcome.Outcome.{Outcome}
 use Rattle.pc_semantics.specs.declared.outcome.Outcome.TheVariants.{Moved, Skipped, Lacks, TooLong}
-use Rattle.pc_semantics.specs.Runs.{outcomes}
+use Rattle.pc_semantics.specs.Step.{outcomes}
 use Rattle.pc_events.specs.Before.{Event}
 use Rattle.pc_events.specs.Clock.{Clock}
 use Rattle.pc_events.specs.Counting.{has_actor, has_moved, is_event, index, Counts, AtOrBefore}

@@ -10,16 +10,15 @@ use Rattle.pc_heap.specs.Objects.{ObjectMap, class_at}
 use Rattle.pc_heap.specs.declared.value.Address.{Address}
 use Rattle.pc_heap.specs.declared.value.Value.{Value}
 use Rattle.pc_heap.specs.declared.value.Value.TheVariants.{At}
-use Rattle.pc_lists.specs.Options.{◌>>=◌}
-use Rattle.pc_core.specs.Lookup.{field_named}
-use Rattle.pc_core.specs.CoreData.{CoreData}
+use Rattle.pc_lists.specs.Lists.{◌>>=◌}
+use Rattle.pc_core.specs.CoreData.{field_named, CoreData}
 use Rattle.pc_semantics.specs.declared.access.Access.{Access}
 use Rattle.pc_semantics.specs.declared.actors.Actor.{Actor}
 use Rattle.pc_semantics.specs.declared.frames.Frame.{Frame}
 use Rattle.pc_semantics.specs.declared.mailbox.Message.{Message}
 use Rattle.pc_semantics.specs.Configurations.{Configuration}
 use Rattle.pc_semantics.specs.Around.{Move, Stuck, Spawns}
-use Rattle.pc_semantics.specs.Tasks.{task_move}
+use Rattle.pc_semantics.specs.Step.{task_move}
 use Rattle.pc_semantics.specs.Safety.{touched_name, access, Race}
 use Rattle.pc_semantics.specs.declared.ahead.Ahead.TheVariants as ahead
 use Rattle.pc_semantics.specs.Ahead.{by_move, ahead_of}

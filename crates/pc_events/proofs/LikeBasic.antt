@@ -20,17 +20,13 @@ use Rattle.pc_semantics.specs.declared.frames.Frame.{Frame}
 use Rattle.pc_semantics.specs.declared.frames.Task.{Task}
 use Rattle.pc_semantics.specs.declared.frames.Task.TheVariants as task
 use Rattle.pc_semantics.specs.declared.outcome.Lack.{Lack}
-use Rattle.pc_semantics.specs.Around.{Around, Move, Stuck, Overflows, Goes, Writes, Makes, Spawns, Enters, Sends, Leaves, with_stack, pushed, with_slot, doing}
-use Rattle.pc_semantics.specs.Around.{none, value_or_none, with_top, pop, popped, with_popped, pop_arguments}
+use Rattle.pc_semantics.specs.Around.{Around, Move, Stuck, Overflows, Goes, Writes, Makes, Spawns, Enters, Sends, Leaves, with_stack, pushed, with_slot, doing, none, value_or_none, with_top, pop, popped, with_popped, pop_arguments}
 use Rattle.pc_semantics.specs.Children.{evaluations}
-use Rattle.pc_semantics.specs.Evaluation.{push_slot, take_slot, first_then, evaluate, evaluate_node, item_tasks}
-use Rattle.pc_semantics.specs.Operators.{push_or_lack, of_numbers, of_truths, of_texts, with_second_number, with_truth, with_text, binary, negated}
-use Rattle.pc_semantics.specs.Operators.{same_address, is_number, is_truth, is_text, is_primitive, is_object, same_truth, same_value, compared}
+use Rattle.pc_semantics.specs.Evaluation.{push_slot, take_slot, first_then, evaluate, evaluate_node, item_tasks, truth, apply_task, right_side, test_and, test_or, test_task, branch, loop_turn}
+use Rattle.pc_semantics.specs.Operators.{push_or_lack, of_numbers, of_truths, of_texts, with_second_number, with_truth, with_text, binary, negated, same_address, is_number, is_truth, is_text, is_primitive, is_object, same_truth, same_value, compared}
 use Rattle.pc_caps.specs.Limits.{text_limit}
-use Rattle.pc_semantics.specs.Choices.{truth, apply_task, right_side, test_and, test_or, test_task, branch, loop_turn}
-use Rattle.pc_semantics.specs.Fields.{held, store, store_task}
-use Rattle.pc_semantics.specs.Calls.{leave_object, leave, return_task}
-use Rattle.pc_semantics.specs.Tasks.{at_node, task_move}
+use Rattle.pc_semantics.specs.Calls.{held, store, store_task, leave_object, leave, return_task}
+use Rattle.pc_semantics.specs.Step.{at_node, task_move}
 use Rattle.pc_events.proofs.Like.{AddressLike, Like, SlotLike, Likes, FrameLike, FoundLike, slots_get, slots_set, MoveLike}
 use Rattle.pc_events.proofs.Plain.{Blind}
 

@@ -5,15 +5,13 @@ use Rattle.std.proofs.lemmas.Option.{same_Some}
 use Rattle.std.proofs.lemmas.Bool.{and_parts, lt-ltb}
 use Rattle.std.specs.FinMap.{get}
 use Rattle.pc_lists.proofs.Gets.{get_behind}
-use Rattle.pc_heap.specs.Objects.{ObjectMap, class_in, class_at, made_by, next_address}
+use Rattle.pc_heap.specs.Objects.{ObjectMap, class_in, class_at, made_by, next_address, Object}
 use Rattle.pc_heap.specs.Fields.{field_in, field_at}
 use Rattle.pc_heap.specs.declared.value.Address.{Address}
-use Rattle.pc_heap.specs.Object.{Object}
 use Rattle.pc_heap.specs.declared.value.Value.{Value}
 use Rattle.pc_heap.specs.declared.value.Value.TheVariants.{Num, Truth, Text, Prim, At}
-use Rattle.pc_core.specs.Lookup.{field_named, method_named}
-use Rattle.pc_lists.specs.Options.{◌>>=◌}
-use Rattle.pc_core.specs.CoreData.{CoreData}
+use Rattle.pc_core.specs.CoreData.{field_named, method_named, CoreData}
+use Rattle.pc_lists.specs.Lists.{◌>>=◌}
 use Rattle.pc_core.specs.declared.declarations.Method.{Method}
 use Rattle.pc_core.specs.declared.declarations.MethodKind.{MethodKind}
 use Rattle.pc_core.specs.declared.declarations.MethodKind.TheVariants as method
@@ -27,9 +25,8 @@ use Rattle.pc_semantics.specs.declared.frames.Task.TheVariants as task
 use Rattle.pc_semantics.specs.declared.outcome.Lack.TheVariants as lack
 use Rattle.pc_semantics.specs.Configurations.{blank_object, own_address, number_of_fields}
 use Rattle.pc_semantics.specs.Around.{Around, Move, Stuck, with_stack, none, with_top, pop, value_entity, first_frame}
-use Rattle.pc_semantics.specs.Fields.{get_value, get_field, get_of, get_from, get_task, put_value, put_field, put_of, put_into, put_task}
-use Rattle.pc_semantics.specs.Calls.{counted, begin_new, make_of, make_task, spawn_of, spawn_task, enter, send, invoke_kind, push_text, string_of, is_string, text_of, invoke_found, invoke_method, invoke_on, invoke_task}
-use Rattle.pc_semantics.specs.Tasks.{at_node, task_move}
+use Rattle.pc_semantics.specs.Calls.{get_value, get_field, get_of, get_from, get_task, put_value, put_field, put_of, put_into, put_task, counted, begin_new, make_of, make_task, spawn_of, spawn_task, enter, send, invoke_kind, push_text, string_of, is_string, text_of, invoke_found, invoke_method, invoke_on, invoke_task}
+use Rattle.pc_semantics.specs.Step.{at_node, task_move}
 use Rattle.pc_semantics.specs.Safety.{name_read, name_written, touched_name}
 use Rattle.pc_events.proofs.Right.{touch, touch_by}
 use Rattle.pc_events.proofs.Like.{AddressLike, Like, Likes, SlotsLike, FrameLike, FoundLike, ObjectLike, empty_slots, likes_length, first_slots_like, frame_more, MoveLike}

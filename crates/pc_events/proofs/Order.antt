@@ -6,14 +6,12 @@ use Rattle.std.proofs.lemmas.List.{append-nil, append_assoc}
 use Rattle.std.proofs.lemmas.Bool.Decides.{eqb_tells, leb_tells}
 use Rattle.std.specs.FinMap.{get}
 use Rattle.pc_lists.proofs.Gets.{get_below, get_within, get_front}
-use Rattle.pc_heap.specs.Objects.{ObjectMap, class_in, class_at}
+use Rattle.pc_heap.specs.Objects.{ObjectMap, class_in, class_at, Object}
 use Rattle.pc_heap.specs.declared.value.Address.{Address}
-use Rattle.pc_heap.specs.Object.{Object}
 use Rattle.pc_heap.specs.declared.value.Value.{Value}
 use Rattle.pc_heap.specs.declared.value.Value.TheVariants.{At}
-use Rattle.pc_lists.specs.Options.{◌>>=◌}
-use Rattle.pc_core.specs.Lookup.{field_named}
-use Rattle.pc_core.specs.CoreData.{CoreData}
+use Rattle.pc_lists.specs.Lists.{◌>>=◌}
+use Rattle.pc_core.specs.CoreData.{field_named, CoreData}
 use Rattle.pc_core.specs.declared.nodes.Node.{Node}
 use Rattle.pc_core.specs.declared.nodes.NodeKind.{NodeKind}
 use Rattle.pc_core.specs.declared.nodes.NodeKind.TheVariants as node
@@ -27,15 +25,13 @@ use Rattle.pc_semantics.specs.declared.outcome.Outcome.{Outcome}
 use Rattle.pc_semantics.specs.declared.outcome.Outcome.TheVariants.{Moved, Skipped}
 use Rattle.pc_semantics.specs.Configurations.{Configuration, start}
 use Rattle.pc_semantics.specs.Around.{Around, with_stack, with_top, pop}
-use Rattle.pc_semantics.specs.Fields.{get_field, put_field, get_of, get_from, get_task, put_of, put_into, put_task}
-use Rattle.pc_semantics.specs.Tasks.{at_node, task_move}
-use Rattle.pc_semantics.specs.Step.{step, step_of, run_frames, run_task, made}
-use Rattle.pc_semantics.specs.Runs.{followed, run_from, after, outcomes}
+use Rattle.pc_semantics.specs.Calls.{get_field, put_field, get_of, get_from, get_task, put_of, put_into, put_task}
+use Rattle.pc_semantics.specs.Step.{at_node, task_move, step, step_of, run_frames, run_task, made, followed, run_from, after, outcomes}
 use Rattle.pc_semantics.specs.Safety.{address_of, name_read, name_written, touched_name, access_of, access, Race, LacksNothing, Safe}
 use Rattle.pc_semantics.specs.declared.ahead.Ahead.TheVariants as ahead
 use Rattle.pc_semantics.specs.Ahead.{ahead_of}
 use Rattle.pc_events.specs.Before.{at_place, Event, receiver_by, receiver_of, takes_one, taken_before, waiting_of, waiting_for, Before, own, carried, chain}
-use Rattle.pc_events.specs.Conflict.{Conflict}
+use Rattle.pc_events.specs.Clock.{Conflict}
 use Rattle.pc_events.specs.Laws.{ConflictsOrdered, BeforeIsEarlier, EarlierComesBefore}
 use Rattle.pc_events.proofs.Changes.{Heaping, Same, Sets, New, Change, applied, acted, plan}
 use Rattle.pc_events.proofs.Maps.{Fit, NotBy, Touches, class_kept}

@@ -1,18 +1,15 @@
 -- What the other tasks change: a field that they are about to write, a new object of the actor, or another's mailbox.
 use Rattle.std.specs.Prelude.{◌≡◌, ◌<◌, ◌&&◌, ℕ, ◌-◌, Bool, true, false, if◌then◌else◌, List, [], ◌∷◌, length, Option, Some, None, slice_get, nat_lt, nat_eq, refl, ⊤}
 use Rattle.std.proofs.Common.{ap, ◌∙◌}
-use Rattle.std.proofs.lemmas.Bool.{and_parts}
-use Rattle.std.proofs.lemmas.Bool.{ltb-true}
+use Rattle.std.proofs.lemmas.Bool.{and_parts, ltb-true}
 use Rattle.std.specs.FinMap.{get}
 use Rattle.pc_lists.proofs.Gets.{get_below}
-use Rattle.pc_heap.specs.Objects.{ObjectMap, class_in, class_at, next_address}
+use Rattle.pc_heap.specs.Objects.{ObjectMap, class_in, class_at, next_address, Object}
 use Rattle.pc_heap.specs.declared.value.Address.{Address}
-use Rattle.pc_heap.specs.Object.{Object}
 use Rattle.pc_heap.specs.declared.value.Value.{Value}
 use Rattle.pc_heap.specs.declared.value.Value.TheVariants.{At}
-use Rattle.pc_core.specs.Lookup.{field_named, method_named}
-use Rattle.pc_lists.specs.Options.{◌>>=◌}
-use Rattle.pc_core.specs.CoreData.{CoreData}
+use Rattle.pc_core.specs.CoreData.{field_named, method_named, CoreData}
+use Rattle.pc_lists.specs.Lists.{◌>>=◌}
 use Rattle.pc_core.specs.declared.declarations.Method.{Method}
 use Rattle.pc_core.specs.declared.declarations.MethodKind.{MethodKind}
 use Rattle.pc_core.specs.declared.declarations.MethodKind.TheVariants as method
@@ -24,11 +21,9 @@ use Rattle.pc_semantics.specs.declared.frames.Frame.{Frame}
 use Rattle.pc_semantics.specs.declared.frames.Task.{Task}
 use Rattle.pc_semantics.specs.declared.frames.Task.TheVariants as task
 use Rattle.pc_semantics.specs.Configurations.{blank_object}
-use Rattle.pc_semantics.specs.Around.{Around, Move, Stuck, Overflows, Goes, Writes, Makes, Spawns, Enters, Sends, Leaves, with_stack, with_top, pop, popped}
-use Rattle.pc_semantics.specs.Around.{value_entity}
-use Rattle.pc_semantics.specs.Fields.{get_value, get_field, get_of, get_from, get_task, put_value, put_field, put_of, put_into, put_task}
-use Rattle.pc_semantics.specs.Calls.{begin_new, make_of, make_task, spawn_of, spawn_task, enter, send, invoke_kind, push_text, is_string, text_of, invoke_found, invoke_method, invoke_on, invoke_task}
-use Rattle.pc_semantics.specs.Tasks.{at_node, task_move}
+use Rattle.pc_semantics.specs.Around.{Around, Move, Stuck, Overflows, Goes, Writes, Makes, Spawns, Enters, Sends, Leaves, with_stack, with_top, pop, popped, value_entity}
+use Rattle.pc_semantics.specs.Calls.{get_value, get_field, get_of, get_from, get_task, put_value, put_field, put_of, put_into, put_task, begin_new, make_of, make_task, spawn_of, spawn_task, enter, send, invoke_kind, push_text, is_string, text_of, invoke_found, invoke_method, invoke_on, invoke_task}
+use Rattle.pc_semantics.specs.Step.{at_node, task_move}
 use Rattle.pc_semantics.specs.Safety.{address_of, name_written, touched_name}
 use Rattle.pc_events.proofs.Plain.{Plain, top_all, arguments_all, node_all, blind_plain}
 

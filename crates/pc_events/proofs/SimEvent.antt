@@ -3,15 +3,13 @@ use Rattle.std.specs.Prelude.{◌≡◌, ◌≢◌, ◌⊎◌, ◌<◌, ℕ, zer
 use Rattle.std.proofs.Common.{inl, inr, ap, sym, subst, ◌∙◌, arith}
 use Rattle.std.proofs.lemmas.Option.{same_Some, none-some}
 use Rattle.pc_lists.proofs.Gets.{get_behind}
-use Rattle.pc_heap.specs.Objects.{ObjectMap, class_at, object_in}
+use Rattle.pc_heap.specs.Objects.{ObjectMap, class_at, object_in, Object}
 use Rattle.pc_heap.specs.Fields.{field_at}
 use Rattle.pc_heap.specs.declared.value.Address.{Address}
-use Rattle.pc_heap.specs.Object.{Object}
 use Rattle.pc_heap.specs.declared.value.Value.{Value}
 use Rattle.pc_heap.specs.declared.value.Value.TheVariants.{Num, Truth, Text, Prim, At}
-use Rattle.pc_lists.specs.Options.{◌>>=◌}
-use Rattle.pc_core.specs.Lookup.{field_named}
-use Rattle.pc_core.specs.CoreData.{CoreData}
+use Rattle.pc_lists.specs.Lists.{◌>>=◌}
+use Rattle.pc_core.specs.CoreData.{field_named, CoreData}
 use Rattle.pc_core.specs.declared.declarations.Method.{Method}
 use Rattle.pc_semantics.specs.declared.access.Access.{Access}
 use Rattle.pc_semantics.specs.declared.actors.Actor.{Actor}
@@ -23,8 +21,7 @@ use Rattle.pc_semantics.specs.declared.outcome.Outcome.{Outcome}
 use Rattle.pc_semantics.specs.declared.outcome.Outcome.TheVariants.{Lacks}
 use Rattle.pc_semantics.specs.Configurations.{Configuration, own_address}
 use Rattle.pc_semantics.specs.Around.{Move, Stuck, Overflows, Goes, Writes, Makes, Spawns, Enters, Sends, Leaves, first_frame}
-use Rattle.pc_semantics.specs.Tasks.{task_move}
-use Rattle.pc_semantics.specs.Step.{left, made, run_task, run_frames, step_of, step}
+use Rattle.pc_semantics.specs.Step.{task_move, left, made, run_task, run_frames, step_of, step}
 use Rattle.pc_semantics.specs.Safety.{touched_name, access, LacksNothing}
 use Rattle.pc_events.proofs.Changes.{Heaping, Same, Sets, New, Change, left_mail, planned, plan_print, plan_begun, plan_begin, plan_message, plan_first, plan_tasks, plan_frames, plan_actor, plan}
 use Rattle.pc_events.proofs.Right.{touch, touch_by}

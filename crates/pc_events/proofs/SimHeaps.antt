@@ -5,12 +5,11 @@ use Rattle.std.proofs.lemmas.Option.{none-some}
 use Rattle.std.proofs.lemmas.Bool.Decides.{eqb_tells}
 use Rattle.std.specs.FinMap.{get, insert}
 use Rattle.pc_lists.proofs.Gets.{get_set_same, get_set_other}
-use Rattle.pc_heap.specs.Objects.{ObjectMap, class_in, class_at, made_by, with_field, with_value, object_in}
+use Rattle.pc_heap.specs.Objects.{ObjectMap, class_in, class_at, made_by, with_field, with_value, object_in, Object}
 use Rattle.pc_heap.specs.Fields.{field_in, field_at}
 use Rattle.pc_lists.specs.Counts.{one_if}
 use Rattle.pc_heap.proofs.Counts.{made_more, made_same}
 use Rattle.pc_heap.specs.declared.value.Address.{Address}
-use Rattle.pc_heap.specs.Object.{Object}
 use Rattle.pc_heap.specs.declared.value.Value.{Value}
 use Rattle.pc_events.proofs.Changes.{Heaping, Same, Sets, New, heaped}
 use Rattle.pc_events.proofs.Maps.{address_cases, get_here, get_other, Fit, class_kept}

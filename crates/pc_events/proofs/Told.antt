@@ -4,12 +4,11 @@ use Rattle.std.proofs.Common.{inl, inr, ap, sym, subst, ◌∙◌}
 use Rattle.std.proofs.lemmas.Option.{same_Some, none-some}
 use Rattle.std.specs.FinMap.{get}
 use Rattle.pc_lists.proofs.Gets.{get_below}
-use Rattle.pc_heap.specs.Objects.{ObjectMap, next_address}
+use Rattle.pc_heap.specs.Objects.{ObjectMap, next_address, Object}
 use Rattle.pc_heap.specs.declared.value.Address.{Address}
-use Rattle.pc_heap.specs.Object.{Object}
 use Rattle.pc_heap.specs.declared.value.Value.{Value}
 use Rattle.pc_heap.specs.declared.value.Value.TheVariants.{Text}
-use Rattle.pc_lists.specs.Options.{◌>>=◌}
+use Rattle.pc_lists.specs.Lists.{◌>>=◌}
 use Rattle.pc_core.specs.CoreData.{CoreData}
 use Rattle.pc_core.specs.declared.declarations.Method.{Method}
 use Rattle.pc_semantics.specs.declared.actors.Actor.{Actor}
@@ -18,8 +17,7 @@ use Rattle.pc_semantics.specs.declared.frames.Task.{Task}
 use Rattle.pc_semantics.specs.declared.mailbox.Message.{Message}
 use Rattle.pc_semantics.specs.Configurations.{Configuration, own_address}
 use Rattle.pc_semantics.specs.Around.{Move, Stuck, Overflows, Goes, Writes, Makes, Spawns, Enters, Sends, Leaves}
-use Rattle.pc_semantics.specs.Tasks.{task_move}
-use Rattle.pc_semantics.specs.Step.{around}
+use Rattle.pc_semantics.specs.Step.{task_move, around}
 use Rattle.pc_semantics.specs.Safety.{touched_name, access_of, access}
 use Rattle.pc_semantics.specs.declared.ahead.Ahead.TheVariants as ahead
 use Rattle.pc_semantics.specs.Ahead.{by_move, of_tasks, of_frames, of_actor, ahead_of}

@@ -6,7 +6,7 @@ use Rattle.std.proofs.lemmas.Bool.Decides.{eqb_tells, leb_tells}
 use Rattle.pc_core.specs.CoreData.{CoreData}
 use Rattle.pc_semantics.specs.declared.outcome.Outcome.TheVariants.{Moved, Skipped}
 use Rattle.pc_semantics.specs.Configurations.{Configuration, start}
-use Rattle.pc_semantics.specs.Runs.{outcomes}
+use Rattle.pc_semantics.specs.Step.{outcomes}
 use Rattle.pc_semantics.specs.declared.ahead.Ahead.{Ahead}
 use Rattle.pc_semantics.specs.declared.ahead.Ahead.TheVariants as ahead
 use Rattle.pc_semantics.specs.Ahead.{ahead_of}

@@ -1,11 +1,8 @@
 -- What a step leaves unchanged in the objects: everything but the field that its actor was about to write.
 use Rattle.std.specs.Prelude.{◌≡◌, ◌⊎◌, ℕ, true, Some, None}
-use Rattle.pc_heap.specs.Objects.{class_at}
-use Rattle.pc_heap.specs.Fields.{field_at, value_at}
-use Rattle.pc_heap.specs.declared.value.Address.{Address}
+use Rattle.pc_heap.specs.{Objects.class_at, Fields.field_at, Fields.value_at, declared.value.Address.Address}
 use Rattle.pc_core.specs.CoreData.{CoreData}
-use Rattle.pc_semantics.specs.Configurations.{Configuration}
-use Rattle.pc_semantics.specs.Safety.{access}
+use Rattle.pc_semantics.specs.{Configurations.Configuration, Safety.access}
 
 -- From c to d, in a step of actor i.
 pub record OnlyAccessed (core : CoreData) (c d : Configuration) (i : ℕ) : Type 0 where

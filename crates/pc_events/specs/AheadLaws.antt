@@ -1,16 +1,9 @@
 -- What is proved of each step: it ends as was said in advance, and only accesses change fields.
 use Rattle.std.specs.Prelude.{◌≡◌, ℕ, List}
 use Rattle.pc_core.specs.CoreData.{CoreData}
-use Rattle.pc_semantics.specs.declared.outcome.Lack.{Lack}
-use Rattle.pc_semantics.specs.declared.outcome.Outcome.{Outcome}
-use Rattle.pc_semantics.specs.declared.outcome.Outcome.TheVariants.{Moved, Skipped, Lacks, TooLong}
-use Rattle.pc_semantics.specs.Configurations.{Configuration}
-use Rattle.pc_semantics.specs.Step.{step}
-use Rattle.pc_semantics.specs.Runs.{after}
-use Rattle.pc_semantics.specs.declared.ahead.Ahead.{Ahead}
-use Rattle.pc_semantics.specs.declared.ahead.Ahead.TheVariants as ahead
-use Rattle.pc_semantics.specs.Ahead.{ahead_of}
+use Rattle.pc_semantics.specs.{declared.outcome.Lack.Lack, declared.outcome.Outcome.Outcome, declared.outcome.Outcome.TheVariants.Moved, declared.outcome.Outcome.TheVariants.Skipped, declared.outcome.Outcome.TheVariants.Lacks, declared.outcome.Outcome.TheVariants.TooLong, Configurations.Configuration, Step.step, Step.after, declared.ahead.Ahead.Ahead, Ahead.ahead_of}
 use Rattle.pc_events.specs.Accesses.{OnlyAccessed}
+use Rattle.pc_semantics.specs.declared.ahead.Ahead.TheVariants as ahead
 
 -- How a step ends if this was said in advance.
 abbrev pub Agrees : Ahead → Outcome → Type 0

@@ -1,14 +1,8 @@
 -- Which event of a run comes before which.
 use Rattle.std.specs.Prelude.{◌≡◌, ℕ, ◌+◌, ◌<◌, Bool, true, false, ◌&&◌, if◌then◌else◌, nat_eq, List, [], ◌∷◌, take, length, Option, Some, None, slice_get}
 use Rattle.pc_core.specs.CoreData.{CoreData}
-use Rattle.pc_semantics.specs.declared.actors.Actor.{Actor}
-use Rattle.pc_semantics.specs.declared.outcome.Outcome.TheVariants.{Moved}
-use Rattle.pc_semantics.specs.Configurations.{Configuration, start}
-use Rattle.pc_semantics.specs.Step.{step}
-use Rattle.pc_semantics.specs.Runs.{followed, after, outcomes}
-use Rattle.pc_semantics.specs.declared.ahead.Ahead.{Ahead}
+use Rattle.pc_semantics.specs.{declared.actors.Actor.Actor, declared.outcome.Outcome.TheVariants.Moved, Configurations.Configuration, Configurations.start, Step.step, Step.followed, Step.after, Step.outcomes, declared.ahead.Ahead.Ahead, Ahead.ahead_of}
 use Rattle.pc_semantics.specs.declared.ahead.Ahead.TheVariants as ahead
-use Rattle.pc_semantics.specs.Ahead.{ahead_of}
 
 -- ---- events
 

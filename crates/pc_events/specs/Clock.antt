@@ -1,8 +1,11 @@
--- The clock of an event: for each actor, how many of its events came before.
-use Rattle.std.specs.Prelude.{◌≡◌, ◌⊎◌, ℕ, List, length}
-use Rattle.pc_lists.specs.Places.{Ascends, Each, Has}
+-- Clocks, and events that conflict.
+use Rattle.std.specs.Prelude.{◌≡◌, ◌⊎◌, ℕ, List, length, ◌≢◌, true, Some}
+use Rattle.pc_lists.specs.Lists.{Ascends, Each, Has}
 use Rattle.pc_core.specs.CoreData.{CoreData}
 use Rattle.pc_events.specs.Before.{at_place, Event, Before}
+use Rattle.pc_semantics.specs.{declared.access.Access.Access, Safety.access}
+
+-- ---- the clock of an event: for each actor, how many of its events came before
 
 -- Exactly n numbers have a property: those of a list without repetitions.
 pub record Many (P : ℕ → Type 0) (n : ℕ) : Type 0 where
@@ -24,3 +27,20 @@ Clock core list p a n = Many (UpTo core list p a) n
 pub record Clocks (core : CoreData) (list : List ℕ) (p : ℕ) (numbers : List ℕ) : Type 0 where
   pub actors : length numbers ≡ length (at_place core list p).actors
   pub each : Each (Clock core list p) numbers
+
+-- ---- events that conflict
+
+-- Two events of different actors touch one field of one object, and one of them writes.
+pub record Conflict (core : CoreData) (list : List ℕ) (p q : ℕ) : Type 0 where
+  pub i : ℕ
+  pub j : ℕ
+  pub first : Event core list p i
+  pub second : Event core list q j
+  pub differ : i ≢ j
+  pub one : Access
+  pub other : Access
+  pub accesses : access core (at_place core list p) i ≡ Some one
+  pub accesses_too : access core (at_place core list q) j ≡ Some other
+  pub address : one.address ≡ other.address
+  pub field : one.field ≡ other.field
+  pub writes : (one.write ≡ true) ⊎ (other.write ≡ true)

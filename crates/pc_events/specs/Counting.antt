@@ -2,10 +2,7 @@
 use Rattle.std.specs.Prelude.{◌≡◌, ◌⊎◌, ◌<◌, ◌≤◌, ℕ, zero, suc, ◌+◌, Bool, false, ◌&&◌, nat_eq, List, Option, Some, None, slice_get}
 use Rattle.pc_lists.specs.Counts.{one_if}
 use Rattle.pc_core.specs.CoreData.{CoreData}
-use Rattle.pc_semantics.specs.declared.outcome.Outcome.{Outcome}
-use Rattle.pc_semantics.specs.declared.outcome.Outcome.TheVariants.{Moved, Skipped}
-use Rattle.pc_semantics.specs.Runs.{outcomes}
-use Rattle.pc_semantics.specs.Text.{is_moved}
+use Rattle.pc_semantics.specs.{declared.outcome.Outcome.Outcome, declared.outcome.Outcome.TheVariants.Moved, declared.outcome.Outcome.TheVariants.Skipped, Step.outcomes, Text.is_moved}
 use Rattle.pc_events.specs.Before.{at_place, Event, receiver_of, taken_before, waiting_for, Before}
 
 -- ---- runs

@@ -2,8 +2,7 @@
 use Rattle.std.specs.Prelude.{◌⊎◌, ◌<◌, ℕ, List}
 use Rattle.pc_core.specs.CoreData.{CoreData}
 use Rattle.pc_semantics.specs.Safety.{Safe}
-use Rattle.pc_events.specs.Before.{Before}
-use Rattle.pc_events.specs.Conflict.{Conflict}
+use Rattle.pc_events.specs.{Before.Before, Clock.Conflict}
 
 -- In every run of a safe program two conflicting events are ordered.
 abbrev pub ConflictsOrdered : Type 0

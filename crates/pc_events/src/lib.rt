@@ -3,11 +3,10 @@
 //!
 //! `specs/Before.antt` defines what an event is and which events come before which: of two events of one actor, the
 //! earlier one before the later one; what puts a message into a mailbox before the take of this message; and chains of
-//! these. Messages are told apart by counting. `specs/Conflict.antt` defines which events conflict, and
-//! `specs/Clock.antt` what the clock of an event is. These definitions are for every core, safe or not. Each public
-//! call does nothing, and its contract is a law: for example, that a step ends as was said in advance of its actor
-//! (`ahead_agrees`), and that a step leaves all fields unchanged except the one that its actor was about to write
-//! (`only_accesses_touch_fields`).
+//! these. Messages are told apart by counting. `specs/Clock.antt` defines what the clock of an event is, and which events
+//! conflict. These definitions are for every core, safe or not. Each public call does nothing, and its contract is a
+//! law: for example, that a step ends as was said in advance of its actor (`ahead_agrees`), and that a step leaves all
+//! fields unchanged except the one that its actor was about to write (`only_accesses_touch_fields`).
 //!
 //! `proofs/` describes what a step changes as data, for laws about several steps: the actor's own frames and mailbox,
 //! one object, another actor's mailbox, one more actor, a printed text.

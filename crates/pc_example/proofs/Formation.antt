@@ -10,7 +10,7 @@ use Rattle.pc_core.specs.declared.declarations.Method.{Method}
 use Rattle.pc_core.specs.declared.nodes.Slot.{Slot}
 use Rattle.pc_core.specs.declared.nodes.SlotKind.TheVariants as slot
 use Rattle.pc_core.specs.declared.nodes.Node.{Node}
-use Rattle.pc_lists.specs.Places.{Each, Has, Differ}
+use Rattle.pc_lists.specs.Lists.{Each, Has, Differ}
 use Rattle.pc_core.specs.Entities.{built_in_value, Leads, one, more}
 use Rattle.pc_core.specs.EntityFits.{EntityFits}
 use Rattle.pc_core.specs.Methods.{MethodFits, BodyFits, LocalFits}

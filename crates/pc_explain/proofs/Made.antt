@@ -8,8 +8,7 @@ use Rattle.pc_check.specs.Faults.{StopsAt, InferenceLeavesUnset}
 use Rattle.pc_core.specs.CoreData.{CoreData}
 use Rattle.pc_core.specs.declared.declarations.Method.{Method}
 use Rattle.pc_core.specs.declared.nodes.Node.{Node}
-use Rattle.pc_lists.specs.Options.{◌>>=◌}
-use Rattle.pc_lists.specs.Texts.{Text}
+use Rattle.pc_lists.specs.Lists.{◌>>=◌, Text}
 use Rattle.pc_valid.specs.Words.{Masks}
 use Rattle.pc_sub.specs.DeclarationFaults.{first_fault}
 use Rattle.pc_sub.specs.declared.faults.DeclFault.{DeclFault}

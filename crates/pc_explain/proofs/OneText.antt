@@ -12,7 +12,7 @@ use Rattle.pc_core.specs.CoreData.{CoreData}
 use Rattle.pc_core.specs.Formed.{Formed}
 use Rattle.pc_core.specs.declared.declarations.Method.{Method}
 use Rattle.pc_core.specs.declared.nodes.Node.{Node}
-use Rattle.pc_lists.specs.Texts.{Text}
+use Rattle.pc_lists.specs.Lists.{Text}
 use Rattle.pc_valid.specs.Words.{Masks}
 use Rattle.pc_valid.specs.Valid.{KeepsWritten}
 use Rattle.pc_valid.specs.NoRule.{MeetsReached}

@@ -8,7 +8,7 @@ use Rattle.pc_check.specs.Inference.{inferred_slot, with_inferred, with_inferred
 use Rattle.pc_conditions.specs.Failing.{reasons}
 use Rattle.pc_core.specs.CoreData.{CoreData}
 use Rattle.pc_core.specs.declared.nodes.Node.{Node}
-use Rattle.pc_lists.specs.Options.{◌>>=◌}
+use Rattle.pc_lists.specs.Lists.{◌>>=◌}
 use Rattle.pc_rules.specs.Parts.{notes_of}
 use Rattle.pc_valid.specs.Words.{Masks, Slots}
 use Rattle.pc_explain.specs.Explanation.{all_of, reasons_by, reasons_of}

@@ -1,27 +1,17 @@
 -- The lines about a declaration that fails.
 use Rattle.std.specs.Prelude.{ℕ, Bool, ◌&&◌, nat_eq, List, [], ◌∷◌, ◌++◌, Option, Some, None, slice_get, codes}
-use Rattle.std.specs.List.{find}
-use Rattle.std.specs.Option.{is_some}
-use Rattle.pc_core.specs.CoreData.{CoreData}
-use Rattle.pc_core.specs.Lookup.{method_named}
-use Rattle.pc_core.specs.declared.declarations.EntityDef.{EntityDef}
-use Rattle.pc_core.specs.declared.declarations.Method.{Method}
-use Rattle.pc_core.specs.declared.declarations.MethodKind.TheVariants as kind
-use Rattle.pc_core.specs.declared.declarations.ParamInfo.{ParamInfo}
-use Rattle.pc_core.specs.declared.declarations.MethodKind.{MethodKind}
+use Rattle.std.specs.{List.find, Option.is_some}
+use Rattle.pc_core.specs.{CoreData.CoreData, CoreData.method_named, declared.declarations.EntityDef.EntityDef, declared.declarations.Method.Method, declared.declarations.ParamInfo.ParamInfo, declared.declarations.MethodKind.MethodKind}
 use Rattle.pc_caps.specs.declared.capability.Form.{Form}
-use Rattle.pc_lists.specs.Texts.{Text, line_end}
+use Rattle.pc_lists.specs.Lists.{Text, line_end}
 use Rattle.pc_sub.specs.declared.faults.DeclFault.{DeclFault}
-use Rattle.pc_sub.specs.declared.faults.DeclFault.TheVariants as decl
 use Rattle.pc_explain_names.specs.Bearers.{kind_word}
-use Rattle.pc_window.specs.Places.{piece_of}
-use Rattle.pc_window.specs.Quoting.{piece, quoted}
-use Rattle.pc_words.specs.Caps.{cap_word, new_word}
+use Rattle.pc_window.specs.{Places.piece_of, Quoting.piece, Quoting.quoted}
+use Rattle.pc_words.specs.{Caps.cap_word, Caps.new_word, Lacks.methods_in, Misfits.first_misfit, Misfits.misfit, Scene.SceneData}
+use Rattle.pc_core.specs.declared.declarations.MethodKind.TheVariants as kind
+use Rattle.pc_sub.specs.declared.faults.DeclFault.TheVariants as decl
 use Rattle.pc_words.specs.Forms as forms
 use Rattle.pc_words.specs.Methods as methods
-use Rattle.pc_words.specs.Lacks.{methods_in}
-use Rattle.pc_words.specs.Misfits.{first_misfit, misfit}
-use Rattle.pc_words.specs.Scene.{SceneData}
 
 -- ---- a parameter that is not sendable
 

@@ -1,39 +1,23 @@
 -- The explanation of a core that has no derivation.
 use Rattle.std.specs.Prelude.{◌≡◌, ℕ, Bool, true, false, List, [], ◌∷◌, ◌++◌, length, map, Option, Some, None, slice_get, codes}
-use Rattle.pc_ann.specs.declared.annotation.Ann.{Ann}
-use Rattle.pc_ann.specs.declared.annotation.Note.{Note}
-use Rattle.pc_ann.specs.declared.annotation.Rule.{Rule}
-use Rattle.pc_ann.specs.declared.annotation.Rule.TheVariants as rule
+use Rattle.pc_ann.specs.{declared.annotation.Ann.Ann, declared.annotation.Note.Note, declared.annotation.Rule.Rule}
 use Rattle.pc_caps.specs.declared.span.Span.{Span}
-use Rattle.pc_check.specs.Faults.{StopsAt, InferenceLeavesUnset}
-use Rattle.pc_check.specs.Inference.{with_inferred}
-use Rattle.pc_conditions.specs.Failing.{reasons, reasons_at}
-use Rattle.pc_conditions.specs.declared.reason.Reason.{Reason}
-use Rattle.pc_core.specs.CoreData.{CoreData}
-use Rattle.pc_core.specs.declared.declarations.EntityDef.{EntityDef}
-use Rattle.pc_core.specs.declared.declarations.Method.{Method}
-use Rattle.pc_core.specs.declared.declarations.ParamInfo.{ParamInfo}
-use Rattle.pc_core.specs.declared.nodes.Node.{Node}
+use Rattle.pc_check.specs.{Faults.StopsAt, Faults.InferenceLeavesUnset, Inference.with_inferred}
+use Rattle.pc_conditions.specs.{Failing.reasons, Failing.reasons_at, declared.reason.Reason.Reason}
+use Rattle.pc_core.specs.{CoreData.CoreData, declared.declarations.EntityDef.EntityDef, declared.declarations.Method.Method, declared.declarations.ParamInfo.ParamInfo, declared.nodes.Node.Node}
 use Rattle.pc_hints.specs.Hints.{hint}
-use Rattle.pc_lists.specs.Options.{◌>>=◌}
-use Rattle.pc_lists.specs.Texts.{Text}
-use Rattle.pc_refusals.specs.CoreFaults.{decl_text}
+use Rattle.pc_lists.specs.Lists.{◌>>=◌, Text}
+use Rattle.pc_refusals.specs.FaultLines.{decl_text}
 use Rattle.pc_valid.specs.Words.{Masks, Slots}
-use Rattle.pc_sentences.specs.Sentences.{sentence}
-use Rattle.pc_sentences.specs.Stop.{StopData}
-use Rattle.pc_sub.specs.DeclarationFaults.{first_fault}
-use Rattle.pc_sub.specs.declared.faults.DeclFault.{DeclFault}
-use Rattle.pc_sub.specs.declared.faults.DeclFault.TheVariants as decl
+use Rattle.pc_sentences.specs.{Sentences.sentence, Stop.StopData}
+use Rattle.pc_sub.specs.{DeclarationFaults.first_fault, declared.faults.DeclFault.DeclFault}
 use Rattle.pc_token.specs.declared.kinds.Token.{Token}
 use Rattle.pc_window.specs.Head.{head}
-use Rattle.pc_parts.specs.NodeWords.{node_line}
-use Rattle.pc_parts.specs.Parts.{part_lines}
+use Rattle.pc_parts.specs.{NodeWords.node_line, Parts.part_lines}
 use Rattle.pc_words.specs.Scene.{SceneData}
-use Rattle.pc_explain.specs.Declarations.{declaration_lines}
-use Rattle.pc_explain.specs.Known.{known_slots}
-use Rattle.pc_explain.specs.RuleLines.{rule_lines}
-use Rattle.pc_explain.specs.Setting.{unset_lines}
-use Rattle.pc_explain.specs.declared.rule_lines.Reported.{Reported}
+use Rattle.pc_explain.specs.{Declarations.declaration_lines, Known.known_slots, RuleLines.rule_lines, Setting.unset_lines, declared.rule_lines.Reported.Reported}
+use Rattle.pc_ann.specs.declared.annotation.Rule.TheVariants as rule
+use Rattle.pc_sub.specs.declared.faults.DeclFault.TheVariants as decl
 
 -- What an explanation looks at: the source, its core, and the notes of the first nodes, with the types that follow from them.
 unfoldable pub scene_of : Text → List Token → CoreData → List Note → SceneData

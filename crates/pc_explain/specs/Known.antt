@@ -1,10 +1,8 @@
 -- The types of slots, as far as the notes of the first nodes determine them.
 use Rattle.std.specs.Prelude.{ℕ, List, [], ◌∷◌, take}
-use Rattle.pc_ann.specs.declared.annotation.Ann.{Ann}
-use Rattle.pc_ann.specs.declared.annotation.Note.{Note}
+use Rattle.pc_ann.specs.{declared.annotation.Ann.Ann, declared.annotation.Note.Note}
 use Rattle.pc_check.specs.Inference.{first_types, with_inferred}
-use Rattle.pc_core.specs.CoreData.{CoreData}
-use Rattle.pc_core.specs.declared.nodes.Node.{Node}
+use Rattle.pc_core.specs.{CoreData.CoreData, declared.nodes.Node.Node}
 use Rattle.pc_valid.specs.Words.{Slots}
 
 abbrev pub ann_of : Slots → List Note → Ann

@@ -1,7 +1,7 @@
 //! The whole explanation.
 ghost use Rattle.std.specs.Prelude.{◌≡◌, ◌++◌, [], length, map, IfOk, OnOk, slice_get};
 ghost use Rattle.pc_check.specs.Faults.{InferenceLeavesUnset, RefusesCore, StopsAt};
-ghost use Rattle.pc_refusals.specs.CoreFaults.{decl_text};
+ghost use Rattle.pc_refusals.specs.FaultLines.{decl_text};
 ghost use Rattle.pc_rules.specs.Parts.{notes_of as notes_are};
 ghost use Rattle.pc_explain.specs.Explanation as spec;
 ghost use Rattle.pc_explain.specs.Explanation.{IsExplanation};

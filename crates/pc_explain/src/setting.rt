@@ -1,7 +1,7 @@
 //! The lines about a constructor that leaves a field unset.
 ghost use Rattle.std.specs.Prelude.{◌≡◌, ◌++◌, drop, true, IfOk, OnOk};
 ghost use Rattle.std.specs.Option.{option_copied};
-ghost use Rattle.pc_core.specs.Lookup.{own_nodes as own_nodes_are};
+ghost use Rattle.pc_core.specs.Further.{own_nodes as own_nodes_are};
 ghost use Rattle.pc_masks.specs.Masks.{has};
 ghost use Rattle.pc_explain_names.specs.Lists.{rest};
 ghost use Rattle.pc_explain.specs.Setting as spec;

@@ -1,18 +1,12 @@
 -- The members of a file's entities, and their names in words.
 use Rattle.std.specs.Prelude.{ℕ, Bool, true, false, List, [], ◌∷◌, ◌++◌, length, map, take}
-use Rattle.std.specs.List.{list_any}
-use Rattle.std.specs.Str.{bytes_eq}
-use Rattle.pc_lists.specs.Texts.{Text}
-use Rattle.pc_tree.specs.Tree as t
-use Rattle.pc_members.specs.Edges.{edges_of}
-use Rattle.pc_members.specs.Members.{Member, member_text, or_no_members}
-use Rattle.pc_members.specs.MemberLists.{members}
-use Rattle.pc_members.specs.Reach.{above_all}
-use Rattle.pc_names.specs.Names.{name_faults}
-use Rattle.pc_names.specs.declared.fault.NameFault.{NameFault}
+use Rattle.std.specs.{List.list_any, Str.bytes_eq}
+use Rattle.pc_lists.specs.Lists.{Text}
+use Rattle.pc_members.specs.{Edges.edges_of, Edges.above_all, Members.Member, Members.member_text, MemberLists.or_no_members, MemberLists.members}
+use Rattle.pc_names.specs.{Faults.name_faults, declared.fault.NameFault.NameFault}
 use Rattle.pc_window.specs.Quoting.{quoted}
-use Rattle.pc_explain_names.specs.Homes.{last_of_first, place_at}
-use Rattle.pc_explain_names.specs.Lists.{name_separator, most, none_at_all, rest}
+use Rattle.pc_explain_names.specs.{Homes.last_of_first, Homes.place_at, Lists.name_separator, Lists.most, Lists.none_at_all, Lists.rest}
+use Rattle.pc_tree.specs.Tree as t
 
 abbrev pub all_faults : t.File → List NameFault
 all_faults file = name_faults file (above_all (edges_of file))

@@ -5,7 +5,7 @@ ghost use Rattle.pc_explain_names.specs.Homes.{last_of_first};
 ghost use Rattle.pc_explain_names.specs.Rows as spec;
 ghost use Rattle.pc_members.specs.MemberLists.{members};
 ghost use Rattle.pc_members.specs.Views.{member_view, members_view, table_view};
-ghost use Rattle.pc_names.specs.Names.{IsNotMemory, Collected};
+ghost use Rattle.pc_names.specs.Faults.{IsNotMemory, Collected};
 ghost use Rattle.pc_tree.specs.View.{file_view};
 
 use crate::lists::{MOST, between, push_rest};

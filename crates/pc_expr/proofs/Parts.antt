@@ -9,12 +9,8 @@ use Rattle.pc_token.specs.declared.kinds.Token.{Token}
 use Rattle.pc_token.specs.declared.words.Word.TheVariants as w
 use Rattle.pc_token.specs.declared.signs.Sign.TheVariants as s
 use Rattle.pc_token.specs.Asking.{is_sign, is_word}
-use Rattle.pc_grammar.specs.Spells.{span_from_to}
-use Rattle.pc_grammar.specs.Asking.{op_of}
-use Rattle.pc_grammar.specs.Reading.{ReadingOutcome, Parser, Inner, and_then, pure, ◌>>=◌, ◌>>◌, peek, deeper, take_if, all, next_item, after, at}
-use Rattle.pc_grammar.specs.Reading.{is_op, begins_suffix, item, expr_in, seq_of, seq_in, seq_with, arm, other, if_, term, infix_of, infix_by, infix_in}
-use Rattle.pc_grammar.specs.Reading.{infix_with, atom, suffix, postfix, chain_of, arg_list, assigns, becomes, expr_by, expr_with, too_deep, inner, maybe_cap}
-use Rattle.pc_grammar.specs.Reading.{while_, recover_}
+use Rattle.pc_grammar.specs.Spells.{span_from_to, op_of}
+use Rattle.pc_grammar.specs.Reading.{ReadingOutcome, Parser, Inner, and_then, pure, ◌>>=◌, ◌>>◌, peek, deeper, take_if, all, next_item, after, at, is_op, begins_suffix, item, expr_in, seq_of, seq_in, seq_with, arm, other, if_, term, infix_of, infix_by, infix_in, infix_with, atom, suffix, postfix, chain_of, arg_list, assigns, becomes, expr_by, expr_with, too_deep, inner, maybe_cap, while_, recover_}
 use Rattle.pc_grammar.proofs.Levels.{no_deeper, one_deeper, inner_seq}
 use Rattle.pc_caps.specs.declared.span.Span.{Span}
 use Rattle.pc_token.specs.declared.words.Word.{Word}

@@ -1,10 +1,10 @@
 -- What a rule of the parser returns, in terms of reading with one token of lookahead.
 use Rattle.std.specs.Prelude.{◌≡◌, ℕ, ◌<◌, List, [], ◌∷◌, drop, length, Result, Ok, Err}
 use Rattle.pc_token.specs.declared.kinds.Token.{Token}
-use Rattle.pc_token.specs.declared.kinds.TokenKind.TheVariants as k
 use Rattle.pc_expr.specs.declared.stop.ParseStop.{ParseStop}
-use Rattle.pc_expr.specs.declared.stop.ParseStop.TheVariants as stop
 use Rattle.pc_grammar.specs.Reading.{ReadingOutcome, unexpected, too_deep}
+use Rattle.pc_token.specs.declared.kinds.TokenKind.TheVariants as k
+use Rattle.pc_expr.specs.declared.stop.ParseStop.TheVariants as stop
 
 -- the last token is `End`
 abbrev pub EndsWithEnd : List Token → Type 0

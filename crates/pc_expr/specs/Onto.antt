@@ -1,17 +1,13 @@
 -- The repetitions of the grammar, and the rules around them.
 use Rattle.std.specs.Prelude.{ℕ, List, [], ◌∷◌, ◌++◌, Option, Some, None, if◌then◌else◌}
 use Rattle.pc_caps.specs.declared.span.Span.{Span}
+use Rattle.pc_token.specs.{declared.kinds.Token.Token, declared.kinds.TokenKind.TokenKind, Asking.is_sign, Asking.is_word}
+use Rattle.pc_tree.specs.declared.kinds.Op.{Op}
+use Rattle.pc_grammar.specs.{Spells.span_from_to, Spells.op_of, Reading.Parser, Reading.Inner, Reading.◌>>=◌, Reading.pure, Reading.name, Reading.type_name, Reading.refuse, Reading.leaf, Reading.peek, Reading.deeper, Reading.take_if, Reading.all, Reading.next_item, Reading.after, Reading.at, Reading.is_op, Reading.begins_suffix, Reading.item, Reading.expr_in, Reading.seq_of, Reading.arm, Reading.other, Reading.term, Reading.infix_of, Reading.atom, Reading.suffix, Reading.chain_of}
 use Rattle.pc_tree.specs.Tree as t
-use Rattle.pc_token.specs.declared.kinds.Token.{Token}
-use Rattle.pc_token.specs.declared.kinds.TokenKind.{TokenKind}
 use Rattle.pc_token.specs.declared.kinds.TokenKind.TheVariants as k
 use Rattle.pc_token.specs.declared.words.Word.TheVariants as w
 use Rattle.pc_token.specs.declared.signs.Sign.TheVariants as s
-use Rattle.pc_token.specs.Asking.{is_sign, is_word}
-use Rattle.pc_tree.specs.declared.kinds.Op.{Op}
-use Rattle.pc_grammar.specs.Spells.{span_from_to}
-use Rattle.pc_grammar.specs.Asking.{op_of}
-use Rattle.pc_grammar.specs.Reading.{Parser, Inner, ◌>>=◌, pure, name, type_name, refuse, leaf, peek, deeper, take_if, all, next_item, after, at, is_op, begins_suffix, item, expr_in, seq_of, arm, other, term, infix_of, atom, suffix, chain_of}
 
 -- what is read as long as `next` says where one more begins, appended to what was read before
 unfoldable pub onto : {A : Type 0} → (List Token → Option (List Token)) → Parser A → List A → Parser (List A)

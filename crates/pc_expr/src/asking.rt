@@ -1,8 +1,7 @@
 //! What may come before an `=`.
 ghost use Rattle.std.specs.Prelude.{◌≡◌, false};
 ghost use Rattle.pc_tree.specs.View.{expr_view, suffix_view, suffixes_view};
-ghost use Rattle.pc_grammar.specs.Asking as grammar;
-ghost use Rattle.pc_grammar.specs.Spells as spells;
+ghost use Rattle.pc_grammar.specs.Spells as grammar;
 ghost use Rattle.pc_grammar.specs.Reading as reading;
 
 use pc_token::{Sign, Token, Word, is_sign};
@@ -16,7 +15,7 @@ pub fn local_word(fixed: bool) -> Word
 }
 
 fn is_dot(suffix: &Suffix) -> bool
-    ensures { result ≡ spells.is_dot (suffix_view suffix.now) }
+    ensures { result ≡ grammar.is_dot (suffix_view suffix.now) }
 {
     match suffix {
         Suffix::Dot(_) => true,
@@ -26,7 +25,7 @@ fn is_dot(suffix: &Suffix) -> bool
 
 /// Whether the last suffix is a name.
 fn ends_in_dot(suffixes: &[Suffix]) -> bool
-    ensures { result ≡ spells.ends_in_dot false (suffixes_view suffixes.now) }
+    ensures { result ≡ grammar.ends_in_dot false (suffixes_view suffixes.now) }
 {
     let mut dot = false;
     for suffix in suffixes {
@@ -37,7 +36,7 @@ fn ends_in_dot(suffixes: &[Suffix]) -> bool
 
 /// Whether it may come before an `=`.
 fn is_place(expression: &Expr) -> bool
-    ensures { result ≡ spells.is_place (expr_view expression.now) }
+    ensures { result ≡ grammar.is_place (expr_view expression.now) }
 {
     match expression {
         Expr::Name(_) => true,

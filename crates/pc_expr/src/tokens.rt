@@ -4,7 +4,7 @@ ghost use Rattle.pc_token.specs.declared.kinds.TokenKind.TheVariants.{End};
 ghost use Rattle.pc_token.specs.declared.signs.Sign.TheVariants.{Comma};
 ghost use Rattle.pc_token.specs.declared.words.Word.TheVariants.{ElseifWord};
 ghost use Rattle.pc_token.specs.Asking as asking;
-ghost use Rattle.pc_grammar.specs.Asking as grammar;
+ghost use Rattle.pc_grammar.specs.Spells as grammar;
 ghost use Rattle.pc_grammar.specs.Reading as reading;
 ghost use Rattle.pc_expr.specs.Gives.{StandsAtToken, Moves, GivesReading};
 
@@ -83,7 +83,7 @@ pub fn after_comma(tokens: &[Token], at: usize) -> Option<usize>
     }
 }
 
-#[tactic(auto, unfolding(pc_grammar::specs::Asking::same_op))]
+#[tactic(auto, unfolding(pc_grammar::specs::Spells::same_op))]
 fn same_op(one: Op, other: Op) -> bool
     ensures { result ≡ grammar.same_op one other }
 {

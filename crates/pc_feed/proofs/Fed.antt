@@ -6,7 +6,7 @@ use Rattle.pc_ann.specs.declared.annotation.Ann.{Ann}
 use Rattle.pc_feed.specs.Waiting.{start}
 use Rattle.pc_deriv.specs.declared.version.Version.{Version}
 use Rattle.pc_deriv.specs.declared.line.LineFault.{LineFault}
-use Rattle.pc_deriv.specs.Faults.{IsText, IsFault}
+use Rattle.pc_deriv.specs.Text.{IsText, IsFault}
 use Rattle.pc_deriv.specs.Laws.{as_read, IsRead}
 use Rattle.pc_deriv.specs.Lines.{Taken, nothing_taken, fed, ended_so, lines_of}
 use Rattle.pc_deriv.proofs.Whole.{read_whole}

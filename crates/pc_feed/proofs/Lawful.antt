@@ -16,7 +16,7 @@ use Rattle.pc_deriv.specs.declared.line.Line.TheVariants as line
 use Rattle.pc_deriv.specs.declared.line.LineFault.{LineFault}
 use Rattle.pc_deriv.specs.declared.line.LineFault.TheVariants as line_fault
 use Rattle.pc_deriv.specs.Lines.{lines_of}
-use Rattle.pc_deriv.specs.Faults.{IsText}
+use Rattle.pc_deriv.specs.Text.{IsText}
 use Rattle.pc_deriv.specs.Laws.{as_read}
 use Rattle.pc_deriv.proofs.Outcome.{one_annotation, one_fault, no_fault}
 use Rattle.pc_deriv.proofs.Whole.{texts_are_taken}

@@ -7,8 +7,7 @@ use Rattle.std.proofs.lemmas.List.{append_cancel_right}
 use Rattle.pc_lists.proofs.Gets.{get_below}
 use Rattle.pc_core.specs.declared.nodes.Node.{Node}
 use Rattle.pc_core.specs.declared.nodes.NodeKind.TheVariants as node
-use Rattle.pc_core.specs.CoreData.{CoreData}
-use Rattle.pc_core.specs.Lookup.{node_end}
+use Rattle.pc_core.specs.CoreData.{CoreData, node_end}
 use Rattle.pc_core.specs.Methods.{PostOrder}
 use Rattle.pc_core.specs.Formed.{Formed}
 use Rattle.pc_core.proofs.Homes.{Home, home}

@@ -3,15 +3,11 @@ use Rattle.std.specs.Prelude.{◌≡◌, ℕ, List, ◌++◌, Option, Some, None
 use Rattle.pc_core.specs.CoreData.{CoreData}
 use Rattle.pc_ann.specs.declared.annotation.Ann.{Ann}
 use Rattle.pc_valid.specs.Valid.{Valid}
-use Rattle.pc_deriv.specs.Faults.{IsText, IsFault}
-use Rattle.pc_deriv.specs.Laws.{as_read}
+use Rattle.pc_deriv.specs.{Text.IsText, Text.IsFault, Laws.as_read}
 use Rattle.pc_judge.specs.Faults.{FirstAnnotationFault}
 use Rattle.pc_referee.specs.Asked.{Pairs}
-use Rattle.pc_feed.specs.declared.fault.StreamFault.{StreamFault}
+use Rattle.pc_feed.specs.{declared.fault.StreamFault.StreamFault, Lines.lines_in, Lines.fault_in, Asked.Grew, Asked.GrewPart, Streams.StreamData, Streams.IsFed, Streams.IsSpent}
 use Rattle.pc_feed.specs.declared.fault.StreamFault.TheVariants as fault
-use Rattle.pc_feed.specs.Lines.{lines_in, fault_in}
-use Rattle.pc_feed.specs.Asked.{Grew, GrewPart}
-use Rattle.pc_feed.specs.Streams.{StreamData, IsFed, IsSpent}
 
 abbrev pub FeedAnswer : Type 0
 FeedAnswer = Result (Unit {0}) StreamFault

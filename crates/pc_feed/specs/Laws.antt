@@ -1,16 +1,11 @@
 -- Laws of all bytes that are fed.
 use Rattle.std.specs.Prelude.{◌≡◌, ℕ, List}
-use Rattle.pc_core.specs.CoreData.{CoreData}
-use Rattle.pc_core.specs.Formed.{Formed}
+use Rattle.pc_core.specs.{CoreData.CoreData, Formed.Formed}
 use Rattle.pc_ann.specs.declared.annotation.Ann.{Ann}
 use Rattle.pc_valid.specs.Valid.{Valid}
-use Rattle.pc_deriv.specs.declared.line.Line.{Line}
-use Rattle.pc_deriv.specs.Faults.{IsText}
+use Rattle.pc_deriv.specs.{declared.line.Line.Line, Text.IsText}
 use Rattle.pc_referee.specs.Asked.{Pairs}
-use Rattle.pc_feed.specs.Lines.{lines_in}
-use Rattle.pc_feed.specs.Asked.{IsAsked}
-use Rattle.pc_feed.specs.Numbered.{numbered_notes}
-use Rattle.pc_feed.specs.Feeding.{FeedAnswer, EndsSo}
+use Rattle.pc_feed.specs.{Lines.lines_in, Asked.IsAsked, Numbered.numbered_notes, Feeding.FeedAnswer, Feeding.EndsSo}
 
 -- At most one list of nodes is asked about.
 abbrev pub OneIsAsked : Type 0

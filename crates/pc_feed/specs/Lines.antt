@@ -1,12 +1,9 @@
 -- The lines of a derivation's text that have ended, and what they say so far.
 use Rattle.std.specs.Prelude.{ℕ, List, [], ◌∷◌, Option, Some, None}
-use Rattle.pc_ann.specs.declared.annotation.Note.{Note}
-use Rattle.pc_ann.specs.declared.annotation.Ann.{Ann}
+use Rattle.pc_ann.specs.{declared.annotation.Note.Note, declared.annotation.Ann.Ann}
 use Rattle.pc_valid.specs.Words.{Slots}
-use Rattle.pc_deriv.specs.declared.line.Line.{Line}
+use Rattle.pc_deriv.specs.{declared.line.Line.Line, declared.line.LineFault.LineFault, Lines.nothing_taken, Lines.fed}
 use Rattle.pc_deriv.specs.declared.line.Line.TheVariants as line
-use Rattle.pc_deriv.specs.declared.line.LineFault.{LineFault}
-use Rattle.pc_deriv.specs.Lines.{nothing_taken, fed}
 
 -- the lines that have ended in these bytes
 abbrev pub lines_in : List ℕ → List Line

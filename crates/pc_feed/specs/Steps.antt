@@ -1,27 +1,16 @@
 -- How one line is processed, and how a piece is.
 use Rattle.std.specs.Prelude.{◌≡◌, ℕ, ◌+◌, ◌-◌, ◌<◌, ◌≤◌, true, false, List, [], ◌∷◌, ◌++◌, length, take, drop, slice_get, slice_range, Option, Some, None, Result, Ok, Err}
 use Rattle.pc_caps.specs.declared.capability.Cap.{Cap}
-use Rattle.pc_core.specs.declared.nodes.Slot.{Slot}
-use Rattle.pc_core.specs.declared.nodes.Node.{Node}
-use Rattle.pc_core.specs.declared.nodes.NodeKind.{NodeKind}
-use Rattle.pc_core.specs.declared.nodes.NodeKind.TheVariants as node
-use Rattle.pc_core.specs.CoreData.{CoreData}
-use Rattle.pc_ann.specs.declared.annotation.Note.{Note}
-use Rattle.pc_ann.specs.declared.annotation.Ann.{Ann}
+use Rattle.pc_core.specs.{declared.nodes.Slot.Slot, declared.nodes.Node.Node, declared.nodes.NodeKind.NodeKind, CoreData.CoreData}
+use Rattle.pc_ann.specs.{declared.annotation.Note.Note, declared.annotation.Ann.Ann}
 use Rattle.pc_valid.specs.Valid.{Valid}
 use Rattle.pc_judge.specs.Faults.{FirstAnnotationFault}
-use Rattle.pc_deriv.specs.declared.line.Line.{Line}
-use Rattle.pc_deriv.specs.declared.line.Line.TheVariants as line
-use Rattle.pc_deriv.specs.Lines.{nothing_taken, counts_with}
+use Rattle.pc_deriv.specs.{declared.line.Line.Line, Lines.nothing_taken, Lines.counts_with}
 use Rattle.pc_referee.specs.Asked.{Pairs}
-use Rattle.pc_feed.specs.declared.fault.StreamFault.{StreamFault}
+use Rattle.pc_feed.specs.{declared.fault.StreamFault.StreamFault, declared.judging.Judging.Judging, declared.reading.Reading.Reading, Lines.lines_in, Lines.fault_in, Lines.notes_in, Numbered.numbered_notes, Feeding.FeedAnswer, Streams.FoundRightUpTo, Streams.JudgedSoFar, Streams.ReadSo}
+use Rattle.pc_core.specs.declared.nodes.NodeKind.TheVariants as node
+use Rattle.pc_deriv.specs.declared.line.Line.TheVariants as line
 use Rattle.pc_feed.specs.declared.fault.StreamFault.TheVariants as fault
-use Rattle.pc_feed.specs.declared.judging.Judging.{Judging}
-use Rattle.pc_feed.specs.declared.reading.Reading.{Reading}
-use Rattle.pc_feed.specs.Lines.{lines_in, fault_in, notes_in}
-use Rattle.pc_feed.specs.Numbered.{numbered_notes}
-use Rattle.pc_feed.specs.Feeding.{FeedAnswer}
-use Rattle.pc_feed.specs.Streams.{FoundRightUpTo, JudgedSoFar, ReadSo}
 
 -- ---- the order of lines
 

@@ -1,23 +1,14 @@
 -- The state of a stream, and when it is the right one after some bytes.
 use Rattle.std.specs.Prelude.{◌≡◌, ◌⊎◌, ℕ, ◌<◌, ◌≤◌, true, false, List, [], ◌∷◌, ◌++◌, length, map, Option, Some, None, slice_get}
-use Rattle.pc_core.specs.declared.nodes.Slot.{Slot}
-use Rattle.pc_core.specs.CoreData.{CoreData}
-use Rattle.pc_ann.specs.declared.annotation.Note.{Note}
-use Rattle.pc_ann.specs.declared.annotation.Ann.{Ann}
+use Rattle.pc_core.specs.{declared.nodes.Slot.Slot, CoreData.CoreData}
+use Rattle.pc_ann.specs.{declared.annotation.Note.Note, declared.annotation.Ann.Ann}
 use Rattle.pc_sub.specs.Declarations.{DeclOk}
 use Rattle.pc_rules.specs.Parts.{notes_of}
 use Rattle.pc_valid.specs.Words.{Slots}
-use Rattle.pc_judge.specs.declared.faults.JudgeFault.{JudgeFault}
-use Rattle.pc_judge.specs.Faults.{KeepsType, NodePasses, FirstAnnotationFault}
-use Rattle.pc_deriv.specs.declared.version.Version.{Version}
-use Rattle.pc_deriv.specs.declared.line.Line.{Line}
+use Rattle.pc_judge.specs.{declared.faults.JudgeFault.JudgeFault, Faults.KeepsType, Faults.NodePasses, Faults.FirstAnnotationFault}
+use Rattle.pc_deriv.specs.{declared.version.Version.Version, declared.line.Line.Line, Lines.nothing_taken, Lines.fed, Lines.line_of_slot, Lines.lines_of}
+use Rattle.pc_feed.specs.{Waiting.WaitingNodes, Waiting.BeginsAnnotation, declared.judging.Judging.Judging, declared.reading.Reading.Reading, Lines.lines_in, Lines.notes_in, Asked.IsFoundRight}
 use Rattle.pc_deriv.specs.declared.line.Line.TheVariants as line
-use Rattle.pc_deriv.specs.Lines.{nothing_taken, fed, line_of_slot, lines_of}
-use Rattle.pc_feed.specs.Waiting.{WaitingNodes, BeginsAnnotation}
-use Rattle.pc_feed.specs.declared.judging.Judging.{Judging}
-use Rattle.pc_feed.specs.declared.reading.Reading.{Reading}
-use Rattle.pc_feed.specs.Lines.{lines_in, notes_in}
-use Rattle.pc_feed.specs.Asked.{IsFoundRight}
 
 -- The core that is judged, and what is known of the text and of its annotation.
 pub record StreamData : Type 0 where

@@ -1,11 +1,9 @@
 -- The nodes of a core, one by one, and those without a parent so far.
 use Rattle.std.specs.Prelude.{◌≡◌, ◌≢◌, ℕ, ◌+◌, List, [], ◌∷◌, ◌++◌, Some, slice_get}
-use Rattle.pc_core.specs.declared.nodes.Node.{Node}
-use Rattle.pc_core.specs.declared.nodes.NodeKind.TheVariants as node
-use Rattle.pc_core.specs.CoreData.{CoreData}
-use Rattle.pc_ann.specs.declared.annotation.Note.{Note}
-use Rattle.pc_ann.specs.declared.annotation.Ann.{Ann}
+use Rattle.pc_core.specs.{declared.nodes.Node.Node, CoreData.CoreData}
+use Rattle.pc_ann.specs.{declared.annotation.Note.Note, declared.annotation.Ann.Ann}
 use Rattle.pc_valid.specs.Words.{Slots}
+use Rattle.pc_core.specs.declared.nodes.NodeKind.TheVariants as node
 
 -- The nodes before node n that are without a parent: a node takes the place of its children, which are the last ones. A
 -- body has no parent, and nothing is left after it.

@@ -1,16 +1,11 @@
 -- The nodes without a parent so far, for every core whose parts fit together.
 use Rattle.std.specs.Prelude.{◌≡◌, ◌↔◌, ℕ, List, [], ◌∷◌, ◌++◌, length, Some, slice_get}
-use Rattle.pc_core.specs.declared.nodes.Node.{Node}
-use Rattle.pc_core.specs.declared.nodes.NodeKind.TheVariants as node
-use Rattle.pc_core.specs.CoreData.{CoreData}
-use Rattle.pc_core.specs.Formed.{Formed}
-use Rattle.pc_ann.specs.declared.annotation.Note.{Note}
-use Rattle.pc_ann.specs.declared.annotation.Ann.{Ann}
+use Rattle.pc_core.specs.{declared.nodes.Node.Node, CoreData.CoreData, Formed.Formed}
+use Rattle.pc_ann.specs.{declared.annotation.Note.Note, declared.annotation.Ann.Ann}
 use Rattle.pc_rules.specs.Parts.{notes_of}
-use Rattle.pc_valid.specs.Words.{Slots}
-use Rattle.pc_valid.specs.Valid.{MeetsRule}
-use Rattle.pc_valid.specs.NoRule.{Holds}
+use Rattle.pc_valid.specs.{Words.Slots, Valid.MeetsRule, NoRule.Holds}
 use Rattle.pc_feed.specs.Waiting.{WaitingNodes, BeginsAnnotation}
+use Rattle.pc_core.specs.declared.nodes.NodeKind.TheVariants as node
 
 -- A node's children are the last of the nodes without a parent, and those of a body the only ones.
 abbrev pub ChildrenWaitLast : Type 0

@@ -1,7 +1,7 @@
 //! A file that is judged in parts.
 ghost use Rattle.std.specs.Prelude.{◌≡◌, ◌≤◌, ◌<◌, ◌↔◌, ℕ, List as Sequence, [], length, IfOk, IfErr, IsTrue};
 ghost use Rattle.pc_core.specs.CoreData.{CoreData};
-ghost use Rattle.pc_deriv.specs.Limits.{derivation_limit};
+ghost use Rattle.pc_deriv.specs.Text.{derivation_limit};
 ghost use Rattle.pc_feed.specs.Parts.{FileJudged, IsPartAt, NoPart, PartFed, PartTaken, PartsEnd};
 ghost use Rattle.pc_feed.specs.Streams.{IsFed};
 

@@ -6,16 +6,14 @@ use Rattle.std.specs.Str.{bytes_eq}
 use Rattle.std.proofs.lemmas.Iterator.Adapters.{position_from-zero}
 use Rattle.std.proofs.lemmas.Option.{same_Some, none-some}
 use Rattle.pc_tree.specs.declared.written_names.Name.{Name}
-use Rattle.pc_tree.specs.Kinds.{is_abstract}
+use Rattle.pc_tree.specs.Kinds.{is_abstract, first_own}
 use Rattle.pc_tree.specs.Tree as t
-use Rattle.pc_lists.specs.Places.{Has, Differ}
+use Rattle.pc_lists.specs.Lists.{Has, Differ, Text}
 use Rattle.pc_lists.proofs.Bools.{true_false}
 use Rattle.pc_lists.proofs.Gets.{get_append, get_map}
 use Rattle.pc_lists.proofs.Elements.{has_either}
-use Rattle.pc_lists.specs.Texts.{Text}
-use Rattle.pc_members.specs.Words.{built_in_names, texts_of, entity_names}
-use Rattle.pc_tree.specs.BuiltIn.{first_own}
-use Rattle.pc_members.specs.Chains as chain
+use Rattle.pc_members.specs.Members.{built_in_names, texts_of, entity_names}
+use Rattle.pc_members.specs.Members as chain
 use Rattle.pc_members.specs.MemberLists.{of_each, trait_methods}
 use Rattle.pc_members.proofs.Differences.{same_text, equal_texts}
 use Rattle.pc_members.proofs.Named.{named_is}

@@ -5,20 +5,17 @@ use Rattle.std.proofs.lemmas.Bool.{cases_lt}
 use Rattle.std.proofs.lemmas.Option.{same_Some, none-some}
 use Rattle.pc_lists.proofs.Gets.{get_below, get_append, get_map, map_get}
 use Rattle.pc_tree.specs.declared.written_names.Name.{Name}
-use Rattle.pc_tree.specs.Kinds.{is_abstract}
+use Rattle.pc_tree.specs.Kinds.{is_abstract, first_own}
 use Rattle.pc_tree.specs.Tree as t
-use Rattle.pc_lists.specs.Places.{Has, Differ}
-use Rattle.pc_lists.specs.Texts.{Text}
-use Rattle.pc_members.specs.Words.{is_among, built_in_names, texts_of, entity_names, method_texts}
+use Rattle.pc_lists.specs.Lists.{Has, Differ, Text}
+use Rattle.pc_members.specs.MemberLists.{is_among, firsts, entity_named, of_entity, of_each, trait_methods}
+use Rattle.pc_members.specs.Members.{built_in_names, texts_of, entity_names, method_texts, IsTransitiveClosure}
 use Rattle.pc_members.proofs.Differences.{same_text, among_has}
 use Rattle.pc_members.proofs.Named.{named_is, one_entity}
 use Rattle.pc_lists.proofs.Bools.{true_false}
 use Rattle.std.specs.Str.{bytes_eq}
-use Rattle.pc_members.specs.Chains.{IsTransitiveClosure}
-use Rattle.pc_tree.specs.BuiltIn.{first_own}
-use Rattle.pc_members.specs.Chains as chain
+use Rattle.pc_members.specs.Members as chain
 use Rattle.pc_names.proofs.CycleFirsts.{no_cycle}
-use Rattle.pc_members.specs.MemberLists.{firsts, entity_named, of_entity, of_each, trait_methods}
 use Rattle.pc_file_spec.specs.Laws.{TraitsInherit, BoundIsEnough}
 use Rattle.pc_lists.proofs.Elements.{has_on, has_either, has_front, has_behind}
 use Rattle.pc_file_spec.proofs.Collects.{Collects, collects}

@@ -8,22 +8,14 @@ use Rattle.pc_tree.specs.declared.file.ParamDef.{ParamDef}
 use Rattle.pc_tree.specs.declared.written_names.Name.{Name}
 use Rattle.pc_tree.specs.declared.written_names.TypeRef.{TypeRef}
 use Rattle.pc_tree.specs.Tree as t
-use Rattle.pc_lists.specs.Places.{Has, Differ}
+use Rattle.pc_lists.specs.Lists.{Has, Differ, Text}
 use Rattle.pc_names.specs.declared.fault.NameFault.TheVariants as fault
 use Rattle.pc_names.specs.declared.fault.Which.TheVariants as which
-use Rattle.pc_lists.specs.Texts.{Text}
-use Rattle.pc_members.specs.Words.{is_among, built_in_names, entity_names, has_added}
-use Rattle.pc_members.specs.Tables.{trait_names}
-use Rattle.pc_names.specs.Faults.{where_, either_fault, type_faults, result_faults, provided_faults, field_faults, param_faults, signature_faults}
-use Rattle.pc_names.specs.Faults.{method_faults, is_member_name, added_faults, entity_faults, entities_faults, entity_name_faults, declaration_faults}
-use Rattle.pc_names.specs.Faults.{known_limit}
+use Rattle.pc_members.specs.MemberLists.{is_among, trait_names}
+use Rattle.pc_members.specs.Members.{built_in_names, entity_names, has_added, field_texts, method_texts}
+use Rattle.pc_names.specs.Faults.{where_, either_fault, type_faults, result_faults, provided_faults, field_faults, param_faults, signature_faults, method_faults, is_member_name, added_faults, entity_faults, entities_faults, entity_name_faults, declaration_faults, known_limit, cycle_faults, count_faults, main_faults, NamesData, Collected}
 use Rattle.pc_caps.specs.Limits.{field_limit}
-use Rattle.pc_members.specs.Words.{field_texts, method_texts}
-use Rattle.pc_tree.specs.BuiltIn.{first_own}
-use Rattle.pc_names.specs.Cycles.{cycle_faults}
-use Rattle.pc_names.specs.Counts.{count_faults}
-use Rattle.pc_names.specs.Mains.{main_faults}
-use Rattle.pc_names.specs.Names.{NamesData, Collected}
+use Rattle.pc_tree.specs.Kinds.{first_own}
 use Rattle.pc_members.proofs.Differences.{among_has}
 use Rattle.pc_members.proofs.Completed.{among_parts}
 use Rattle.pc_names.proofs.Founded.{where_none, either_none, Adds, adds_differ, all_differ, provided_are}

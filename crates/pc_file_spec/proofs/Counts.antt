@@ -7,12 +7,11 @@ use Rattle.pc_tree.specs.Tree as t
 use Rattle.pc_lists.proofs.Cuts.{nil_left, nil_right}
 use Rattle.pc_names.specs.declared.fault.NameFault.TheVariants as fault
 use Rattle.pc_names.specs.declared.fault.Which.TheVariants as which
-use Rattle.pc_names.specs.Faults.{where_}
-use Rattle.pc_names.specs.Counts.{method_count, count_faults}
+use Rattle.pc_names.specs.Faults.{where_, method_count, count_faults}
 use Rattle.pc_caps.specs.Limits.{method_limit}
-use Rattle.pc_tree.specs.BuiltIn.{first_own}
+use Rattle.pc_tree.specs.Kinds.{first_own}
 use Rattle.pc_members.specs.MemberLists.{members}
-use Rattle.pc_file_spec.specs.Members.{owned, members_from}
+use Rattle.pc_file_spec.specs.Cores.{owned, members_from}
 use Rattle.pc_names.proofs.Founded.{where_none}
 use Rattle.pc_file_spec.proofs.Collects.{Collects}
 

@@ -11,27 +11,23 @@ use Rattle.pc_tree.specs.declared.kinds.EntityKind.TheVariants as kind
 use Rattle.pc_tree.specs.declared.kinds.MethodWord.{MethodWord}
 use Rattle.pc_tree.specs.declared.kinds.MethodWord.TheVariants as word
 use Rattle.pc_tree.specs.declared.written_names.TypeRef.{TypeRef}
-use Rattle.pc_tree.specs.Kinds.{is_abstract, may_stand, BodyUnless}
+use Rattle.pc_tree.specs.Kinds.{is_abstract, may_stand, BodyUnless, first_own}
 use Rattle.pc_tree.specs.Tree as t
 use Rattle.pc_tree.proofs.KindFacts.{no_new, same_methods}
 use Rattle.pc_core.specs.declared.declarations.Method.{Method}
 use Rattle.pc_core.specs.declared.declarations.ParamInfo.{ParamInfo}
 use Rattle.pc_core.specs.Methods.{StandsIn, ResultFits}
-use Rattle.pc_core.specs.MethodKinds.{constructor_kind, word_kind}
-use Rattle.pc_lists.specs.Places.{Each, Has, Ascends}
+use Rattle.pc_core.specs.Entities.{constructor_kind, word_kind}
+use Rattle.pc_lists.specs.Lists.{Each, Has, Ascends}
 use Rattle.pc_lists.proofs.Elements.{ascends_none}
 use Rattle.pc_lists.proofs.Gets.{map_get}
-use Rattle.pc_members.specs.Words.{entity_names}
-use Rattle.pc_tree.specs.BuiltIn.{first_own}
+use Rattle.pc_members.specs.Members.{entity_names, Member, written, added, without_body}
 use Rattle.pc_lists.proofs.Bools.{true_false, false_true, first_true, second_true}
 use Rattle.pc_body_spec.specs.Scopes.{Context, KnownEntity}
 use Rattle.pc_body_spec.specs.Bodies.{maybe_body, initial_fields}
 use Rattle.pc_body_spec.specs.Places.{body_places, initial_places, written_body_places}
 use Rattle.pc_body_spec.specs.Slots.{cap_or, initial_locals, body_locals}
-use Rattle.pc_members.specs.Members.{Member, written, added, without_body}
-use Rattle.pc_file_spec.specs.Known.{known_of}
-use Rattle.pc_file_spec.specs.Signatures.{param_of, params_of, kind_of, word_receiver, receiver_cap, written_result, object_of, word_result, result_of}
-use Rattle.pc_file_spec.specs.Signatures.{member_locals}
+use Rattle.pc_file_spec.specs.Cores.{known_of, param_of, params_of, kind_of, word_receiver, receiver_cap, written_result, object_of, word_result, result_of, member_locals}
 use Rattle.pc_file_spec.specs.Order.{NamesInOrder, InPlace}
 use Rattle.pc_file_spec.proofs.Steps.{member_rose}
 use Rattle.pc_file_spec.proofs.Collects.{Collects, TypesAre, IsType}

@@ -6,11 +6,11 @@ use Rattle.std.proofs.lemmas.Option.{same_Some, none-some}
 use Rattle.pc_tree.specs.Tree as t
 use Rattle.pc_core.specs.declared.nodes.Node.{Node}
 use Rattle.pc_core.specs.declared.nodes.NodeKind.TheVariants as node
-use Rattle.pc_lists.specs.Places.{Ascends}
+use Rattle.pc_lists.specs.Lists.{Ascends}
 use Rattle.pc_lists.proofs.Gets.{append_get}
-use Rattle.pc_body_spec.specs.Roses.{Rose, put}
+use Rattle.pc_body_spec.specs.Bodies.{Rose, initial_fields}
+use Rattle.pc_body_spec.specs.Fold.{put}
 use Rattle.pc_body_spec.specs.Scopes.{Context, slot_at, params_scope}
-use Rattle.pc_body_spec.specs.Bodies.{initial_fields}
 use Rattle.pc_body_spec.specs.Faults.{initial_faults, written_body_faults}
 use Rattle.pc_body_spec.specs.Slots.{Local, initial_locals, method_locals}
 use Rattle.pc_body_spec.specs.Places.{body_places, initial_places, local_start}
@@ -24,7 +24,7 @@ use Rattle.pc_body_spec.proofs.PostOrders.{post_order}
 use Rattle.pc_body_spec.proofs.Once.{maybe_n, added_n, node_times, node_join, put_n, SlotsFrom, next_slots, slots_from}
 use Rattle.pc_lists.proofs.Bools.{true_false}
 use Rattle.pc_members.specs.Members.{Member, written, added}
-use Rattle.pc_file_spec.specs.Signatures.{member_locals, placed_of}
+use Rattle.pc_file_spec.specs.Cores.{member_locals, placed_of}
 use Rattle.pc_file_spec.proofs.Steps.{member_faults, member_rose}
 
 -- A slot outside the range from the first of these numbers up to the second.

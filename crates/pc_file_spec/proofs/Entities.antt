@@ -8,31 +8,25 @@ use Rattle.std.proofs.lemmas.List.Quantifiers.{position-Some}
 use Rattle.pc_caps.specs.declared.capability.Cap.TheVariants as cap
 use Rattle.pc_lists.proofs.Gets.{get_front, get_below, get_within, append_get, get_append, get_map, map_get, get_range}
 use Rattle.pc_tree.specs.declared.kinds.EntityKind.TheVariants as kind
-use Rattle.pc_tree.specs.Kinds.{may_have_fields, FieldsIf}
+use Rattle.pc_tree.specs.Kinds.{may_have_fields, FieldsIf, first_own}
 use Rattle.pc_tree.specs.Tree as t
 use Rattle.pc_core.specs.declared.declarations.EntityDef.{EntityDef}
 use Rattle.pc_core.specs.declared.declarations.FieldInfo.{FieldInfo}
 use Rattle.pc_core.specs.declared.declarations.Method.{Method}
-use Rattle.pc_core.specs.CoreData.{CoreData}
-use Rattle.pc_core.specs.Entities.{built_in, built_in_value, out_field, print_method, IsAbstract, Provides, Leads, one, more}
+use Rattle.pc_core.specs.CoreData.{CoreData, own_methods, field_name, method_name}
+use Rattle.pc_core.specs.Entities.{built_in, built_in_value, out_field, print_method, Provides, Leads, one, more}
+use Rattle.pc_core.specs.Further.{IsAbstract}
 use Rattle.pc_core.specs.EntityFits.{EntityFits}
-use Rattle.pc_core.specs.Lookup.{own_methods, field_name, method_name}
-use Rattle.pc_lists.specs.Places.{Each, Has, Differ, Ascends, IsIn}
-use Rattle.pc_lists.specs.Texts.{Text}
-use Rattle.pc_members.specs.Words.{built_in_names, texts_of, entity_names, field_texts, method_texts, or_nil}
-use Rattle.pc_members.specs.Chains.{IsAbove}
+use Rattle.pc_lists.specs.Lists.{Each, Has, Differ, Ascends, IsIn, Text}
+use Rattle.pc_members.specs.Members.{built_in_names, texts_of, entity_names, field_texts, method_texts, or_nil, IsAbove, Member, written, added, member_text}
 use Rattle.pc_members.specs.Edges.{entity_numbers}
-use Rattle.pc_tree.specs.BuiltIn.{first_own}
-use Rattle.pc_members.specs.Chains as chain
+use Rattle.pc_members.specs.Members as chain
 use Rattle.pc_members.proofs.Differences.{equal_texts}
 use Rattle.pc_members.proofs.Named.{is_trait_named}
 use Rattle.pc_members.proofs.Closings.{numbers_only, numbers_all, no_entity}
-use Rattle.pc_members.specs.Members.{Member, written, added, member_text}
 use Rattle.pc_members.specs.MemberLists.{members}
-use Rattle.pc_file_spec.specs.Members.{Owned, owned}
-use Rattle.pc_file_spec.specs.Known as known
-use Rattle.pc_file_spec.specs.Parts.{Parts}
-use Rattle.pc_file_spec.specs.Cores.{core_with, built_ins, core_entity, core_field}
+use Rattle.pc_file_spec.specs.Cores.{Owned, owned, Parts, core_with, built_ins, core_entity, core_field}
+use Rattle.pc_file_spec.specs.Cores as known
 use Rattle.pc_body_spec.specs.Scopes.{text_from}
 use Rattle.pc_file_spec.proofs.Tables.{text_below, one_text, language_kept, member_there}
 use Rattle.pc_lists.proofs.Elements.{has_front, has_behind, each_none, ascends_none}

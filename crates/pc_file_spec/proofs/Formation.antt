@@ -5,14 +5,12 @@ use Rattle.pc_tree.specs.Tree as t
 use Rattle.pc_core.specs.declared.declarations.EntityDef.{EntityDef}
 use Rattle.pc_core.specs.CoreData.{CoreData}
 use Rattle.pc_core.specs.Entities.{HasBuiltIn}
-use Rattle.pc_lists.specs.Ranges.{Follow}
-use Rattle.pc_lists.specs.Places.{Differ}
+use Rattle.pc_lists.specs.Lists.{Follow, Differ}
 use Rattle.pc_core.specs.Formed.{Formed}
 use Rattle.pc_names.specs.declared.fault.NameFault.{NameFault}
-use Rattle.pc_members.specs.Words.{built_in_names, texts_of}
-use Rattle.pc_tree.specs.BuiltIn.{first_own}
-use Rattle.pc_file_spec.specs.Parts.{Parts, if_ok, parts_of, built_in_parts}
-use Rattle.pc_file_spec.specs.Cores.{core_with, core_of, entities_from}
+use Rattle.pc_members.specs.Members.{built_in_names, texts_of}
+use Rattle.pc_tree.specs.Kinds.{first_own}
+use Rattle.pc_file_spec.specs.Cores.{Parts, if_ok, parts_of, built_in_parts, core_with, core_of, entities_from}
 use Rattle.pc_file_spec.specs.Laws.{StandsIsFormed, CoresAreSmall, MembersDiffer}
 use Rattle.pc_file_spec.proofs.Origins.{members_differ}
 use Rattle.pc_file_spec.proofs.Tables.{language_kept, texts_differ}

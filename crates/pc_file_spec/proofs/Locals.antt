@@ -12,13 +12,14 @@ use Rattle.pc_tree.specs.Tree as t
 use Rattle.pc_core.specs.declared.declarations.Method.{Method}
 use Rattle.pc_core.specs.declared.nodes.Node.{Node}
 use Rattle.pc_core.specs.declared.nodes.NodeKind.TheVariants as node
-use Rattle.pc_core.specs.CoreData.{CoreData}
-use Rattle.pc_core.specs.Lookup.{own_nodes, node_end}
+use Rattle.pc_core.specs.CoreData.{CoreData, node_end}
+use Rattle.pc_core.specs.Further.{own_nodes}
 use Rattle.pc_core.specs.Methods.{PostOrder, BodyFits, LocalFits, UsesSlot, is_local}
-use Rattle.pc_lists.specs.Places.{Each, Has, Differ, IsIn}
-use Rattle.pc_body_spec.specs.Roses.{Rose, put}
+use Rattle.pc_lists.specs.Lists.{Each, Has, Differ, IsIn}
+use Rattle.pc_body_spec.specs.Bodies.{Rose}
+use Rattle.pc_body_spec.specs.Fold.{put, local_slot, written_of}
 use Rattle.pc_body_spec.specs.Scopes.{Context, params_scope, params_from}
-use Rattle.pc_body_spec.specs.Slots.{Local, local_slot, local_kind, written_of}
+use Rattle.pc_body_spec.specs.Slots.{Local, local_kind}
 use Rattle.pc_body_spec.specs.Visibility.{Scoped, slots}
 use Rattle.pc_body_spec.specs.Meanings.{NamesWhatIsThere}
 use Rattle.pc_body_spec.specs.Laws.{WasPut, IsItem, IsDefined, IsDefinedOnce}
@@ -27,10 +28,7 @@ use Rattle.pc_body_spec.proofs.Locals.{locals_are_defined}
 use Rattle.pc_body_spec.proofs.Nodes.{beyond}
 use Rattle.pc_body_spec.proofs.Once.{locals_are_defined_once, added_locals_are_defined_once}
 use Rattle.pc_members.specs.Members.{Member, written, added}
-use Rattle.pc_file_spec.specs.Members.{Owned}
-use Rattle.pc_file_spec.specs.Signatures.{context_of, placed_of, member_locals, params_of, param_of}
-use Rattle.pc_file_spec.specs.Parts.{Parts}
-use Rattle.pc_file_spec.specs.Cores.{core_with}
+use Rattle.pc_file_spec.specs.Cores.{Owned, context_of, placed_of, member_locals, params_of, param_of, Parts, core_with}
 use Rattle.pc_file_spec.proofs.Steps.{member_faults, member_rose, Built}
 use Rattle.pc_file_spec.proofs.Parts.{At}
 use Rattle.pc_file_spec.proofs.Settings.{method_at}

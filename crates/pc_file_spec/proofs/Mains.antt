@@ -11,25 +11,20 @@ use Rattle.pc_tree.specs.declared.kinds.EntityKind.TheVariants as kind
 use Rattle.pc_tree.specs.declared.kinds.MethodWord.{MethodWord}
 use Rattle.pc_tree.specs.declared.kinds.MethodWord.TheVariants as word
 use Rattle.pc_tree.specs.declared.file.ParamDef.{ParamDef}
-use Rattle.pc_tree.specs.Kinds.{is_abstract}
+use Rattle.pc_tree.specs.Kinds.{is_abstract, first_own}
 use Rattle.pc_tree.specs.Tree as t
 use Rattle.pc_core.specs.CoreData.{CoreData}
 use Rattle.pc_core.specs.EntityFits.{HasMain}
-use Rattle.pc_core.specs.MethodKinds.{word_kind}
+use Rattle.pc_core.specs.Entities.{word_kind}
 use Rattle.pc_names.specs.declared.fault.NameFault.TheVariants as fault
-use Rattle.pc_members.specs.Words.{is_new}
-use Rattle.pc_tree.specs.BuiltIn.{first_own}
+use Rattle.pc_members.specs.Members.{is_new, written}
 use Rattle.pc_members.proofs.Differences.{equal_texts}
-use Rattle.pc_names.specs.Mains.{is_actor, is_val, is_env, takes_env, begins_program, is_main, main_faults}
+use Rattle.pc_names.specs.Mains.{is_actor, is_val, is_env, takes_env, begins_program, is_main}
+use Rattle.pc_names.specs.Faults.{main_faults}
 use Rattle.pc_lists.proofs.Bools.{true_false}
 use Rattle.pc_body_spec.specs.Slots.{cap_or}
-use Rattle.pc_members.specs.Members.{written}
 use Rattle.pc_members.specs.MemberLists.{abstract_members, concrete_members, members}
-use Rattle.pc_file_spec.specs.Members.{Owned, owned}
-use Rattle.pc_file_spec.specs.Known.{known_of}
-use Rattle.pc_file_spec.specs.Signatures.{param_of}
-use Rattle.pc_file_spec.specs.Parts.{Parts}
-use Rattle.pc_file_spec.specs.Cores.{core_with, core_entity}
+use Rattle.pc_file_spec.specs.Cores.{Owned, owned, known_of, param_of, Parts, core_with, core_entity}
 use Rattle.pc_file_spec.proofs.Tables.{text_found}
 use Rattle.pc_file_spec.proofs.Owners.{starts, own_member}
 use Rattle.pc_file_spec.proofs.Types.{env_type}

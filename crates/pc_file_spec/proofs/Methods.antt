@@ -5,25 +5,19 @@ use Rattle.std.proofs.lemmas.Option.{same_Some, none-some}
 use Rattle.std.proofs.lemmas.List.{append_assoc}
 use Rattle.pc_lists.proofs.Gets.{get_below, map_get}
 use Rattle.pc_tree.specs.declared.kinds.MethodWord.TheVariants as word
-use Rattle.pc_tree.specs.Kinds.{is_abstract}
+use Rattle.pc_tree.specs.Kinds.{is_abstract, first_own}
 use Rattle.pc_tree.specs.Tree as t
 use Rattle.pc_core.specs.declared.declarations.Method.{Method}
 use Rattle.pc_core.specs.declared.declarations.ParamInfo.{ParamInfo}
 use Rattle.pc_core.specs.declared.nodes.Node.{Node}
 use Rattle.pc_core.specs.declared.nodes.Slot.{Slot}
-use Rattle.pc_core.specs.CoreData.{CoreData}
+use Rattle.pc_core.specs.CoreData.{CoreData, own_slots}
 use Rattle.pc_core.specs.Entities.{print_method}
-use Rattle.pc_core.specs.Lookup.{own_slots}
 use Rattle.pc_core.specs.Methods.{MethodFits, SlotsFit, LocalFits, BodyFits}
-use Rattle.pc_lists.specs.Places.{Each, Has}
-use Rattle.pc_tree.specs.BuiltIn.{first_own}
-use Rattle.pc_body_spec.specs.Slots.{local_slot}
+use Rattle.pc_lists.specs.Lists.{Each, Has}
+use Rattle.pc_body_spec.specs.Fold.{local_slot}
 use Rattle.pc_members.specs.MemberLists.{members}
-use Rattle.pc_file_spec.specs.Members.{Owned}
-use Rattle.pc_file_spec.specs.Known.{known_of}
-use Rattle.pc_file_spec.specs.Signatures.{context_of, slots_from, member_locals}
-use Rattle.pc_file_spec.specs.Parts.{Parts}
-use Rattle.pc_file_spec.specs.Cores.{core_with, core_entity}
+use Rattle.pc_file_spec.specs.Cores.{Owned, known_of, context_of, slots_from, member_locals, Parts, core_with, core_entity}
 use Rattle.pc_file_spec.proofs.Tables.{text_below, language_kept}
 use Rattle.pc_file_spec.proofs.Steps.{member_names, slots_count}
 use Rattle.pc_file_spec.proofs.Owners.{starts, Owner, owner_of}

@@ -16,24 +16,20 @@ use Rattle.pc_core.specs.declared.nodes.NodeKind.TheVariants as node
 use Rattle.pc_core.specs.declared.nodes.Slot.{Slot}
 use Rattle.pc_core.specs.CoreData.{CoreData}
 use Rattle.pc_core.specs.Methods.{UsesSlot, is_local}
-use Rattle.pc_core.specs.MethodKinds.{constructor_kind, word_kind, param_slot}
+use Rattle.pc_core.specs.Entities.{constructor_kind, word_kind, param_slot}
 use Rattle.pc_core.specs.Nodes.{NodeFits, NamesFit, NamesPrimitive, NamesSlot, NamesLocal}
-use Rattle.pc_core.specs.Lookup.{NamesMethod}
-use Rattle.pc_lists.specs.Places.{Each, Has}
-use Rattle.pc_members.specs.Words.{is_new}
-use Rattle.pc_tree.specs.BuiltIn.{first_own}
+use Rattle.pc_core.specs.Further.{NamesMethod}
+use Rattle.pc_lists.specs.Lists.{Each, Has}
+use Rattle.pc_members.specs.Members.{is_new, Member, written, added}
+use Rattle.pc_tree.specs.Kinds.{first_own}
 use Rattle.pc_lists.proofs.Bools.{true_false}
 use Rattle.pc_body_spec.specs.Scopes.{Context, KnownEntity, Constructor}
-use Rattle.pc_body_spec.specs.Slots.{Local, local_slot, local_kind}
+use Rattle.pc_body_spec.specs.Slots.{Local, local_kind}
+use Rattle.pc_body_spec.specs.Fold.{local_slot}
 use Rattle.pc_body_spec.specs.Meanings.{NamesWhatIsThere, IsOfKind, IsConstructor}
 use Rattle.pc_body_spec.specs.Laws.{HasChildren}
-use Rattle.pc_members.specs.Members.{Member, written, added, is_constructor}
-use Rattle.pc_members.specs.MemberLists.{members}
-use Rattle.pc_file_spec.specs.Members.{Owned, owned}
-use Rattle.pc_file_spec.specs.Known.{known_of, known_from, built_in_known}
-use Rattle.pc_file_spec.specs.Signatures.{context_of, slots_from, own_this, params_of, member_locals, kind_of}
-use Rattle.pc_file_spec.specs.Parts.{Parts}
-use Rattle.pc_file_spec.specs.Cores.{core_with, core_entity}
+use Rattle.pc_members.specs.MemberLists.{is_constructor, members}
+use Rattle.pc_file_spec.specs.Cores.{Owned, owned, known_of, known_from, built_in_known, context_of, slots_from, own_this, params_of, member_locals, kind_of, Parts, core_with, core_entity}
 use Rattle.pc_file_spec.proofs.Steps.{names_count, slots_count, member_names}
 use Rattle.pc_file_spec.proofs.Owners.{starts, own_member, known_at, constructor_at}
 use Rattle.pc_file_spec.proofs.Parts.{At}

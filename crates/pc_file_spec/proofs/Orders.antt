@@ -4,7 +4,7 @@ use Rattle.std.specs.Prelude.{slice_get}
 use Rattle.std.proofs.lemmas.Option.{same_Some, none-some}
 use Rattle.pc_lists.proofs.Gets.{get_front, get_below, get_push, get_append}
 use Rattle.pc_core.specs.declared.nodes.Node.{Node}
-use Rattle.pc_lists.specs.Places.{Each, Has, Differ}
+use Rattle.pc_lists.specs.Lists.{Each, Has, Differ}
 use Rattle.pc_core.specs.Methods.{PostOrder}
 use Rattle.pc_lists.proofs.Elements.{below_next}
 

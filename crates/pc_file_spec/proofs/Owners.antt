@@ -6,13 +6,11 @@ use Rattle.std.proofs.lemmas.List.{length-append, length-map}
 use Rattle.pc_lists.proofs.Gets.{get_front, append_get, get_append, get_map, map_get}
 use Rattle.pc_tree.specs.Tree as t
 use Rattle.pc_core.specs.declared.declarations.EntityDef.{EntityDef}
-use Rattle.pc_lists.specs.Ranges.{Follow}
+use Rattle.pc_lists.specs.Lists.{Follow}
 use Rattle.pc_body_spec.specs.Scopes.{KnownEntity, Constructor}
-use Rattle.pc_members.specs.Members.{Member, member_text, is_constructor}
-use Rattle.pc_members.specs.MemberLists.{members}
-use Rattle.pc_file_spec.specs.Members.{Owned, owned, members_from}
-use Rattle.pc_file_spec.specs.Known.{known_from, constructors_from}
-use Rattle.pc_file_spec.specs.Cores.{core_entity, entities_from}
+use Rattle.pc_members.specs.Members.{Member, member_text}
+use Rattle.pc_members.specs.MemberLists.{is_constructor, members}
+use Rattle.pc_file_spec.specs.Cores.{Owned, owned, members_from, known_from, constructors_from, core_entity, entities_from}
 
 -- How many members the first i entities have.
 abbrev pub starts : List t.Entity → List t.Entity → ℕ → ℕ

@@ -9,18 +9,14 @@ use Rattle.pc_tree.specs.Tree as t
 use Rattle.pc_core.specs.declared.declarations.Method.{Method}
 use Rattle.pc_core.specs.declared.nodes.Slot.{Slot}
 use Rattle.pc_core.specs.declared.nodes.Node.{Node}
-use Rattle.pc_lists.specs.Ranges.{Follow}
-use Rattle.pc_lists.specs.Places.{Each}
-use Rattle.pc_core.specs.Lookup.{node_end}
+use Rattle.pc_lists.specs.Lists.{Follow, Each}
+use Rattle.pc_core.specs.CoreData.{node_end}
 use Rattle.pc_lists.proofs.Ranges.{follow_append}
 use Rattle.pc_names.specs.declared.fault.NameFault.{NameFault}
 use Rattle.pc_caps.specs.Limits.{node_limit}
 use Rattle.pc_body_spec.specs.Scopes.{Context}
 use Rattle.pc_body_spec.specs.Methods.{MethodOutcome}
-use Rattle.pc_file_spec.specs.Members.{Owned}
-use Rattle.pc_file_spec.specs.Known.{texts_of_file}
-use Rattle.pc_file_spec.specs.Signatures.{context_of, slots_from, declared}
-use Rattle.pc_file_spec.specs.Parts.{Parts, outcome, joined_parts, with_outcome, and_member, and_members, if_ok, built_in_parts}
+use Rattle.pc_file_spec.specs.Cores.{Owned, texts_of_file, context_of, slots_from, declared, Parts, outcome, joined_parts, with_outcome, and_member, and_members, if_ok, built_in_parts}
 use Rattle.pc_file_spec.proofs.Tables.{language_kept}
 use Rattle.pc_file_spec.proofs.Steps.{IsOk, same_ok, Made, made, Behind, behind, slots_count, member_names}
 

@@ -7,12 +7,9 @@ use Rattle.pc_tree.specs.Tree as t
 use Rattle.pc_core.specs.declared.declarations.EntityDef.{EntityDef}
 use Rattle.pc_core.specs.declared.declarations.Method.{Method}
 use Rattle.pc_core.specs.Entities.{print_method}
-use Rattle.pc_members.specs.Chains.{IsTransitiveClosure}
-use Rattle.pc_tree.specs.BuiltIn.{first_own}
-use Rattle.pc_file_spec.specs.Members.{Owned, members_from}
-use Rattle.pc_file_spec.specs.Signatures.{context_of, slots_from, declared}
-use Rattle.pc_file_spec.specs.Parts.{Parts, built_in_parts}
-use Rattle.pc_file_spec.specs.Cores.{core_with, built_ins, core_entity, entities_from}
+use Rattle.pc_members.specs.Members.{IsTransitiveClosure}
+use Rattle.pc_tree.specs.Kinds.{first_own}
+use Rattle.pc_file_spec.specs.Cores.{Owned, members_from, context_of, slots_from, declared, Parts, built_in_parts, core_with, built_ins, core_entity, entities_from}
 use Rattle.pc_file_spec.specs.Order.{InPlace, NamesInOrder}
 use Rattle.pc_file_spec.proofs.Owners.{starts, entity_at, at_entity, entities_count}
 use Rattle.pc_file_spec.proofs.Collects.{Collects}

@@ -10,20 +10,18 @@ use Rattle.pc_tree.specs.declared.written_names.Name.{Name}
 use Rattle.pc_tree.specs.declared.file.ParamDef.{ParamDef}
 use Rattle.pc_tree.specs.Tree as t
 use Rattle.pc_core.specs.declared.nodes.Node.{Node}
-use Rattle.pc_lists.specs.Places.{Each}
-use Rattle.pc_core.specs.MethodKinds.{param_slot}
-use Rattle.pc_body_spec.specs.Roses.{Rose, Numbered, put}
+use Rattle.pc_lists.specs.Lists.{Each}
+use Rattle.pc_core.specs.Entities.{param_slot}
+use Rattle.pc_body_spec.specs.Bodies.{Rose, body_of, added_body}
+use Rattle.pc_body_spec.specs.Fold.{Numbered, put, local_slot}
 use Rattle.pc_body_spec.specs.Scopes.{Context}
-use Rattle.pc_body_spec.specs.Bodies.{body_of, added_body}
 use Rattle.pc_body_spec.specs.Faults.{BodyNameFault, body_faults, initial_faults}
-use Rattle.pc_body_spec.specs.Slots.{Local, initial_locals, method_locals, local_slot}
+use Rattle.pc_body_spec.specs.Slots.{Local, initial_locals, method_locals}
 use Rattle.pc_body_spec.specs.Methods.{MethodOutcome, slot_names, local_names, param_names, unless_fault, unless_name, unless_full, numbered_or_full, put_body}
 use Rattle.pc_body_spec.specs.Laws.{BodyStands}
 use Rattle.pc_body_spec.proofs.Bodies.{bodies_stand, added_bodies_stand}
 use Rattle.pc_members.specs.Members.{Member, written, added}
-use Rattle.pc_file_spec.specs.Members.{Owned}
-use Rattle.pc_file_spec.specs.Signatures.{slots_from, params_of, param_of, member_locals}
-use Rattle.pc_file_spec.specs.Parts.{outcome}
+use Rattle.pc_file_spec.specs.Cores.{Owned, slots_from, params_of, param_of, member_locals, outcome}
 
 -- ---- the parts of an outcome
 

@@ -4,20 +4,18 @@ use Rattle.std.specs.Prelude.{slice_get, codes}
 use Rattle.std.specs.Str.{bytes_eq}
 use Rattle.std.proofs.lemmas.Option.{same_Some, none-some}
 use Rattle.pc_lists.proofs.Gets.{get_front, get_behind, get_below}
-use Rattle.pc_lists.specs.Places.{Has, Differ}
+use Rattle.pc_lists.specs.Lists.{Has, Differ, Text}
 use Rattle.pc_tree.specs.Tree as t
-use Rattle.pc_lists.specs.Texts.{Text}
-use Rattle.pc_members.specs.Words.{is_among}
-use Rattle.pc_members.specs.Words.{field_texts, method_texts}
-use Rattle.pc_names.specs.Texts.{with_members}
-use Rattle.pc_members.specs.Tables.{with_name, with_names}
+use Rattle.pc_members.specs.MemberLists.{is_among, with_name, with_names}
+use Rattle.pc_members.specs.Members.{field_texts, method_texts}
+use Rattle.pc_names.specs.Faults.{with_members}
 use Rattle.pc_members.proofs.Differences.{names_differ, same_text, equal_texts, among_has}
 use Rattle.pc_names.proofs.OtherTexts.{members_differ}
 use Rattle.pc_lists.proofs.Bools.{true_false}
 use Rattle.pc_lists.proofs.Elements.{differ_none, has_front, has_behind}
 use Rattle.pc_body_spec.specs.Scopes.{text_from}
 use Rattle.pc_body_spec.specs.Texts.{entities_texts}
-use Rattle.pc_file_spec.specs.Known.{texts_of_file}
+use Rattle.pc_file_spec.specs.Cores.{texts_of_file}
 use Rattle.pc_file_spec.specs.Laws.{IsNeeded, TextsAreThere}
 
 -- ---- tables

@@ -6,18 +6,16 @@ use Rattle.std.proofs.lemmas.Option.{same_Some, none-some}
 use Rattle.std.proofs.lemmas.List.{append_assoc}
 use Rattle.pc_tree.specs.declared.kinds.EntityKind.{EntityKind}
 use Rattle.pc_tree.specs.Tree as t
-use Rattle.pc_lists.specs.Places.{Has}
+use Rattle.pc_lists.specs.Lists.{Has, Text}
 use Rattle.pc_lists.proofs.Bools.{true_false, no_both}
 use Rattle.pc_lists.proofs.Elements.{has_on, has_either, has_front, has_behind}
 use Rattle.pc_lists.proofs.Gets.{get_map, map_get}
-use Rattle.pc_lists.specs.Texts.{Text}
-use Rattle.pc_members.specs.Words.{is_among, field_texts, method_texts, has_added}
-use Rattle.pc_tree.specs.BuiltIn.{first_own}
+use Rattle.pc_members.specs.MemberLists.{is_among, entity_named, of_each, abstract_methods, methods_taken_over, taken_over, abstract_members, concrete_members, members}
+use Rattle.pc_members.specs.Members.{field_texts, method_texts, has_added, Member, written, added, without_body, added_text, own_texts, is_takable, added_if, member_text}
+use Rattle.pc_tree.specs.Kinds.{first_own}
 use Rattle.pc_members.proofs.Differences.{has_among, among_has}
 use Rattle.pc_members.proofs.Named.{named_is, one_entity}
-use Rattle.pc_members.specs.Chains as chain
-use Rattle.pc_members.specs.Members.{Member, written, added, without_body, added_text, own_texts, is_takable, added_if, member_text}
-use Rattle.pc_members.specs.MemberLists.{entity_named, of_each, abstract_methods, methods_taken_over, taken_over, abstract_members, concrete_members, members}
+use Rattle.pc_members.specs.Members as chain
 use Rattle.pc_file_spec.specs.Laws.{WrittenAbove, TraitsHaveNoBodies, BodiesAreTaken, BodiesAreThere}
 use Rattle.pc_names.proofs.Founded.{Adds}
 use Rattle.pc_file_spec.proofs.Collects.{Collects, collects}

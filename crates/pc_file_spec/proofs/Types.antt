@@ -7,15 +7,15 @@ use Rattle.pc_caps.specs.declared.capability.Cap.{Cap}
 use Rattle.pc_caps.specs.declared.capability.Cap.TheVariants as cap
 use Rattle.pc_tree.specs.declared.written_names.TypeRef.{TypeRef}
 use Rattle.pc_tree.specs.Tree as t
-use Rattle.pc_lists.specs.Texts.{Text}
-use Rattle.pc_members.specs.Words.{built_in_names, entity_names}
-use Rattle.pc_tree.specs.BuiltIn.{first_own}
+use Rattle.pc_lists.specs.Lists.{Text}
+use Rattle.pc_members.specs.Members.{built_in_names, entity_names}
+use Rattle.pc_tree.specs.Kinds.{first_own}
 use Rattle.pc_members.proofs.Differences.{same_text}
 use Rattle.pc_lists.proofs.Bools.{true_false}
 use Rattle.pc_body_spec.specs.Scopes.{KnownEntity}
-use Rattle.pc_body_spec.specs.Slots.{type_of_name, cap_or}
-use Rattle.pc_file_spec.specs.Known.{known_of}
-use Rattle.pc_file_spec.specs.Signatures.{or_value, type_in}
+use Rattle.pc_body_spec.specs.Fold.{type_of_name}
+use Rattle.pc_body_spec.specs.Slots.{cap_or}
+use Rattle.pc_file_spec.specs.Cores.{known_of, or_value, type_in}
 use Rattle.pc_file_spec.proofs.Owners.{known_names, known_count}
 use Rattle.pc_file_spec.proofs.Collects.{IsType}
 

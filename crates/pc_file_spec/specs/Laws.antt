@@ -1,24 +1,14 @@
 -- Laws of the cores of files.
 use Rattle.std.specs.Prelude.{◌≡◌, ◌⊎◌, ◌↔◌, ℕ, ◌+◌, ◌<◌, ◌≤◌, ◌^◌, true, false, [], ◌∷◌, ◌++◌, map, length, Some, slice_get, codes}
 use Rattle.pc_caps.specs.Limits.{node_limit, program_slot_limit}
-use Rattle.pc_core.specs.CoreData.{CoreData}
-use Rattle.pc_core.specs.Formed.{Formed}
-use Rattle.pc_lists.specs.Places.{Has, Differ}
-use Rattle.pc_tree.specs.Kinds.{is_abstract}
-use Rattle.pc_tree.specs.Tree as t
-use Rattle.pc_names.specs.declared.fault.NameFault.{NameFault}
-use Rattle.pc_lists.specs.Texts.{Text}
-use Rattle.pc_members.specs.Chains.{LeadsInFile}
-use Rattle.pc_tree.specs.BuiltIn.{first_own}
-use Rattle.pc_names.specs.Names.{NamesData, Collected}
-use Rattle.pc_members.specs.Words.{field_texts, method_texts}
+use Rattle.pc_core.specs.{CoreData.CoreData, Formed.Formed}
+use Rattle.pc_lists.specs.Lists.{Has, Differ, Text}
+use Rattle.pc_tree.specs.{Kinds.is_abstract, Kinds.first_own, declared.written_names.Name.Name}
+use Rattle.pc_names.specs.{declared.fault.NameFault.NameFault, Faults.NamesData, Faults.Collected}
+use Rattle.pc_members.specs.{Members.LeadsInFile, Members.field_texts, Members.method_texts, Members.Member, Members.written, Members.without_body, Members.is_takable, Members.own_texts, Members.member_text, MemberLists.trait_methods, MemberLists.abstract_methods, MemberLists.members}
 use Rattle.pc_body_spec.specs.Texts.{entities_texts}
-use Rattle.pc_tree.specs.declared.written_names.Name.{Name}
-use Rattle.pc_members.specs.Members.{Member, written, without_body, is_takable, own_texts, member_text}
-use Rattle.pc_members.specs.MemberLists.{trait_methods, abstract_methods, members}
-use Rattle.pc_file_spec.specs.Known.{texts_of_file}
-use Rattle.pc_file_spec.specs.Cores.{Stands, IsElabFault}
-use Rattle.pc_file_spec.specs.Order.{NamesInOrder, InPlace}
+use Rattle.pc_file_spec.specs.{Cores.texts_of_file, Cores.Stands, Cores.IsElabFault, Order.NamesInOrder, Order.InPlace}
+use Rattle.pc_tree.specs.Tree as t
 
 -- A file whose names have no fault, and which does not have too many texts, has a core, or a fault of its members.
 abbrev pub CoreOrFault : Type 0

@@ -1,9 +1,9 @@
 -- Properties of the tree of a file that a text spells.
 use Rattle.std.specs.Prelude.{◌≡◌, true}
 use Rattle.pc_tree.specs.Kinds.{may_stand, MayHaveFields, HasBody}
-use Rattle.pc_tree.specs.Tree as t
-use Rattle.pc_lists.specs.Places.{Has, Ascends}
+use Rattle.pc_lists.specs.Lists.{Has, Ascends}
 use Rattle.pc_body_spec.specs.Places.{body_places, initial_places}
+use Rattle.pc_tree.specs.Tree as t
 
 -- The names in the initial values and in each body are in the order of the text.
 abbrev pub NamesInOrder : t.File → Type 0

@@ -2,10 +2,9 @@
 use Rattle.std.proofs.Common.{◌≡◌, ◌≤◌, ℕ, zero, suc, ◌+◌, ◌*◌, List, [], ◌∷◌, ◌++◌, map, refl, sym, ap, ◌∙◌, arith}
 use Rattle.std.specs.List.{range_with_len}
 use Rattle.std.proofs.lemmas.List.FromFn.{map-range_with_len_more}
-use Rattle.pc_sched.specs.Limits.{turn_limit}
-use Rattle.pc_sched.specs.Schedules.{total}
+use Rattle.pc_sched.specs.Schedules.{turn_limit, total}
 use Rattle.pc_sched.specs.declared.turns.Turn.{Turn}
-use Rattle.pc_gen.specs.Schedule.{own_turns, schedule}
+use Rattle.pc_gen.specs.Program.{own_turns, schedule}
 
 total_append : (ts us : List Turn) → total (ts ++ us) ≡ total ts + total us
 total_append [] us = omega arith

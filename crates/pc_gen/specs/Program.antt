@@ -8,22 +8,118 @@
 --       _n
 --
 -- After it come `actor Work0` and so on, `size` of them, each with a task drawn for it, and then `Main`.
-use Rattle.std.specs.Prelude.{ℕ, suc, ◌+◌, ◌*◌, ◌==◌, true, false, if◌then◌else◌, List, [], ◌∷◌, ◌++◌, map, Some, None, codes}
-use Rattle.std.specs.List.{range_with_len}
-use Rattle.std.specs.Fmt.{decimal}
-use Rattle.pc_caps.specs.declared.capability.Cap.TheVariants as cap
+use Rattle.std.specs.Prelude.{ℕ, Bool, false, List, [], ◌∷◌, Option, Some, None, codes, suc, ◌+◌, ◌*◌, ◌==◌, true, if◌then◌else◌, ◌++◌, map}
+use Rattle.std.specs.{List.range_with_len, Fmt.decimal}
+use Rattle.pc_caps.specs.{declared.span.Span.Span, declared.capability.Cap.Cap}
+use Rattle.pc_tree.specs.{declared.written_names.Name.Name, declared.written_names.TypeRef.TypeRef, declared.file.ParamDef.ParamDef, declared.kinds.Op.Op, declared.kinds.MethodWord.MethodWord}
+use Rattle.pc_gen.specs.declared.task.Task.{Task}
+use Rattle.pc_draws.specs.Draws.{draw}
+use Rattle.pc_sched.specs.declared.turns.Turn.{Turn}
 use Rattle.pc_tree.specs.Tree as t
-use Rattle.pc_tree.specs.declared.written_names.TypeRef.{TypeRef}
-use Rattle.pc_tree.specs.declared.file.ParamDef.{ParamDef}
-use Rattle.pc_tree.specs.declared.kinds.Op.TheVariants as op
 use Rattle.pc_tree.specs.declared.kinds.EntityKind.TheVariants as kind
 use Rattle.pc_tree.specs.declared.kinds.MethodWord.TheVariants as word
-use Rattle.pc_gen.specs.declared.task.Task.{Task}
+use Rattle.pc_caps.specs.declared.capability.Cap.TheVariants as cap
+use Rattle.pc_tree.specs.declared.kinds.Op.TheVariants as op
 use Rattle.pc_gen.specs.declared.task.Task.TheVariants as task
-use Rattle.pc_draws.specs.Draws.{draw}
-use Rattle.pc_gen.specs.Parts.{placeless_name, type_reference, variable_expression, type_expression, number, consume_expression, operator_expression}
-use Rattle.pc_gen.specs.Parts.{assign_expression, dot, arguments_suffix, chained, call_expression, construct, sequence_of, alone, local, choice, turns}
-use Rattle.pc_gen.specs.Parts.{recover_expression, param_definition, method_definition, create, actor}
+
+-- ---- parts of a generated tree
+
+-- Each is named as it is written. A generated tree is in no text: all its spans are empty and at 0.
+abbrev pub without_place : Span
+without_place = record { start = 0; end = 0 }
+
+abbrev pub placeless_name : List ℕ → Name
+placeless_name text = record { text = text; span = without_place }
+
+-- `C` or `C k`
+abbrev pub type_reference : List ℕ → Option Cap → TypeRef
+type_reference c k = record { name = placeless_name c; cap = k; hat = false }
+
+-- ---- expressions
+
+-- `x`
+abbrev pub variable_expression : List ℕ → t.Expr
+variable_expression x = t.name (placeless_name x)
+
+-- `C`
+abbrev pub type_expression : List ℕ → t.Expr
+type_expression c = t.type_name (placeless_name c)
+
+-- `5`
+abbrev pub number : ℕ → t.Expr
+number n = t.number n without_place
+
+-- `consume x`
+abbrev pub consume_expression : List ℕ → t.Expr
+consume_expression x = t.consume (placeless_name x) without_place
+
+-- `a + b`
+abbrev pub operator_expression : Op → t.Expr → t.Expr → t.Expr
+operator_expression op a b = t.infix_ op (t.exprs_of (a ∷ b ∷ [])) without_place
+
+-- `x = e`
+abbrev pub assign_expression : List ℕ → t.Expr → t.Expr
+assign_expression x e = t.assign (variable_expression x) e without_place
+
+-- `.m` and `(a, b)`
+abbrev pub dot : List ℕ → t.Suffix
+dot m = t.dot (placeless_name m)
+
+abbrev pub arguments_suffix : List t.Expr → t.Suffix
+arguments_suffix es = t.args (t.exprs_of es) without_place
+
+abbrev pub chained : t.Expr → List t.Suffix → t.Expr
+chained e ss = t.chain e (t.suffixes_of ss) without_place
+
+-- `x.m(a, b)`
+abbrev pub call_expression : List ℕ → List ℕ → List t.Expr → t.Expr
+call_expression x m es = chained (variable_expression x) (dot m ∷ arguments_suffix es ∷ [])
+
+-- `C(a, b)`
+abbrev pub construct : List ℕ → List t.Expr → t.Expr
+construct c es = chained (type_expression c) (arguments_suffix es ∷ [])
+
+-- ---- sequences
+
+abbrev pub sequence_of : List t.Item → t.Seq
+sequence_of is = t.seq (t.items_of is) without_place
+
+abbrev pub alone : t.Expr → t.Seq
+alone e = sequence_of (t.plain e ∷ [])
+
+-- `let x: T = e`, or `var` in place of `let`
+abbrev pub local : Bool → List ℕ → TypeRef → t.Expr → t.Item
+local fixed x ty e = t.local fixed (placeless_name x) (Some ty) e without_place
+
+-- `if c then a else b end`
+abbrev pub choice : t.Seq → t.Seq → t.Seq → t.Expr
+choice c a b = t.if_ (t.arms_of (t.arm_of c a without_place ∷ [])) (t.other b) without_place
+
+-- `while c do a end`
+abbrev pub turns : t.Seq → t.Seq → t.Expr
+turns c a = t.while_ c a without_place
+
+-- `recover k a end`
+abbrev pub recover_expression : Cap → t.Seq → t.Expr
+recover_expression k a = t.recover (Some k) a without_place
+
+-- ---- members and entities
+
+-- `x: T`
+abbrev pub param_definition : List ℕ → TypeRef → ParamDef
+param_definition x ty = record { name = placeless_name x; ty = ty }
+
+abbrev pub method_definition : MethodWord → Option Cap → List ℕ → List ParamDef → Option TypeRef → t.Seq → t.Method
+method_definition begin k name params result body =
+    record { word = begin; cap = k; name = placeless_name name; params = params; result = result; body = Some body }
+
+-- `new create(x: T) => body`
+abbrev pub create : List ParamDef → t.Seq → t.Method
+create params body = method_definition word.New None (codes "create") params None body
+
+-- an actor without fields, with one method
+abbrev pub actor : List ℕ → t.Method → t.Entity
+actor name m = record { kind = kind.Actor; cap = None; name = placeless_name name; provides = []; fields = []; methods = m ∷ [] }
 
 -- ---- the class Cell
 
@@ -138,3 +234,14 @@ main = actor (codes "Main") (create (param_definition (codes "env") (type_refere
 
 abbrev pub program : (seed size : ℕ) → t.File
 program seed size = record { entities = cell ∷ (workers seed size ++ main ∷ []) }
+
+-- ---- the schedule by which a generated program is run
+
+-- 400 turns of the actor after this number
+abbrev pub own_turns : ℕ → Turn
+own_turns i = record { actor = i + 1; times = 400 }
+
+-- 400 turns each of `Main`, which is actor 1, and of the workers after it, in order; and then the same number of turns
+-- in all of actor 0, the output stream.
+abbrev pub schedule : ℕ → List Turn
+schedule size = map own_turns (range_with_len 0 (size + 1)) ++ record { actor = 0; times = size + 1 } ∷ []

@@ -4,7 +4,6 @@ ghost use Rattle.pc_caps.specs.declared.capability.Cap.TheVariants as cap;
 ghost use Rattle.pc_tree.specs.Tree as t;
 ghost use Rattle.pc_tree.specs.View.{expr_view, item_view, suffix_view, seq_view};
 ghost use Rattle.pc_tree.specs.declared.kinds.Op.TheVariants as op;
-ghost use Rattle.pc_gen.specs.Parts as part;
 ghost use Rattle.pc_gen.specs.Program as spec;
 
 use crate::parts::{
@@ -33,14 +32,14 @@ fn value(alloc: Global, name: &[u8]) -> Result<Expr, AllocError>
 
 // `()`
 fn no_arguments(alloc: Global) -> Suffix
-    ensures { suffix_view result ≡ part.arguments_suffix [] }
+    ensures { suffix_view result ≡ spec.arguments_suffix [] }
 {
     arguments(List::new(alloc))
 }
 
 // `.value().string()`
 fn shown(alloc: Global) -> Result<List<Suffix>, AllocError>
-    ensures { IfOk result (λ ss. map suffix_view ss ≡ part.dot (codes "value") ∷ part.arguments_suffix [] ∷ part.dot (codes "string") ∷ part.arguments_suffix [] ∷ []) }
+    ensures { IfOk result (λ ss. map suffix_view ss ≡ spec.dot (codes "value") ∷ spec.arguments_suffix [] ∷ spec.dot (codes "string") ∷ spec.arguments_suffix [] ∷ []) }
 {
     let value = dot(alloc, b"value")?;
     let string = dot(alloc, b"string")?;
@@ -63,7 +62,7 @@ pub fn tell(alloc: Global, name: &[u8]) -> Result<Expr, AllocError>
 
 // `c.value() > k`
 fn holds_more(alloc: Global, addend: u64) -> Result<Seq, AllocError>
-    ensures { IfOk result (λ seq. seq_view seq ≡ part.alone (part.operator_expression op.Gt (spec.value_expression (codes "c")) (part.number addend))) }
+    ensures { IfOk result (λ seq. seq_view seq ≡ spec.alone (spec.operator_expression op.Gt (spec.value_expression (codes "c")) (spec.number addend))) }
 {
     let held = value(alloc, b"c")?;
     let more = operation(alloc, Op::Gt, held, number(addend))?;
@@ -72,7 +71,7 @@ fn holds_more(alloc: Global, addend: u64) -> Result<Seq, AllocError>
 
 // `c.add(n)`, alone
 fn adding(alloc: Global, addend: u64) -> Result<Seq, AllocError>
-    ensures { IfOk result (λ seq. seq_view seq ≡ part.alone (spec.add_expression (codes "c") (part.number addend))) }
+    ensures { IfOk result (λ seq. seq_view seq ≡ spec.alone (spec.add_expression (codes "c") (spec.number addend))) }
 {
     let adds = add(alloc, b"c", number(addend))?;
     alone(alloc, adds)
@@ -98,7 +97,7 @@ fn turn_and(alloc: Global, addend: u64) -> Result<Expr, AllocError>
 
 // `c.add(t + k); t = t + 1`
 fn one_turn(alloc: Global, addend: u64) -> Result<List<Item>, AllocError>
-    ensures { IfOk result (λ items. map item_view items ≡ t.plain (spec.add_expression (codes "c") (spec.turn_and addend)) ∷ t.plain (part.assign_expression (codes "t") (spec.turn_and 1)) ∷ []) }
+    ensures { IfOk result (λ items. map item_view items ≡ t.plain (spec.add_expression (codes "c") (spec.turn_and addend)) ∷ t.plain (spec.assign_expression (codes "t") (spec.turn_and 1)) ∷ []) }
 {
     let amount = turn_and(alloc, addend)?;
     let adds = add(alloc, b"c", amount)?;
@@ -134,14 +133,14 @@ fn push_local(
     typed: ParamDef,
     value: Expr,
 ) -> Result<(), AllocError>
-    ensures { OnOk result (map item_view items.new ≡ map item_view items.old ++ t.local fixed typed.name (Some typed.ty) (expr_view value) part.without_place ∷ []) }
+    ensures { OnOk result (map item_view items.new ≡ map item_view items.old ++ t.local fixed typed.name (Some typed.ty) (expr_view value) spec.without_place ∷ []) }
 {
     items.push(local(fixed, typed, value))
 }
 
 // `e.add(v)`
 fn add_held(alloc: Global) -> Result<Expr, AllocError>
-    ensures { IfOk result (λ e. expr_view e ≡ spec.add_expression (codes "e") (part.variable_expression (codes "v"))) }
+    ensures { IfOk result (λ e. expr_view e ≡ spec.add_expression (codes "e") (spec.variable_expression (codes "v"))) }
 {
     let amount = variable(alloc, b"v")?;
     add(alloc, b"e", amount)
@@ -149,7 +148,7 @@ fn add_held(alloc: Global) -> Result<Expr, AllocError>
 
 // `let e: Cell ref = Cell; e.add(v)`, after other items
 fn push_copy(alloc: Global, items: &mut List<Item>) -> Result<(), AllocError>
-    ensures { OnOk result (map item_view items.new ≡ map item_view items.old ++ part.local true (codes "e") (part.type_reference (codes "Cell") (Some cap.Ref)) (part.type_expression (codes "Cell")) ∷ t.plain (spec.add_expression (codes "e") (part.variable_expression (codes "v"))) ∷ []) }
+    ensures { OnOk result (map item_view items.new ≡ map item_view items.old ++ spec.local true (codes "e") (spec.type_reference (codes "Cell") (Some cap.Ref)) (spec.type_expression (codes "Cell")) ∷ t.plain (spec.add_expression (codes "e") (spec.variable_expression (codes "v"))) ∷ []) }
 {
     let typed = param(alloc, b"e", b"Cell", Some(Cap::Ref))?;
     let made = entity(alloc, b"Cell")?;

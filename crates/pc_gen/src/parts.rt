@@ -2,7 +2,7 @@
 ghost use Rattle.std.specs.Prelude.{◌≡◌, [], ◌∷◌, map, Some, IfOk};
 ghost use Rattle.pc_tree.specs.View.{expr_view, suffix_view, item_view, arm_view, seq_view, method_view, entity_view};
 ghost use Rattle.pc_tree.specs.Tree as t;
-ghost use Rattle.pc_gen.specs.Parts as spec;
+ghost use Rattle.pc_gen.specs.Program as spec;
 
 use pc_caps::{Cap, List, ShortBytes, Span};
 use pc_tree::{

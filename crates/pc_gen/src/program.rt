@@ -3,7 +3,6 @@ ghost use Rattle.std.specs.Prelude.{◌≡◌, ◌++◌, [], ◌∷◌, ◌<◌,
 ghost use Rattle.pc_tree.specs.View.{expr_view, item_view, field_view, method_view, entity_view, file_view};
 ghost use Rattle.pc_tree.specs.declared.kinds.Op.TheVariants as op;
 ghost use Rattle.pc_draws.specs.Draws.{next, high};
-ghost use Rattle.pc_gen.specs.Parts as part;
 ghost use Rattle.pc_gen.specs.Program as spec;
 
 use crate::bodies::{push_plain, push_task, tell};
@@ -36,7 +35,7 @@ fn count_field(alloc: Global) -> Result<FieldDef, AllocError>
 // `_n + k`
 fn sum(alloc: Global) -> Result<Expr, AllocError>
     ensures { IfOk result
-        (λ e. expr_view e ≡ part.operator_expression op.Add (part.variable_expression (codes "_n")) (part.variable_expression (codes "k"))) }
+        (λ e. expr_view e ≡ spec.operator_expression op.Add (spec.variable_expression (codes "_n")) (spec.variable_expression (codes "k"))) }
 {
     let left = variable(alloc, b"_n")?;
     let mut terms = one(alloc, left)?;
@@ -129,7 +128,7 @@ fn worker_params(alloc: Global) -> Result<List<ParamDef>, AllocError>
 
 // `out, consume c`
 fn handed(alloc: Global) -> Result<List<Expr>, AllocError>
-    ensures { IfOk result (λ es. map expr_view es ≡ part.variable_expression (codes "out") ∷ part.consume_expression (codes "c") ∷ []) }
+    ensures { IfOk result (λ es. map expr_view es ≡ spec.variable_expression (codes "out") ∷ spec.consume_expression (codes "c") ∷ []) }
 {
     let out = variable(alloc, b"out")?;
     let mut args = one(alloc, out)?;
@@ -179,7 +178,7 @@ fn work_create(
     addend: u64,
 ) -> Result<MethodDef, AllocError>
     requires { index < size }
-    ensures { IfOk result (λ m. method_view m ≡ part.create spec.worker_params (part.sequence_of (spec.work_items size index task addend))) }
+    ensures { IfOk result (λ m. method_view m ≡ spec.create spec.worker_params (spec.sequence_of (spec.work_items size index task addend))) }
 {
     let items = work_items(alloc, size, index, task, addend)?;
     let params = worker_params(alloc)?;
@@ -231,7 +230,7 @@ fn push_workers(
 
 // `env.out`
 fn stream(alloc: Global) -> Result<Expr, AllocError>
-    ensures { IfOk result (λ e. expr_view e ≡ part.chained (part.variable_expression (codes "env")) (part.dot (codes "out") ∷ [])) }
+    ensures { IfOk result (λ e. expr_view e ≡ spec.chained (spec.variable_expression (codes "env")) (spec.dot (codes "out") ∷ [])) }
 {
     let out = dot(alloc, b"out")?;
     let suffixes = one(alloc, out)?;
@@ -241,7 +240,7 @@ fn stream(alloc: Global) -> Result<Expr, AllocError>
 
 // `Work0(env.out, Cell)`
 fn begins(alloc: Global) -> Result<Expr, AllocError>
-    ensures { IfOk result (λ e. expr_view e ≡ part.construct (codes "Work0") (part.chained (part.variable_expression (codes "env")) (part.dot (codes "out") ∷ []) ∷ part.type_expression (codes "Cell") ∷ [])) }
+    ensures { IfOk result (λ e. expr_view e ≡ spec.construct (codes "Work0") (spec.chained (spec.variable_expression (codes "env")) (spec.dot (codes "out") ∷ []) ∷ spec.type_expression (codes "Cell") ∷ [])) }
 {
     let out = stream(alloc)?;
     let mut args = one(alloc, out)?;

@@ -1,8 +1,7 @@
 //! The schedule by which a generated program is run.
 ghost use Rattle.std.specs.Prelude.{◌≡◌, ◌≤◌, IfOk};
-ghost use Rattle.pc_gen.specs.Schedule as spec;
-ghost use Rattle.pc_sched.specs.Limits.{turn_limit};
-ghost use Rattle.pc_sched.specs.Schedules.{total};
+ghost use Rattle.pc_gen.specs.Program as spec;
+ghost use Rattle.pc_sched.specs.Schedules.{turn_limit, total};
 
 use pc_caps::List;
 use pc_sched::Turn;

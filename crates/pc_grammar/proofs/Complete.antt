@@ -10,9 +10,7 @@ use Rattle.pc_token.specs.declared.words.Word.{Word}
 use Rattle.pc_token.specs.declared.words.Word.TheVariants as w
 use Rattle.pc_token.specs.declared.signs.Sign.TheVariants as s
 use Rattle.pc_token.specs.Asking.{is_sign, is_word}
-use Rattle.pc_grammar.specs.Spells.{IsNext, IsSome, is_atom, is_term, is_infix, is_place, span_from_to, over, Spells, SpellsTerms, SpellsMoreTerms}
-use Rattle.pc_grammar.specs.Spells.{SpellsSuffix, SpellsSuffixes, SpellsArgs, SpellsMoreArgs, SpellsArm, SpellsMoreArms, SpellsOther, SpellsSeq, SpellsItems}
-use Rattle.pc_grammar.specs.Spells.{SpellsMoreItems, SpellsItem}
+use Rattle.pc_grammar.specs.Spells.{IsNext, IsSome, is_atom, is_term, is_infix, is_place, span_from_to, over, Spells, SpellsTerms, SpellsMoreTerms, SpellsSuffix, SpellsSuffixes, SpellsArgs, SpellsMoreArgs, SpellsArm, SpellsMoreArms, SpellsOther, SpellsSeq, SpellsItems, SpellsMoreItems, SpellsItem}
 use Rattle.pc_grammar.specs.Reading.{Parser, Inner, many, all, next_item, after, at, begins_suffix, begins_item, is_op, arm, arg_list, other, suffix, atom, term, item, infix_in, expr_in, seq_in, seq_of, infix_of, postfix, chain_of, inner, last_suffix, maybe_cap, if_}
 use Rattle.pc_grammar.proofs.Levels.{inner_seq, inner_expr, inner_term}
 use Rattle.pc_grammar.proofs.Follow.{Stops_chain, Stops_infix, Stops_expr, Stops_seq, kind_of_sign, kind_of_word, close_stops, then_stops, elseif_stops, else_stops, do_stops, end_stops, comma_stops, semicolon_stops, assign_stops, assign_no_cap, assign_no_colon, op_stops, item_stops, item_no_close, item_no_cap, to_infix, to_chain, to_expr, after_op, after_no_op, after_sign, after_no_sign, at_one, at_none, open_no_dot, next_semicolon, next_first, next_none, end_no_else, else_no_elseif, close_no_comma}

@@ -7,8 +7,7 @@ use Rattle.pc_token.specs.declared.kinds.TokenKind.TheVariants as k
 use Rattle.pc_token.specs.declared.words.Word.TheVariants as w
 use Rattle.pc_token.specs.declared.signs.Sign.TheVariants as s
 use Rattle.pc_token.specs.Asking.{is_sign, is_word, same_sign}
-use Rattle.pc_grammar.specs.Asking.{op_of, cap_of, local_word}
-use Rattle.pc_grammar.specs.Spells.{SpellsInfix}
+use Rattle.pc_grammar.specs.Spells.{op_of, cap_of, local_word, SpellsInfix}
 use Rattle.pc_grammar.specs.SpellsFile.{IsDoc, SpellsValue, SpellsField, SpellsFields}
 use Rattle.pc_grammar.specs.Reading.{pure, peek, take_if, and_then, many, all, at, infix_, begins_suffix}
 use Rattle.pc_grammar.specs.ReadingFile.{is_doc, value, field, begins_field, some_field}

@@ -12,7 +12,7 @@ use Rattle.pc_token.specs.declared.kinds.TokenKind.TheVariants as k
 use Rattle.pc_token.specs.declared.words.Word.TheVariants as w
 use Rattle.pc_token.specs.declared.signs.Sign.TheVariants as s
 use Rattle.pc_token.specs.Asking.{is_sign, is_word, same_sign, same_word}
-use Rattle.pc_grammar.specs.Asking.{op_of, cap_of}
+use Rattle.pc_grammar.specs.Spells.{op_of, cap_of}
 use Rattle.pc_grammar.specs.SpellsFile.{SpellsMoreNames, SpellsNames, SpellsAlone, SpellsBracketed, SpellsProvides, entity_word, SpellsFields, SpellsEntity, SpellsMoreEntities, SpellsFile}
 use Rattle.pc_grammar.specs.Reading.{pure, ◌>>◌, peek, take_if, and_then, many, all, after, at, type_name, begins_suffix, begins_item}
 use Rattle.pc_grammar.specs.ReadingFile.{is_doc, is_end, type_names, provided, provides, entity_of, entity, begins_entity, begins_field, some_field, file}

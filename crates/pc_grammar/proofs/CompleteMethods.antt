@@ -14,8 +14,7 @@ use Rattle.pc_token.specs.declared.kinds.TokenKind.TheVariants as k
 use Rattle.pc_token.specs.declared.words.Word.TheVariants as w
 use Rattle.pc_token.specs.declared.signs.Sign.TheVariants as s
 use Rattle.pc_token.specs.Asking.{is_sign, is_word, same_sign, same_word}
-use Rattle.pc_grammar.specs.Asking.{op_of, cap_of}
-use Rattle.pc_grammar.specs.Spells.{SpellsCap}
+use Rattle.pc_grammar.specs.Spells.{op_of, cap_of, SpellsCap}
 use Rattle.pc_grammar.specs.SpellsFile.{SpellsReturns, SpellsBody, method_word, MayReturn, SpellsMethod, SpellsMethods}
 use Rattle.pc_grammar.specs.Reading.{pure, peek, take_if, many, all, at, seq, begins_suffix, begins_item, kind_begins}
 use Rattle.pc_grammar.specs.ReadingFile.{kind_is_doc, is_doc, written_body, maybe_body, cap_if, method_result, method_of, word_in, begins_method, some_method, begins_field}

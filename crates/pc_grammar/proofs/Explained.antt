@@ -3,8 +3,7 @@
 -- of the latter.
 use Rattle.std.proofs.Common.{◌≡◌, ℕ, zero, suc, ◌-◌, ◌<◌, ◌≤◌, max, Bool, true, false, List, [], ◌∷◌, ◌++◌, length, Option, Some, None, Ok, Err, refl, sym, ap, ◌∙◌, subst, arith, cond, append_assoc, append-nil}
 use Rattle.pc_token.specs.declared.kinds.Token.{Token}
-use Rattle.pc_grammar.specs.Reading.{ReadingFault, unexpected, too_deep, ReadingOutcome, Parser, and_then, pure, refuse, ◌>>=◌, take_if, many, many_step}
-use Rattle.pc_grammar.specs.Reading.{all, deeper}
+use Rattle.pc_grammar.specs.Reading.{ReadingFault, unexpected, too_deep, ReadingOutcome, Parser, and_then, pure, refuse, ◌>>=◌, take_if, many, many_step, all, deeper}
 
 -- within the levels, or of any depth
 abbrev pub Fits : Bool → ℕ → ℕ → Type 0

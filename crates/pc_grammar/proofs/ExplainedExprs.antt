@@ -10,8 +10,7 @@ use Rattle.pc_token.specs.declared.kinds.Token.{Token}
 use Rattle.pc_token.specs.declared.words.Word.TheVariants as w
 use Rattle.pc_token.specs.declared.signs.Sign.TheVariants as s
 use Rattle.pc_token.specs.Asking.{is_sign, is_word}
-use Rattle.pc_grammar.specs.Asking.{op_of, same_op}
-use Rattle.pc_grammar.specs.Spells.{no_span, span_from_to, over, is_term, is_infix, is_place, IsMore, Spells, SpellsTerms, SpellsMoreTerms}
+use Rattle.pc_grammar.specs.Spells.{op_of, same_op, no_span, span_from_to, over, is_term, is_infix, is_place, IsMore, Spells, SpellsTerms, SpellsMoreTerms}
 use Rattle.pc_grammar.specs.Reading.{Inner, pure, ◌>>=◌, peek, after, is_op, is_this, name, consume, negation, postfix, term, infix_in, infix_with, infix_by, infix_of, first_expr, last_expr, becomes, expr_by, expr_in, expr_with}
 use Rattle.pc_grammar.proofs.Follow.{after_op}
 use Rattle.pc_grammar.proofs.Lists.{exprs_list}

@@ -11,7 +11,7 @@ use Rattle.pc_token.specs.declared.kinds.TokenKind.TheVariants as k
 use Rattle.pc_token.specs.declared.words.Word.TheVariants as w
 use Rattle.pc_token.specs.declared.signs.Sign.TheVariants as s
 use Rattle.pc_token.specs.Asking.{is_sign, is_word}
-use Rattle.pc_grammar.specs.Asking.{local_word}
+use Rattle.pc_grammar.specs.Spells.{local_word}
 use Rattle.pc_grammar.specs.SpellsFile.{SpellsValue, SpellsField, SpellsFields}
 use Rattle.pc_grammar.specs.Reading.{pure, ◌>>=◌, ◌>>◌, peek, take_if, all, at, name, infix_, inner}
 use Rattle.pc_grammar.specs.ReadingFile.{maybe_doc, value, field, begins_field, some_field, fields}

@@ -9,10 +9,8 @@ use Rattle.pc_token.specs.declared.kinds.TokenKind.TheVariants as k
 use Rattle.pc_token.specs.declared.words.Word.TheVariants as w
 use Rattle.pc_token.specs.declared.signs.Sign.TheVariants as s
 use Rattle.pc_token.specs.Asking.{is_sign, is_word}
-use Rattle.pc_grammar.specs.Asking.{local_word}
-use Rattle.pc_grammar.specs.Spells.{no_span, span_from_to, over, IsNext, Spells, SpellsTyped, SpellsItems, SpellsMoreItems}
-use Rattle.pc_grammar.specs.Reading.{ReadingFault, unexpected, too_deep, ReadingOutcome, Parser, Inner, pure, ◌>>=◌, ◌>>◌, peek, take_if, next_item}
-use Rattle.pc_grammar.specs.Reading.{begins_item, name, maybe_type, local, item, expr_in, seq_in, seq_with, seq_of, first_item, last_item, inner}
+use Rattle.pc_grammar.specs.Spells.{local_word, no_span, span_from_to, over, IsNext, Spells, SpellsTyped, SpellsItems, SpellsMoreItems}
+use Rattle.pc_grammar.specs.Reading.{ReadingFault, unexpected, too_deep, ReadingOutcome, Parser, Inner, pure, ◌>>=◌, ◌>>◌, peek, take_if, next_item, begins_item, name, maybe_type, local, item, expr_in, seq_in, seq_with, seq_of, first_item, last_item, inner}
 use Rattle.pc_grammar.proofs.First.{First, Item, first_item as item_first}
 use Rattle.pc_grammar.proofs.Lists.{items_list}
 use Rattle.pc_grammar.proofs.Spans.{over_local, items_span}

@@ -4,7 +4,7 @@ use Rattle.std.proofs.lemmas.List.{append_cancel_left}
 use Rattle.pc_tree.specs.Depths.{depth, seq_depth}
 use Rattle.pc_token.specs.declared.kinds.Token.{Token}
 use Rattle.pc_grammar.specs.Spells.{Spells, SpellsInfix, SpellsSeq}
-use Rattle.pc_grammar.specs.Begins.{Begins, BeginsWithin, IsTooDeep}
+use Rattle.pc_grammar.specs.FileAnswers.{Begins, BeginsWithin, IsTooDeep}
 use Rattle.pc_grammar.specs.Parsing.{IsStopped, IsOne, IsRead, IsRefused, read, refused, deep, IsOneAnswer}
 use Rattle.pc_grammar.specs.Laws.{SeqOneAnswer, ExprOneAnswer, InfixOneAnswer}
 use Rattle.pc_grammar.proofs.Right.{seq_one, expr_one}

@@ -5,7 +5,7 @@ use Rattle.pc_tree.specs.Tree as t
 use Rattle.pc_tree.specs.Depths.{depth, seq_depth}
 use Rattle.pc_token.specs.declared.kinds.Token.{Token}
 use Rattle.pc_grammar.specs.Spells.{Spells, SpellsInfix, SpellsSeq}
-use Rattle.pc_grammar.specs.Begins.{Begins, IsTooDeep}
+use Rattle.pc_grammar.specs.FileAnswers.{Begins, IsTooDeep}
 use Rattle.pc_grammar.specs.Parsing.{SpellsNoTree, IsOne}
 use Rattle.pc_grammar.specs.Reading.{ReadingFault, unexpected, too_deep, ReadingOutcome, Parser, seq, expr, infix_, inner}
 use Rattle.pc_grammar.specs.Laws.{ReadsRight, RefusesRight, DeepRight, SeqIsOne, ExprIsOne, SeqReadsRight, SeqRefusesRight, SeqDeepRight, ExprReadsRight, ExprRefusesRight, ExprDeepRight, InfixReadsRight, InfixRefusesRight, InfixDeepRight}

@@ -5,8 +5,7 @@ use Rattle.pc_tree.specs.Tree as t
 use Rattle.pc_tree.specs.declared.kinds.Op.{Op}
 use Rattle.pc_token.specs.declared.kinds.Token.{Token}
 use Rattle.pc_token.specs.declared.words.Word.{Word}
-use Rattle.pc_grammar.specs.Spells.{no_span, first_span, last_span, span_from_to, over, Spells, SpellsTerms, SpellsMoreTerms, SpellsSuffix, SpellsSuffixes}
-use Rattle.pc_grammar.specs.Spells.{SpellsArm, SpellsSeq, SpellsItem, SpellsItems, SpellsMoreItems}
+use Rattle.pc_grammar.specs.Spells.{no_span, first_span, last_span, span_from_to, over, Spells, SpellsTerms, SpellsMoreTerms, SpellsSuffix, SpellsSuffixes, SpellsArm, SpellsSeq, SpellsItem, SpellsItems, SpellsMoreItems}
 use Rattle.pc_grammar.specs.Reading.{last_expr, last_suffix, last_item, first_expr, first_item}
 use Rattle.pc_grammar.proofs.First.{First, IsWord, first_append, first_of, first_item as item_first, first_seq, first_suffix, first_arm}
 use Rattle.pc_grammar.proofs.Lists.{list_of, suffix_list, item_list}

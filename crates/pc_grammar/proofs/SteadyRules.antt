@@ -12,13 +12,8 @@ use Rattle.pc_token.specs.declared.words.Word.TheVariants as w
 use Rattle.pc_token.specs.declared.signs.Sign.{Sign}
 use Rattle.pc_token.specs.declared.signs.Sign.TheVariants as s
 use Rattle.pc_token.specs.Asking.{is_sign, is_word, kind_is_word, same_word}
-use Rattle.pc_grammar.specs.Asking.{op_of, cap_of, local_word}
-use Rattle.pc_grammar.specs.Spells.{is_place, span_from_to}
-use Rattle.pc_grammar.specs.Reading.{ReadingOutcome, Parser, Inner, and_then, pure, refuse, ◌>>=◌, ◌>>◌, peek, take_if, deeper, all, name, name_at}
-use Rattle.pc_grammar.specs.Reading.{type_name, type_name_at, cap_by, maybe_cap, written_type, maybe_type, typed_at, group, arm, if_, while_, recover_, other}
-use Rattle.pc_grammar.specs.Reading.{other_at, leaf, atom, atom_at, args, arg_list, arg_list_at, suffix, suffix_at, postfix, negation, consume, term, term_at}
-use Rattle.pc_grammar.specs.Reading.{infix_in, infix_with, infix_by, becomes, assigns, expr_by, expr_in, expr_with, local, item, item_at, seq_in, seq_with}
-use Rattle.pc_grammar.specs.Reading.{inner, next_item, after, at, is_op, begins_suffix, begins_item, kind_begins}
+use Rattle.pc_grammar.specs.Spells.{op_of, cap_of, local_word, is_place, span_from_to}
+use Rattle.pc_grammar.specs.Reading.{ReadingOutcome, Parser, Inner, and_then, pure, refuse, ◌>>=◌, ◌>>◌, peek, take_if, deeper, all, name, name_at, type_name, type_name_at, cap_by, maybe_cap, written_type, maybe_type, typed_at, group, arm, if_, while_, recover_, other, other_at, leaf, atom, atom_at, args, arg_list, arg_list_at, suffix, suffix_at, postfix, negation, consume, term, term_at, infix_in, infix_with, infix_by, becomes, assigns, expr_by, expr_in, expr_with, local, item, item_at, seq_in, seq_with, inner, next_item, after, at, is_op, begins_suffix, begins_item, kind_begins}
 use Rattle.pc_grammar.proofs.Follow.{after_op}
 use Rattle.pc_grammar.proofs.Local.{rest_of, with_rest, Local, Takes, local_bind, local_pure, local_refuse, local_peek, local_take, local_deeper}
 use Rattle.pc_grammar.proofs.LocalLoops.{OneAhead, after_ahead, at_ahead, item_ahead, local_all, local_same}

@@ -13,12 +13,8 @@ use Rattle.pc_token.specs.declared.words.Word.{Word}
 use Rattle.pc_token.specs.declared.words.Word.TheVariants as w
 use Rattle.pc_token.specs.declared.signs.Sign.TheVariants as s
 use Rattle.pc_token.specs.Asking.{is_sign, is_word}
-use Rattle.pc_grammar.specs.Asking.{op_of, cap_of, local_word, truth_word}
-use Rattle.pc_grammar.specs.Spells.{span_from_to, is_place, IsName, IsTypeName, SpellsCap, SpellsType, SpellsTyped}
-use Rattle.pc_grammar.specs.Reading.{ReadingOutcome, Parser, Inner, and_then, pure, ◌>>=◌, peek, take_if, many, all, next_item, after, at, is_op}
-use Rattle.pc_grammar.specs.Reading.{begins_suffix, name, type_name, cap_by, maybe_cap, written_type, maybe_type, group, arm, if_, while_, recover_, leaf}
-use Rattle.pc_grammar.specs.Reading.{negation, consume, becomes, args, arg_list, other, suffix, atom, atom_at, term, local, item, seq_with, seq_of, infix_in}
-use Rattle.pc_grammar.specs.Reading.{infix_with, infix_of, expr_in, expr_with, postfix, chain_of}
+use Rattle.pc_grammar.specs.Spells.{op_of, cap_of, local_word, truth_word, span_from_to, is_place, IsName, IsTypeName, SpellsCap, SpellsType, SpellsTyped}
+use Rattle.pc_grammar.specs.Reading.{ReadingOutcome, Parser, Inner, and_then, pure, ◌>>=◌, peek, take_if, many, all, next_item, after, at, is_op, begins_suffix, name, type_name, cap_by, maybe_cap, written_type, maybe_type, group, arm, if_, while_, recover_, leaf, negation, consume, becomes, args, arg_list, other, suffix, atom, atom_at, term, local, item, seq_with, seq_of, infix_in, infix_with, infix_of, expr_in, expr_with, postfix, chain_of}
 use Rattle.pc_grammar.proofs.Levels.{one_deeper}
 use Rattle.pc_grammar.proofs.Follow.{Leads, kind_of_word, consume_not_not, var_not_let}
 

@@ -1,16 +1,10 @@
 -- The reading of tokens is right, and nothing is spelled in two ways.
 use Rattle.std.specs.Prelude.{◌≡◌, ℕ, suc, List, [], ◌∷◌, Ok, Err}
 use Rattle.pc_tree.specs.Depths.{depth, seq_depth, file_depth}
-use Rattle.pc_tree.specs.Tree as t
 use Rattle.pc_token.specs.declared.kinds.Token.{Token}
-use Rattle.pc_grammar.specs.Spells.{Spells, SpellsInfix, SpellsSeq}
-use Rattle.pc_grammar.specs.SpellsFile.{SpellsFile}
-use Rattle.pc_grammar.specs.ReadingFile.{file}
-use Rattle.pc_grammar.specs.Begins.{IsTooDeep}
-use Rattle.pc_grammar.specs.Parsing.{IsOne, IsOneAnswer, IsRead, IsRefused}
+use Rattle.pc_grammar.specs.{Spells.Spells, Spells.SpellsInfix, Spells.SpellsSeq, SpellsFile.SpellsFile, ReadingFile.file, FileAnswers.IsTooDeep, FileAnswers.FileAnswer, FileAnswers.IsFileAnswer, FileAnswers.inner_levels, Parsing.IsOne, Parsing.IsOneAnswer, Parsing.IsRead, Parsing.IsRefused, Reading.ReadingOutcome, Reading.Parser, Reading.unexpected, Reading.too_deep, Reading.seq, Reading.expr, Reading.infix_}
+use Rattle.pc_tree.specs.Tree as t
 use Rattle.pc_grammar.specs.FileAnswers as answer
-use Rattle.pc_grammar.specs.FileAnswers.{FileAnswer, IsFileAnswer, inner_levels}
-use Rattle.pc_grammar.specs.Reading.{ReadingOutcome, Parser, unexpected, too_deep, seq, expr, infix_}
 
 module _ {A : Type 0} (spells : A → List Token → Type 0) (depth_of : A → ℕ) (reading : ℕ → Parser A) where
   -- What is read is what the tokens spell, within the levels, and the next token does not continue it.

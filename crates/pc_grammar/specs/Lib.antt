@@ -1,6 +1,4 @@
-pub mod Asking
 pub mod Spells
-pub mod Begins
 pub mod Reading
 pub mod FileAnswers
 pub mod Laws

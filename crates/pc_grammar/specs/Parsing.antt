@@ -2,7 +2,7 @@
 -- tree, and `depth` how many levels a tree opens.
 use Rattle.std.specs.Prelude.{◌≡◌, ℕ, ◌≤◌, List, ◌∷◌, ◌++◌, []}
 use Rattle.pc_token.specs.declared.kinds.Token.{Token}
-use Rattle.pc_grammar.specs.Begins.{Begins, BeginsWithin, IsTooDeep}
+use Rattle.pc_grammar.specs.FileAnswers.{Begins, BeginsWithin, IsTooDeep}
 
 -- the answers for a list of tokens: a tree and the tokens after it, or the tokens from the first unexpected one on, or
 -- from the first one on that opens a level too many

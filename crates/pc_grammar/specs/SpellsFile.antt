@@ -14,24 +14,20 @@
 -- Classes and actors have fields and `new`, actors, traits and interfaces have `be`, and only in classes may a
 -- capability follow `new`. In a trait or an interface a body is optional, elsewhere every method has one. This is the
 -- table of the kinds of entities in `pc_tree`.
-use Rattle.std.specs.Prelude.{◌≡◌, Bool, true, false, List, [], ◌∷◌, ◌++◌, Option, Some, None, ◌⊎◌}
+use Rattle.std.specs.Prelude.{◌≡◌, ◌≤◌, Bool, true, false, List, [], ◌∷◌, ◌++◌, Option, Some, None, ◌⊎◌, ℕ}
+use Rattle.pc_tree.specs.{Depths.file_depth, declared.written_names.Name.Name, declared.written_names.TypeRef.TypeRef, declared.file.ParamDef.ParamDef, declared.kinds.EntityKind.EntityKind, declared.kinds.MethodWord.MethodWord, Kinds.may_have_cap, Kinds.may_stand, Kinds.may_have_method_cap, Kinds.CapIf, Kinds.MayHaveFields, Kinds.HasBody}
+use Rattle.pc_token.specs.{declared.kinds.Token.Token, declared.words.Word.Word, Asking.is_sign, Asking.is_word}
+use Rattle.pc_grammar.specs.Spells.{local_word, IsName, IsTypeName, SpellsCap, SpellsType, SpellsInfix, SpellsSeq}
 use Rattle.pc_tree.specs.Tree as t
-use Rattle.pc_tree.specs.declared.written_names.Name.{Name}
-use Rattle.pc_tree.specs.declared.written_names.TypeRef.{TypeRef}
-use Rattle.pc_tree.specs.declared.file.ParamDef.{ParamDef}
-use Rattle.pc_tree.specs.declared.kinds.EntityKind.{EntityKind}
 use Rattle.pc_tree.specs.declared.kinds.EntityKind.TheVariants as kind
-use Rattle.pc_tree.specs.declared.kinds.MethodWord.{MethodWord}
 use Rattle.pc_tree.specs.declared.kinds.MethodWord.TheVariants as method
-use Rattle.pc_tree.specs.Kinds.{may_have_cap, may_stand, may_have_method_cap, CapIf, MayHaveFields, HasBody}
-use Rattle.pc_token.specs.declared.kinds.Token.{Token}
 use Rattle.pc_token.specs.declared.kinds.TokenKind.TheVariants as k
-use Rattle.pc_token.specs.declared.words.Word.{Word}
 use Rattle.pc_token.specs.declared.words.Word.TheVariants as w
 use Rattle.pc_token.specs.declared.signs.Sign.TheVariants as s
-use Rattle.pc_token.specs.Asking.{is_sign, is_word}
-use Rattle.pc_grammar.specs.Asking.{local_word}
-use Rattle.pc_grammar.specs.Spells.{IsName, IsTypeName, SpellsCap, SpellsType, SpellsInfix, SpellsSeq}
+
+-- How many nested levels may be opened. A body and a field's value are at level 1.
+abbrev pub level_limit : ℕ
+level_limit = 200
 
 -- [doc], which is not kept in the tree
 abbrev pub IsDoc : List Token → Type 0
@@ -164,3 +160,7 @@ SpellsEntities (e ∷ es) ts = (a b : List Token) × (ts ≡ a ++ b) × SpellsEn
 -- the whole list, with its `End`
 abbrev pub SpellsFile : t.File → List Token → Type 0
 SpellsFile f ts = (d a : List Token) × (x : Token) × (ts ≡ d ++ (a ++ x ∷ [])) × IsDoc d × SpellsEntities f.entities a × (x.kind ≡ k.End)
+
+-- These tokens spell the file, which opens no more levels than the limit.
+abbrev pub IsSpelled : t.File → List Token → Type 0
+IsSpelled f ts = SpellsFile f ts × (file_depth f ≤ level_limit)

@@ -1,6 +1,6 @@
 //! Tests on a token by which the parsers decide.
 ghost use Rattle.std.specs.Prelude.{◌≡◌};
-ghost use Rattle.pc_grammar.specs.Asking as spec;
+ghost use Rattle.pc_grammar.specs.Spells as spec;
 ghost use Rattle.pc_grammar.specs.Reading as reading;
 
 use pc_caps::Cap;
@@ -8,7 +8,7 @@ use pc_token::{Sign, Token, TokenKind, Word};
 use pc_tree::Op;
 
 /// The infix operator that a token is. A `-` that is first on its line is no operator (the Pony tutorial).
-#[tactic(auto, unfolding(crate::specs::Asking::op_of))]
+#[tactic(auto, unfolding(crate::specs::Spells::op_of))]
 pub fn op_of(token: &Token) -> Option<Op>
     ensures { result ≡ spec.op_of token.now }
 {
@@ -41,7 +41,7 @@ pub fn op_of(token: &Token) -> Option<Op>
 }
 
 /// The capability named by a token.
-#[tactic(auto, unfolding(crate::specs::Asking::cap_of))]
+#[tactic(auto, unfolding(crate::specs::Spells::cap_of))]
 pub fn cap_of(token: &Token) -> Option<Cap>
     ensures { result ≡ spec.cap_of token.now }
 {

@@ -4,11 +4,10 @@ use Rattle.pc_tree.specs.Tree as t
 use Rattle.pc_tree.specs.Depths.{depth, seq_depth, file_depth}
 use Rattle.pc_token.specs.declared.kinds.Token.{Token}
 use Rattle.pc_grammar.specs.Spells.{Spells, SpellsInfix, SpellsSeq}
-use Rattle.pc_grammar.specs.SpellsFile.{SpellsFile}
-use Rattle.pc_grammar.specs.Begins.{IsTooDeep}
+use Rattle.pc_grammar.specs.SpellsFile.{SpellsFile, level_limit}
+use Rattle.pc_grammar.specs.FileAnswers.{IsTooDeep, FileAnswer, IsFileAnswer}
 use Rattle.pc_grammar.specs.Parsing.{ParseAnswer, read, refused, deep, IsAnswer, IsOneAnswer}
 use Rattle.pc_grammar.specs.FileAnswers as answer
-use Rattle.pc_grammar.specs.FileAnswers.{FileAnswer, IsFileAnswer, level_limit}
 use Rattle.pc_grammar.specs.Laws.{ReadsRight, RefusesRight, DeepRight, AnswersFor}
 use Rattle.pc_grammar.specs.Reading.{unexpected, too_deep, ReadingOutcome, Parser, seq, expr, infix_, inner}
 use Rattle.pc_grammar.specs.ReadingFile.{file}

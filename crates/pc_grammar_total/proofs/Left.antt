@@ -3,8 +3,7 @@
 use Rattle.std.proofs.Common.{◌≡◌, ◌≢◌, ℕ, zero, suc, Bool, true, false, List, [], ◌∷◌, length, Option, Some, None, Ok, Err, refl, sym, subst, cond}
 use Rattle.pc_token.specs.declared.kinds.Token.{Token}
 use Rattle.pc_token.specs.declared.kinds.TokenKind.TheVariants as k
-use Rattle.pc_grammar.specs.Reading.{unexpected, too_deep, ReadingOutcome, Parser, and_then, pure, refuse, ◌>>=◌, peek, take_if, take_any, deeper, many}
-use Rattle.pc_grammar.specs.Reading.{many_step, all, at, after}
+use Rattle.pc_grammar.specs.Reading.{unexpected, too_deep, ReadingOutcome, Parser, and_then, pure, refuse, ◌>>=◌, peek, take_if, take_any, deeper, many, many_step, all, at, after}
 use Rattle.pc_grammar.proofs.ExplainedAtoms.{at_is}
 use Rattle.pc_grammar.proofs.ExplainedChains.{after_is}
 use Rattle.pc_expr.specs.Gives.{EndsWithEnd}

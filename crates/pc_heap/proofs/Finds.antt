@@ -6,9 +6,8 @@ use Rattle.std.proofs.lemmas.Bool.{true≢false}
 use Rattle.std.proofs.lemmas.Option.{none-some, same_Some}
 use Rattle.std.proofs.lemmas.Map.Views.{tells_apart}
 use Rattle.pc_heap.specs.declared.value.Address.{Address}
-use Rattle.pc_heap.specs.Object.{Object}
+use Rattle.pc_heap.specs.Objects.{Object, address_cmp}
 use Rattle.pc_heap.specs.declared.entry.Entry.{Entry}
-use Rattle.pc_heap.specs.Objects.{address_cmp}
 use Rattle.pc_heap.proofs.Maps.{addresses_total, exact_addresses, get_at, entry_at, tied_own}
 use Rattle.pc_heap.specs.Rows.{RowList, numbers_of}
 use Rattle.pc_heap.specs.Entries.{Items, object_of, listed, objects_of, at_number, entry_found, Laid}

@@ -1,12 +1,7 @@
 -- Entries of objects, and the objects that they represent.
 use Rattle.std.specs.Prelude.{◌≡◌, ℕ, ◌+◌, List, [], ◌∷◌, map, take, drop, Option, Some, None, slice_get}
 use Rattle.std.specs.FinMap.{from_entries}
-use Rattle.pc_heap.specs.declared.value.Address.{Address}
-use Rattle.pc_heap.specs.Object.{Object}
-use Rattle.pc_heap.specs.declared.value.Value.{Value}
-use Rattle.pc_heap.specs.declared.entry.Entry.{Entry}
-use Rattle.pc_heap.specs.Objects.{ObjectMap}
-use Rattle.pc_heap.specs.Rows.{RowList, numbers_of}
+use Rattle.pc_heap.specs.{declared.value.Address.Address, Objects.Object, Objects.ObjectMap, declared.value.Value.Value, declared.entry.Entry.Entry, Rows.RowList, Rows.numbers_of}
 
 abbrev pub Items : Type 0
 Items = List (Option Value)

@@ -1,10 +1,7 @@
 -- What a field of an object holds.
 use Rattle.std.specs.Prelude.{ℕ, Option, Some, None, slice_get}
 use Rattle.std.specs.FinMap.{get}
-use Rattle.pc_heap.specs.declared.value.Address.{Address}
-use Rattle.pc_heap.specs.Object.{Object}
-use Rattle.pc_heap.specs.declared.value.Value.{Value}
-use Rattle.pc_heap.specs.Objects.{ObjectMap}
+use Rattle.pc_heap.specs.{declared.value.Address.Address, Objects.Object, Objects.ObjectMap, declared.value.Value.Value}
 
 abbrev pub field_in : Option Object → ℕ → Option (Option Value)
 field_in None field = None

@@ -1,8 +1,7 @@
 -- The bytes of a text.
 use Rattle.std.specs.Prelude.{ℕ, List}
 use Rattle.std.specs.List.{concat}
-use Rattle.pc_heap.specs.declared.text.Form.{Form}
-use Rattle.pc_heap.specs.declared.text.Form.TheVariants.{Whole, Pieces}
+use Rattle.pc_heap.specs.{declared.text.Form.Form, declared.text.Form.TheVariants.Whole, declared.text.Form.TheVariants.Pieces}
 
 abbrev pub bytes_of : Form → List ℕ
 bytes_of (Whole bytes) = bytes

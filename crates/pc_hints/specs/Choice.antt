@@ -1,35 +1,20 @@
 -- What to do about each condition that does not hold.
 use Rattle.std.specs.Prelude.{ℕ, Bool, true, false, not, ◌&&◌, ◌||◌, nat_eq, nat_le, nat_lt, Option, Some, None, slice_get, if◌then◌else◌}
 use Rattle.std.specs.Option.{is_some}
-use Rattle.pc_caps.specs.Order.{is_below}
-use Rattle.pc_caps.specs.Tables.{fits, lift, sendable, unalias}
-use Rattle.pc_caps.specs.declared.capability.Cap.{Cap}
-use Rattle.pc_caps.specs.declared.capability.Cap.TheVariants as cap
-use Rattle.pc_caps.specs.declared.capability.Form.{Form}
-use Rattle.pc_caps.specs.declared.capability.Form.TheVariants as form
+use Rattle.pc_caps.specs.{Computed.is_below, Computed.fits, Tables.lift, Tables.sendable, Tables.unalias, declared.capability.Cap.Cap, declared.capability.Form.Form}
 use Rattle.pc_conditions.specs.declared.condition.Condition.{Condition}
-use Rattle.pc_conditions.specs.declared.condition.Condition.TheVariants as asks
-use Rattle.pc_core.specs.CoreData.{CoreData}
-use Rattle.pc_core.specs.Lookup.{field_named, method_named}
-use Rattle.pc_core.specs.declared.declarations.EntityDef.{EntityDef}
-use Rattle.pc_core.specs.declared.declarations.Method.{Method}
-use Rattle.pc_core.specs.declared.declarations.MethodKind.{MethodKind}
-use Rattle.pc_core.specs.declared.declarations.MethodKind.TheVariants as method
-use Rattle.pc_core.specs.declared.nodes.Node.{Node}
-use Rattle.pc_parts.specs.Parts.{child_role}
-use Rattle.pc_parts.specs.declared.parts.Role.{Role}
-use Rattle.pc_parts.specs.declared.parts.Role.TheVariants as role
-use Rattle.pc_tree.specs.BuiltIn.{bool_entity, first_own, string_entity, u64_entity}
-use Rattle.pc_tree.specs.Kinds.{is_abstract}
-use Rattle.pc_tree.specs.declared.kinds.EntityKind.{EntityKind}
-use Rattle.pc_tree.specs.declared.kinds.EntityKind.TheVariants as kind
+use Rattle.pc_core.specs.{CoreData.CoreData, CoreData.field_named, CoreData.method_named, declared.declarations.EntityDef.EntityDef, declared.declarations.Method.Method, declared.declarations.MethodKind.MethodKind, declared.nodes.Node.Node}
+use Rattle.pc_parts.specs.{Parts.child_role, declared.parts.Role.Role}
+use Rattle.pc_tree.specs.{Kinds.bool_entity, Kinds.first_own, Kinds.string_entity, Kinds.u64_entity, Kinds.is_abstract, declared.kinds.EntityKind.EntityKind}
 use Rattle.pc_words.specs.Scene.{is_param}
-use Rattle.pc_sentences.specs.Sentences.{is_assign}
-use Rattle.pc_sentences.specs.Slots.{lost_slot}
-use Rattle.pc_sentences.specs.Stop.{StopData, child_form, child_type, receiver_child_index}
-use Rattle.pc_hints.specs.Nodes.{called_hat, child_node, is_assigned, is_box_this, is_in_condition, is_new_node, is_tag_actor, is_tag_this, local_cap, old_form, own_method, recovered_slot}
-use Rattle.pc_hints.specs.declared.hint.Hint.{Hint}
-use Rattle.pc_hints.specs.declared.choice.Wanted.{Wanted}
+use Rattle.pc_sentences.specs.{Sentences.is_assign, Slots.lost_slot, Stop.StopData, Stop.child_form, Stop.child_type, Stop.receiver_child_index}
+use Rattle.pc_hints.specs.{Nodes.called_hat, Nodes.child_node, Nodes.is_assigned, Nodes.is_box_this, Nodes.is_in_condition, Nodes.is_new_node, Nodes.is_tag_actor, Nodes.is_tag_this, Nodes.local_cap, Nodes.old_form, Nodes.own_method, Nodes.recovered_slot, declared.hint.Hint.Hint, declared.choice.Wanted.Wanted}
+use Rattle.pc_caps.specs.declared.capability.Cap.TheVariants as cap
+use Rattle.pc_caps.specs.declared.capability.Form.TheVariants as form
+use Rattle.pc_conditions.specs.declared.condition.Condition.TheVariants as asks
+use Rattle.pc_core.specs.declared.declarations.MethodKind.TheVariants as method
+use Rattle.pc_parts.specs.declared.parts.Role.TheVariants as role
+use Rattle.pc_tree.specs.declared.kinds.EntityKind.TheVariants as kind
 use Rattle.pc_hints.specs.declared.choice.Wanted.TheVariants as wanted
 use Rattle.pc_hints.specs.declared.hint.Hint.TheVariants as hint
 

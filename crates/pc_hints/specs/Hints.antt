@@ -1,24 +1,13 @@
 -- Hints in words.
 use Rattle.std.specs.Prelude.{ℕ, Bool, [], ◌++◌, Option, Some, None, if◌then◌else◌, codes}
-use Rattle.pc_caps.specs.Tables.{unalias}
-use Rattle.pc_caps.specs.declared.capability.Cap.{Cap}
-use Rattle.pc_caps.specs.declared.capability.Form.{Form}
+use Rattle.pc_caps.specs.{Tables.unalias, declared.capability.Cap.Cap, declared.capability.Form.Form}
 use Rattle.pc_conditions.specs.declared.reason.Reason.{Reason}
-use Rattle.pc_core.specs.CoreData.{CoreData}
-use Rattle.pc_core.specs.declared.declarations.Method.{Method}
-use Rattle.pc_core.specs.declared.nodes.Node.{Node}
-use Rattle.pc_lists.specs.Texts.{Text}
-use Rattle.pc_sentences.specs.Sentences.{method_or_none}
-use Rattle.pc_sentences.specs.Stop.{StopData, child_entity, child_type, node_method, named_member, own_field_name, own_slot}
-use Rattle.pc_sentences.specs.Untyped.{type_or_none}
-use Rattle.pc_window.specs.Places.{piece_of}
-use Rattle.pc_window.specs.Quoting.{piece, quoted}
-use Rattle.pc_words.specs.Caps.{cap_word, cap_words, form_word, taking}
-use Rattle.pc_words.specs.Forms.{entity_name, name_text}
-use Rattle.pc_words.specs.Scene.{is_var_slot}
-use Rattle.pc_hints.specs.Choice.{hint_for}
-use Rattle.pc_hints.specs.Nodes.{child_node, own_method}
-use Rattle.pc_hints.specs.declared.hint.Hint.{Hint}
+use Rattle.pc_core.specs.{CoreData.CoreData, declared.declarations.Method.Method, declared.nodes.Node.Node}
+use Rattle.pc_lists.specs.Lists.{Text}
+use Rattle.pc_sentences.specs.{Sentences.method_or_none, Stop.StopData, Stop.child_entity, Stop.child_type, Stop.node_method, Stop.named_member, Stop.own_field_name, Stop.own_slot, Untyped.type_or_none}
+use Rattle.pc_window.specs.{Places.piece_of, Quoting.piece, Quoting.quoted}
+use Rattle.pc_words.specs.{Caps.cap_word, Caps.cap_words, Caps.form_word, Caps.taking, Forms.entity_name, Forms.name_text, Scene.is_var_slot}
+use Rattle.pc_hints.specs.{Choice.hint_for, Nodes.child_node, Nodes.own_method, declared.hint.Hint.Hint}
 use Rattle.pc_hints.specs.declared.hint.Hint.TheVariants as hint_of
 
 -- ---- what they name

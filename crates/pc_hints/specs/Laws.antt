@@ -1,15 +1,11 @@
 -- The form that a hint promises fits what it is proposed for.
 use Rattle.std.specs.Prelude.{◌≡◌, ℕ, true, Option, Some, None}
-use Rattle.pc_caps.specs.Order.{is_below}
-use Rattle.pc_caps.specs.Tables.{fits, unalias}
-use Rattle.pc_caps.specs.declared.capability.Cap.{Cap}
+use Rattle.pc_caps.specs.{Computed.is_below, Computed.fits, Tables.unalias, declared.capability.Cap.Cap, declared.capability.Form.Form}
+use Rattle.pc_sentences.specs.Stop.{StopData, child_form}
+use Rattle.pc_hints.specs.{Choice.hint_for, Choice.entered_cap, declared.hint.Hint.Hint}
 use Rattle.pc_caps.specs.declared.capability.Cap.TheVariants as cap
-use Rattle.pc_caps.specs.declared.capability.Form.{Form}
 use Rattle.pc_caps.specs.declared.capability.Form.TheVariants as form
 use Rattle.pc_conditions.specs.declared.condition.Condition.TheVariants as asks
-use Rattle.pc_sentences.specs.Stop.{StopData, child_form}
-use Rattle.pc_hints.specs.Choice.{hint_for, entered_cap}
-use Rattle.pc_hints.specs.declared.hint.Hint.{Hint}
 use Rattle.pc_hints.specs.declared.hint.Hint.TheVariants as hint
 
 -- The form that a hint promises for its proposal, if it promises one.

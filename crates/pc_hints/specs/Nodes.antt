@@ -1,26 +1,18 @@
 -- What a hint looks at.
 use Rattle.std.specs.Prelude.{ℕ, Bool, true, false, ◌&&◌, nat_eq, Option, Some, None, slice_get, if◌then◌else◌}
 use Rattle.std.specs.List.{list_any}
-use Rattle.pc_caps.specs.Tables.{taken}
-use Rattle.pc_caps.specs.declared.capability.Cap.{Cap}
-use Rattle.pc_caps.specs.declared.capability.Cap.TheVariants as cap
-use Rattle.pc_caps.specs.declared.capability.Form.{Form}
-use Rattle.pc_caps.specs.declared.capability.Form.TheVariants as form
-use Rattle.pc_core.specs.CoreData.{CoreData}
-use Rattle.pc_core.specs.declared.declarations.EntityDef.{EntityDef}
-use Rattle.pc_core.specs.declared.declarations.FieldInfo.{FieldInfo}
-use Rattle.pc_core.specs.declared.declarations.Method.{Method}
-use Rattle.pc_core.specs.declared.nodes.Node.{Node}
-use Rattle.pc_core.specs.declared.nodes.NodeKind.{NodeKind}
-use Rattle.pc_core.specs.declared.nodes.NodeKind.TheVariants as node
-use Rattle.pc_lists.specs.Options.{◌>>=◌}
-use Rattle.pc_parts.specs.Members.{field_of_node, node_callee}
-use Rattle.pc_parts.specs.Parts.{child_role, last_value, shown_node}
+use Rattle.pc_caps.specs.{Tables.taken, declared.capability.Cap.Cap, declared.capability.Form.Form}
+use Rattle.pc_core.specs.{CoreData.CoreData, declared.declarations.EntityDef.EntityDef, declared.declarations.FieldInfo.FieldInfo, declared.declarations.Method.Method, declared.nodes.Node.Node, declared.nodes.NodeKind.NodeKind}
+use Rattle.pc_lists.specs.Lists.{◌>>=◌}
+use Rattle.pc_parts.specs.{Members.field_of_node, Members.node_callee, Parts.child_role, Parts.last_value, Parts.shown_node}
 use Rattle.pc_rules.specs.Calls.{is_function}
 use Rattle.pc_tree.specs.declared.kinds.EntityKind.{EntityKind}
-use Rattle.pc_tree.specs.declared.kinds.EntityKind.TheVariants as kind
 use Rattle.pc_words.specs.Scene.{child, is_this_kind, noted_slot_type, noted_type}
 use Rattle.pc_sentences.specs.Stop.{StopData, child_form}
+use Rattle.pc_caps.specs.declared.capability.Cap.TheVariants as cap
+use Rattle.pc_caps.specs.declared.capability.Form.TheVariants as form
+use Rattle.pc_core.specs.declared.nodes.NodeKind.TheVariants as node
+use Rattle.pc_tree.specs.declared.kinds.EntityKind.TheVariants as kind
 
 -- The node that the child with this index shows.
 unfoldable pub child_node : StopData → ℕ → Option Node

@@ -1,5 +1,3 @@
-pub mod Change
-pub mod Count
 pub mod Entries
 pub mod Failed
 pub mod Files

@@ -1,8 +1,7 @@
 //! A sink over a writer.
 ghost use Rattle.std.specs.Prelude.{◌≡◌, ◌≤◌, [], Ok, Err, MatchBool, OnOk, OnErr};
 ghost use Rattle.std.specs.Io.KnownBytes.{Appends};
-ghost use Rattle.pc_io.specs.Count.{one_more};
-ghost use Rattle.pc_io.specs.Sink.{GrowsByPrefix};
+ghost use Rattle.pc_io.specs.Sink.{one_more, GrowsByPrefix};
 
 use crate::{Sink, SinkFault};
 use std::io::{ErrorKind, Write};

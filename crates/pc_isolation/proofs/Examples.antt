@@ -4,9 +4,8 @@ use Rattle.std.specs.FinMap.{empty, get, get-empty}
 use Rattle.std.proofs.Common.{ap, sym, subst, ◌∙◌, arith}
 use Rattle.std.proofs.lemmas.Option.{same_Some, none-some}
 use Rattle.pc_lists.proofs.Bools.{false_true}
-use Rattle.pc_heap.specs.Objects.{address_cmp}
+use Rattle.pc_heap.specs.Objects.{address_cmp, Object}
 use Rattle.pc_heap.specs.declared.value.Address.{Address}
-use Rattle.pc_heap.specs.Object.{Object}
 use Rattle.pc_heap.specs.declared.value.Value.{Value}
 use Rattle.pc_heap.specs.declared.value.Value.TheVariants.{At}
 use Rattle.pc_caps.specs.Tables.{sendable}

@@ -10,7 +10,7 @@ use Rattle.pc_valid.specs.Valid.{Valid}
 use Rattle.pc_rules.proofs.Derivations.{to_valid}
 use Rattle.pc_semantics.specs.declared.access.Access.{Access}
 use Rattle.pc_semantics.specs.Configurations.{Configuration, start}
-use Rattle.pc_semantics.specs.Runs.{run_from, after}
+use Rattle.pc_semantics.specs.Step.{run_from, after}
 use Rattle.pc_types.proofs.Needs.{Needs}
 use Rattle.pc_types.proofs.Needed.{needed}
 use Rattle.pc_types.proofs.Steps.{run_ok}

@@ -10,8 +10,7 @@ use Rattle.pc_semantics.specs.declared.outcome.Lack.{Lack}
 use Rattle.pc_semantics.specs.declared.outcome.Outcome.{Outcome}
 use Rattle.pc_semantics.specs.declared.outcome.Outcome.TheVariants.{Moved, Skipped, Lacks, TooLong}
 use Rattle.pc_semantics.specs.Configurations.{Configuration}
-use Rattle.pc_semantics.specs.Step.{step}
-use Rattle.pc_semantics.specs.Runs.{followed, run_from, after}
+use Rattle.pc_semantics.specs.Step.{step, followed, run_from, after}
 use Rattle.pc_semantics.specs.Laws.{OnlyMovesChange}
 use Rattle.pc_events.specs.Before.{takes_one, takes_from}
 use Rattle.pc_events.specs.Accesses.{OnlyAccessed}

@@ -1,18 +1,11 @@
 -- When waiting messages are isolated in depth: arguments are let alone, and what fields other than `tag` lead to.
 use Rattle.std.specs.Prelude.{◌≡◌, ◌≢◌, ◌⊎◌, ℕ, Bool, true, false, Option, Some, slice_get}
-use Rattle.pc_heap.specs.Objects.{ObjectMap, class_at}
-use Rattle.pc_heap.specs.Fields.{value_at}
-use Rattle.pc_heap.specs.declared.value.Address.{Address}
-use Rattle.pc_heap.specs.declared.value.Value.TheVariants.{At}
-use Rattle.pc_caps.specs.Tables.{at}
-use Rattle.pc_caps.specs.declared.capability.Cap.{Cap}
-use Rattle.pc_caps.specs.declared.capability.Cap.TheVariants as cap
+use Rattle.pc_heap.specs.{Objects.ObjectMap, Objects.class_at, Fields.value_at, declared.value.Address.Address, declared.value.Value.TheVariants.At}
+use Rattle.pc_caps.specs.{Tables.at, declared.capability.Cap.Cap}
 use Rattle.pc_core.specs.CoreData.{CoreData}
-use Rattle.pc_lists.specs.Options.{◌>>=◌}
-use Rattle.pc_semantics.specs.declared.access.Access.{Access}
-use Rattle.pc_semantics.specs.declared.mailbox.Message.{Message}
-use Rattle.pc_semantics.specs.Configurations.{Configuration}
-use Rattle.pc_semantics.specs.Safety.{access}
+use Rattle.pc_lists.specs.Lists.{◌>>=◌}
+use Rattle.pc_semantics.specs.{declared.access.Access.Access, declared.mailbox.Message.Message, Configurations.Configuration, Safety.access}
+use Rattle.pc_caps.specs.declared.capability.Cap.TheVariants as cap
 
 -- The capability with which a field of an object is declared.
 abbrev pub field_cap : CoreData → ObjectMap → Address → ℕ → Option Cap

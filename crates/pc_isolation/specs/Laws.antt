@@ -2,9 +2,8 @@
 -- what a message carries is passed as a whole.
 use Rattle.std.specs.Prelude.{ℕ, List}
 use Rattle.pc_core.specs.CoreData.{CoreData}
-use Rattle.pc_semantics.specs.Runs.{after}
-use Rattle.pc_isolation.specs.Isolated.{Isolated}
-use Rattle.pc_isolation.specs.Passed.{StaysWhole, TakenWhole}
+use Rattle.pc_semantics.specs.Step.{after}
+use Rattle.pc_isolation.specs.{Isolated.Isolated, Passed.StaysWhole, Passed.TakenWhole}
 
 -- After every list of actors, of any length.
 abbrev pub AlwaysIsolated : CoreData → Type 0

@@ -1,20 +1,12 @@
 -- What is inside a waiting argument stays inside until its message is taken, and is then handed over as a whole.
 use Rattle.std.specs.Prelude.{◌≡◌, ◌↔◌, ℕ, suc, ◌+◌, List, [], ◌∷◌, Some, slice_get}
-use Rattle.pc_heap.specs.Fields.{value_at}
-use Rattle.pc_heap.specs.declared.value.Address.{Address}
-use Rattle.pc_heap.specs.declared.value.Value.TheVariants.{At}
+use Rattle.pc_heap.specs.{Fields.value_at, declared.value.Address.Address, declared.value.Value.TheVariants.At}
 use Rattle.pc_caps.specs.declared.capability.Cap.{Cap}
 use Rattle.pc_core.specs.CoreData.{CoreData}
-use Rattle.pc_semantics.specs.declared.actors.Actor.{Actor}
-use Rattle.pc_semantics.specs.declared.frames.Frame.{Frame}
-use Rattle.pc_semantics.specs.declared.mailbox.Message.{Message}
-use Rattle.pc_semantics.specs.Configurations.{Configuration}
-use Rattle.pc_semantics.specs.Step.{step}
-use Rattle.pc_semantics.specs.Runs.{run_from}
-use Rattle.pc_semantics.specs.declared.ahead.Ahead.TheVariants as ahead
-use Rattle.pc_semantics.specs.Ahead.{ahead_of}
+use Rattle.pc_semantics.specs.{declared.actors.Actor.Actor, declared.frames.Frame.Frame, declared.mailbox.Message.Message, Configurations.Configuration, Step.step, Step.run_from, Ahead.ahead_of}
 use Rattle.pc_events.specs.Before.{takes_from}
 use Rattle.pc_isolation.specs.Isolated.{waiting_at, Waits, Inside, SeenFrom}
+use Rattle.pc_semantics.specs.declared.ahead.Ahead.TheVariants as ahead
 
 -- ---- while it waits
 

@@ -1,6 +1,5 @@
 -- What a valid annotation promises of waiting messages.
-use Rattle.pc_core.specs.CoreData.{CoreData}
-use Rattle.pc_core.specs.Formed.{Formed}
+use Rattle.pc_core.specs.{CoreData.CoreData, Formed.Formed}
 use Rattle.pc_ann.specs.declared.annotation.Ann.{Ann}
 use Rattle.pc_valid.specs.Valid.{Valid}
 use Rattle.pc_isolation.specs.Laws.{AlwaysIsolated, AlwaysPassedWhole}

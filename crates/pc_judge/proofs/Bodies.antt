@@ -3,8 +3,7 @@ use Rattle.std.specs.Prelude.{◌≡◌, ℕ, ◌-◌, ◌<◌, length, Some, sl
 use Rattle.std.proofs.Common.{sym, subst, ◌∙◌, arith}
 use Rattle.pc_core.specs.declared.declarations.Method.{Method}
 use Rattle.pc_core.specs.declared.nodes.Node.{Node}
-use Rattle.pc_core.specs.CoreData.{CoreData}
-use Rattle.pc_core.specs.Lookup.{node_end}
+use Rattle.pc_core.specs.CoreData.{CoreData, node_end}
 use Rattle.pc_core.specs.Formed.{Formed}
 use Rattle.pc_lists.proofs.Gets.{range_get, get_below}
 

@@ -4,20 +4,18 @@
 --       new create(env: Env) =>
 --         let a: C iso = C
 use Rattle.std.specs.Prelude.{[], ◌∷◌, None, Some, slice_set}
+use Rattle.pc_core.specs.{declared.declarations.Method.Method, CoreData.CoreData, Entities.built_in, Entities.out_field}
+use Rattle.pc_ann.specs.declared.annotation.Ann.{Ann}
+use Rattle.pc_rules.specs.Example.{four_slots, derivation, at, node_of, noted}
+use Rattle.pc_judge.specs.Faults.{FirstAnnotationFault}
 use Rattle.pc_caps.specs.declared.capability.Cap.TheVariants as cap
 use Rattle.pc_caps.specs.declared.capability.Form.TheVariants as form
 use Rattle.pc_tree.specs.declared.kinds.EntityKind.TheVariants as kind
-use Rattle.pc_core.specs.declared.declarations.Method.{Method}
 use Rattle.pc_core.specs.declared.declarations.MethodKind.TheVariants as method
 use Rattle.pc_core.specs.declared.nodes.SlotKind.TheVariants as slot
 use Rattle.pc_core.specs.declared.nodes.NodeKind.TheVariants as node
-use Rattle.pc_core.specs.CoreData.{CoreData}
-use Rattle.pc_core.specs.Entities.{built_in, out_field}
-use Rattle.pc_ann.specs.declared.annotation.Ann.{Ann}
 use Rattle.pc_ann.specs.declared.annotation.Rule.TheVariants as rule
-use Rattle.pc_rules.specs.Example.{four_slots, derivation, at, node_of, noted}
 use Rattle.pc_judge.specs.declared.faults.JudgeFault.TheVariants as fault
-use Rattle.pc_judge.specs.Faults.{FirstAnnotationFault}
 
 -- The note of the new object has `ref` instead of `iso^`.
 abbrev pub noted_as_ref : Ann

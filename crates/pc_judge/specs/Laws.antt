@@ -1,11 +1,9 @@
 -- Laws of the first fault of every annotation.
 use Rattle.std.specs.Prelude.{◌≡◌}
-use Rattle.pc_core.specs.CoreData.{CoreData}
-use Rattle.pc_core.specs.Formed.{Formed}
+use Rattle.pc_core.specs.{CoreData.CoreData, Formed.Formed}
 use Rattle.pc_ann.specs.declared.annotation.Ann.{Ann}
 use Rattle.pc_valid.specs.Valid.{Valid}
-use Rattle.pc_judge.specs.declared.faults.JudgeFault.{JudgeFault}
-use Rattle.pc_judge.specs.Faults.{FirstAnnotationFault}
+use Rattle.pc_judge.specs.{declared.faults.JudgeFault.JudgeFault, Faults.FirstAnnotationFault}
 
 -- There is at most one first fault.
 abbrev pub OneFirst : Type 0

@@ -9,13 +9,12 @@ use Rattle.pc_token.specs.declared.kinds.Token.{Token}
 use Rattle.pc_token.specs.declared.kinds.TokenKind.{TokenKind}
 use Rattle.pc_token.specs.declared.kinds.TokenKind.TheVariants as kinds
 use Rattle.pc_token.specs.Finding.{word_of, sign_at}
-use Rattle.pc_token.specs.Signs.{sign_text}
+use Rattle.pc_token.specs.Words.{sign_text}
 use Rattle.pc_lex.specs.declared.pieces.Found.{Found}
 use Rattle.pc_lex.specs.declared.pieces.Found.TheVariants as found
 use Rattle.pc_lex.specs.declared.pieces.LexStop.{LexStop}
 use Rattle.pc_lex.specs.declared.pieces.LexStop.TheVariants as stop
-use Rattle.pc_lex.specs.Bytes.{first_test, is_blank, is_line, is_letter, begins_comment}
-use Rattle.pc_lex.specs.Texts.{begins_doc, TextBytes}
+use Rattle.pc_lex.specs.Texts.{first_test, is_blank, is_line, is_letter, begins_comment, begins_doc, TextBytes}
 use Rattle.pc_lex.specs.Faults.{is_quote, NoPiece}
 use Rattle.pc_lex.specs.TextReading.{unescape}
 use Rattle.pc_lex.specs.Pieces.{NameText, SpellsToken, Piece, gap, token, bytes_of, IsPiece, IsToken, IsGap, AtLineEnd, Pieces, tokens_of, Tokens}

@@ -5,8 +5,7 @@ use Rattle.std.specs.Char.{is_ascii_digit}
 use Rattle.pc_token.specs.declared.kinds.TokenKind.{TokenKind}
 use Rattle.pc_lex.specs.declared.fault.LexFault.{LexFault}
 use Rattle.pc_lex.specs.declared.fault.LexFault.TheVariants as fault
-use Rattle.pc_lex.specs.Bytes.{first_test, begins, open_mark}
-use Rattle.pc_lex.specs.Texts.{begins_doc}
+use Rattle.pc_lex.specs.Texts.{first_test, begins, open_mark, begins_doc}
 use Rattle.pc_lex.specs.Faults.{is_quote, NeverEnds, BadEscapeIn, OpensCommentOrText, NoPiece, count, Faulty, FaultAfter, TokenAfter, FirstLexFault}
 use Rattle.pc_lex.specs.TextReading.{text_behind, unescape}
 use Rattle.pc_lex.specs.Reading.{between}

@@ -3,8 +3,7 @@ use Rattle.std.proofs.Common.{◌≡◌, ℕ, ◌+◌, ◌-◌, ◌≤◌, true,
 use Rattle.std.proofs.lemmas.Bool.{true≢false}
 use Rattle.pc_token.specs.declared.kinds.TokenKind.{TokenKind}
 use Rattle.pc_token.specs.declared.kinds.TokenKind.TheVariants as kinds
-use Rattle.pc_lex.specs.Bytes.{first_test, begins, line_mark, open_mark}
-use Rattle.pc_lex.specs.Texts.{begins_doc, BetweenQuotes, Written, TextBytes, DocBytes}
+use Rattle.pc_lex.specs.Texts.{first_test, begins, line_mark, open_mark, begins_doc, BetweenQuotes, Written, TextBytes, DocBytes}
 use Rattle.pc_lex.specs.Faults.{is_quote, NeverEnds, NoPiece}
 use Rattle.pc_lex.specs.TextReading.{text_behind, doc_behind, unescape}
 use Rattle.pc_lex.specs.Pieces.{SpellsToken, gap, token}

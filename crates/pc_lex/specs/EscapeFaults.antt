@@ -1,8 +1,7 @@
 -- The faults of the bytes between the quotes of a text.
 use Rattle.std.specs.Prelude.{◌≡◌, List, ℕ, Result, Ok, Err, ⊤}
-use Rattle.pc_lex.specs.declared.texts.EscapeFault.{EscapeFault}
+use Rattle.pc_lex.specs.{declared.texts.EscapeFault.EscapeFault, Faults.BadAt}
 use Rattle.pc_lex.specs.declared.texts.EscapeFault.TheVariants as fault
-use Rattle.pc_lex.specs.Faults.{BadAt}
 
 abbrev pub IsBadEscape : List ℕ → EscapeFault → Type 0
 IsBadEscape b (fault.BadEscape at) = BadAt b at

@@ -1,14 +1,9 @@
 -- The first fault of a text that has no token list, and what lexing may return.
 use Rattle.std.specs.Prelude.{◌≡◌, ℕ, ◌+◌, ◌<◌, ◌≤◌, Bool, true, false, ◌==◌, List, ◌∷◌, ◌++◌, length, take, drop, Result, Err, ◌⊎◌, ⊤, []}
 use Rattle.std.specs.Char.{is_ascii_digit}
-use Rattle.pc_token.specs.declared.kinds.Token.{Token}
-use Rattle.pc_token.specs.declared.kinds.TokenKind.{TokenKind}
-use Rattle.pc_lex.specs.declared.fault.LexFault.{LexFault}
+use Rattle.pc_token.specs.{declared.kinds.Token.Token, declared.kinds.TokenKind.TokenKind}
+use Rattle.pc_lex.specs.{declared.fault.LexFault.LexFault, Pieces.token_limit, Pieces.Piece, Pieces.gap, Pieces.token, Pieces.bytes_of, Pieces.IsPiece, Pieces.Pieces, Pieces.IsToken, Texts.begins, Texts.open_mark, Texts.first_test, Texts.BetweenQuotes, Texts.Writes, Texts.Written, Texts.begins_doc}
 use Rattle.pc_lex.specs.declared.fault.LexFault.TheVariants as fault
-use Rattle.pc_lex.specs.Limits.{token_limit}
-use Rattle.pc_lex.specs.Bytes.{begins, open_mark, first_test}
-use Rattle.pc_lex.specs.Texts.{BetweenQuotes, Writes, Written, begins_doc}
-use Rattle.pc_lex.specs.Pieces.{Piece, gap, token, bytes_of, IsPiece, Pieces, IsToken}
 
 -- `"`
 abbrev pub is_quote : ℕ → Bool

@@ -1,7 +1,4 @@
-pub mod Limits
-pub mod Bytes
 pub mod Pieces
-pub mod Answers
 pub mod Laws
 pub mod Texts
 pub mod TextReading

@@ -2,17 +2,23 @@
 --
 -- A text is cut into pieces: blanks, comments, and at each place the longest token that begins there. The pieces
 -- determine the tokens.
-use Rattle.std.specs.Prelude.{◌≡◌, ℕ, ◌+◌, ◌*◌, ◌<◌, ◌≤◌, ◌^◌, Bool, true, false, ◌||◌, ◌==◌, List, [], ◌∷◌, ◌++◌, length, ◌⊎◌, ⊤}
-use Rattle.std.specs.List.{list_all, list_any}
-use Rattle.std.specs.Char.{is_ascii_lowercase, is_ascii_uppercase, is_digit, digit_value}
-use Rattle.pc_token.specs.declared.words.Word.{Word}
-use Rattle.pc_token.specs.declared.kinds.Token.{Token}
-use Rattle.pc_token.specs.declared.kinds.TokenKind.{TokenKind}
+use Rattle.std.specs.Prelude.{ℕ, ◌≡◌, ◌+◌, ◌*◌, ◌<◌, ◌≤◌, ◌^◌, Bool, true, false, ◌||◌, ◌==◌, List, [], ◌∷◌, ◌++◌, length, ◌⊎◌, ⊤}
+use Rattle.std.specs.{List.list_all, List.list_any, Char.is_ascii_lowercase, Char.is_ascii_uppercase, Char.is_digit, Char.digit_value}
+use Rattle.pc_token.specs.{declared.words.Word.Word, declared.kinds.Token.Token, declared.kinds.TokenKind.TokenKind, Words.word_text, Words.sign_text}
+use Rattle.pc_lex.specs.Texts.{TextBytes, DocBytes, begins_doc, is_blank, is_tail, is_prime, is_line, begins, begins_comment, open_mark, close_mark, hex_mark, bin_mark, is_joined, first_test}
 use Rattle.pc_token.specs.declared.kinds.TokenKind.TheVariants as kinds
-use Rattle.pc_token.specs.Words.{word_text}
-use Rattle.pc_token.specs.Signs.{sign_text}
-use Rattle.pc_lex.specs.Texts.{TextBytes, DocBytes, begins_doc}
-use Rattle.pc_lex.specs.Bytes.{is_blank, is_tail, is_prime, is_line, begins, begins_comment, open_mark, close_mark, hex_mark, bin_mark, is_joined, first_test}
+
+-- ---- the limits of a text
+
+-- how many bytes a text may have
+abbrev pub bytes_limit : ℕ
+bytes_limit = 1048576
+
+-- how many tokens a text may have, not counting its end
+abbrev pub token_limit : ℕ
+token_limit = 200000
+
+-- ---- pieces and tokens
 
 -- At most one `_`, a letter of this case, then letters, digits and `_`, and finally any number of `'`.
 pub record NameText (is_head : ℕ → Bool) (text : List ℕ) : Type 0 where
@@ -122,3 +128,9 @@ tokens_of at first (token kind b ∷ ps) = record { kind = kind; first = first; 
 -- The list is the tokens of the text, with `End` last. Their number is not limited.
 abbrev pub Tokens : List ℕ → List Token → Type 0
 Tokens text ts = (ps : List Piece) × Pieces text ps [] × (ts ≡ tokens_of 0 true ps)
+
+-- ---- the token list of a text, within the limit
+
+-- The list is the tokens of the text with `End`, and there are not too many of them.
+abbrev pub TokenList : List ℕ → List Token → Type 0
+TokenList text ts = Tokens text ts × (length ts ≤ token_limit + 1)

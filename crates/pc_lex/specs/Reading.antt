@@ -1,27 +1,13 @@
 -- How the first piece of a text is read.
 use Rattle.std.specs.Prelude.{ℕ, zero, suc, ◌+◌, ◌-◌, ◌*◌, ◌^◌, nat_lt, Bool, true, false, ◌&&◌, ◌||◌, ◌==◌, List, [], ◌∷◌, length, take, drop, slice_index, Option, Some, None, Result, Ok, Err, if◌then◌else◌, ◌≡◌, ◌<◌, ◌≤◌, ◌++◌, ⊤}
-use Rattle.std.specs.List.{prefix_len}
-use Rattle.std.specs.Char.{is_ascii_uppercase, is_ascii_digit, is_digit, digit_value}
-use Rattle.pc_token.specs.declared.signs.Sign.{Sign}
-use Rattle.pc_token.specs.declared.words.Word.{Word}
-use Rattle.pc_token.specs.declared.kinds.Token.{Token}
-use Rattle.pc_lex.specs.declared.fault.LexFault.{LexFault}
+use Rattle.std.specs.{List.prefix_len, Char.is_ascii_uppercase, Char.is_ascii_digit, Char.is_digit, Char.digit_value}
+use Rattle.pc_token.specs.{declared.signs.Sign.Sign, declared.words.Word.Word, declared.kinds.Token.Token, declared.kinds.TokenKind.TokenKind, Finding.word_of, Finding.sign_at}
+use Rattle.pc_lex.specs.{declared.fault.LexFault.LexFault, Pieces.token_limit, Pieces.has_line_end, Texts.begins_doc, Texts.is_blank, Texts.is_letter, Texts.is_tail, Texts.is_prime, Texts.is_line, Texts.begins, Texts.line_mark, Texts.open_mark, Texts.hex_mark, Texts.bin_mark, Texts.first_test, Texts.is_joined, Faults.is_quote, TextReading.text_behind, TextReading.unescape, TextReading.doc_behind, declared.classes.Class.Class, declared.pieces.Found.Found, declared.pieces.LexStop.LexStop}
 use Rattle.pc_lex.specs.declared.fault.LexFault.TheVariants as fault
-use Rattle.pc_lex.specs.Limits.{token_limit}
-use Rattle.pc_lex.specs.Texts.{begins_doc}
-use Rattle.pc_lex.specs.Faults.{is_quote}
-use Rattle.pc_lex.specs.TextReading.{text_behind, unescape, doc_behind}
-use Rattle.pc_lex.specs.Pieces.{has_line_end}
-use Rattle.pc_token.specs.declared.kinds.TokenKind.{TokenKind}
 use Rattle.pc_token.specs.declared.kinds.TokenKind.TheVariants as kinds
-use Rattle.pc_token.specs.Finding.{word_of, sign_at}
-use Rattle.pc_lex.specs.declared.classes.Class.{Class}
 use Rattle.pc_lex.specs.declared.classes.Class.TheVariants as class
-use Rattle.pc_lex.specs.declared.pieces.Found.{Found}
 use Rattle.pc_lex.specs.declared.pieces.Found.TheVariants as found
-use Rattle.pc_lex.specs.declared.pieces.LexStop.{LexStop}
 use Rattle.pc_lex.specs.declared.pieces.LexStop.TheVariants as stop
-use Rattle.pc_lex.specs.Bytes.{is_blank, is_letter, is_tail, is_prime, is_line, begins, line_mark, open_mark, hex_mark, bin_mark, first_test, is_joined}
 
 abbrev pub class_test : Class → ℕ → Bool
 class_test class.Tail = is_tail

@@ -1,8 +1,8 @@
 //! Classes of bytes, and runs of them.
 ghost use Rattle.std.specs.Prelude.{◌≡◌, ◌≤◌, length};
 ghost use Rattle.std.specs.List.{prefix_len};
-ghost use Rattle.pc_lex.specs.Bytes as bytes;
-ghost use Rattle.pc_lex.specs.Bytes.{first_test};
+ghost use Rattle.pc_lex.specs.Texts as bytes;
+ghost use Rattle.pc_lex.specs.Texts.{first_test};
 ghost use Rattle.pc_lex.specs.Reading as reading;
 
 /// A class of bytes.

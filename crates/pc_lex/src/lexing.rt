@@ -2,13 +2,11 @@
 ghost use Rattle.std.specs.Prelude.{◌≡◌, ◌<◌, ◌≤◌, ◌||◌, ◌==◌, [], ◌∷◌, ◌++◌, List as Sequence, length, Ok, Err, IfOk, IfErr, OnOk, OnErr};
 ghost use Rattle.pc_token.specs.declared.kinds.Token.{Token};
 ghost use Rattle.pc_lex.specs.declared.fault.LexFault.{LexFault};
-ghost use Rattle.pc_lex.specs.Limits.{bytes_limit};
+ghost use Rattle.pc_lex.specs.Pieces.{bytes_limit, TokenList};
 ghost use Rattle.pc_lex.specs.Pieces as pieces;
-ghost use Rattle.pc_lex.specs.Faults.{FirstLexFault};
+ghost use Rattle.pc_lex.specs.Faults.{FirstLexFault, RefusesTokens, AnswersTokens};
 ghost use Rattle.pc_lex.specs.Reading as reading;
 ghost use Rattle.pc_lex.specs.Reading.{Passes, Steps, StopWithin, Stuck};
-ghost use Rattle.pc_lex.specs.Answers.{TokenList};
-ghost use Rattle.pc_lex.specs.Faults.{RefusesTokens, AnswersTokens};
 
 use crate::classes::is_blank;
 use crate::fault::LexFault;

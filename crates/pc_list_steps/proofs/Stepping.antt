@@ -10,9 +10,8 @@ use Rattle.pc_semantics.specs.declared.outcome.Lack.{Lack}
 use Rattle.pc_semantics.specs.declared.outcome.Outcome.{Outcome}
 use Rattle.pc_semantics.specs.declared.outcome.Outcome.TheVariants as outcome
 use Rattle.pc_semantics.specs.Configurations.{Configuration, start}
-use Rattle.pc_semantics.specs.Runs.{after, followed, outcomes, outcomes_from, run_from}
+use Rattle.pc_semantics.specs.Step.{after, followed, outcomes, outcomes_from, run_from, step}
 use Rattle.pc_semantics.specs.Safety.{LacksNothing}
-use Rattle.pc_semantics.specs.Step.{step}
 use Rattle.pc_semantics.specs.Text.{ended_at, end_of, waiting}
 use Rattle.pc_machine.specs.Limits.{list_limit}
 use Rattle.pc_list_steps.proofs.Underway.{Underway}

@@ -3,7 +3,7 @@ use Rattle.std.specs.Prelude.{◌≡◌, ℕ, ◌+◌, ◌≤◌, List, ◌++◌
 use Rattle.std.specs.FinMap.{len}
 use Rattle.pc_core.specs.CoreData.{CoreData}
 use Rattle.pc_semantics.specs.Configurations.{Configuration}
-use Rattle.pc_semantics.specs.Runs.{after, outcomes, outcomes_from, run_from}
+use Rattle.pc_semantics.specs.Step.{after, outcomes, outcomes_from, run_from}
 use Rattle.pc_semantics.specs.Text.{ended_at, end_of, waiting}
 
 -- The first n steps of the list moved or were skipped, and led to configuration c. What is left gives the rest of the run.

@@ -2,11 +2,9 @@
 use Rattle.std.specs.Prelude.{◌≡◌, ◌≤◌, ℕ, List, Some, None, Result, MatchResult}
 use Rattle.pc_core.specs.CoreData.{CoreData}
 use Rattle.pc_machine.specs.Machines.{MachineData}
+use Rattle.pc_semantics.specs.{Step.after, Step.outcomes, Text.end_of}
+use Rattle.pc_list_steps.specs.{declared.fault.StepsFault.StepsFault, declared.fault.StepsFault.TheVariants.TooLong, declared.fault.StepsFault.TheVariants.Memory}
 use Rattle.pc_semantics.specs.declared.outcome.Outcome.TheVariants as outcome
-use Rattle.pc_semantics.specs.Runs.{after, outcomes}
-use Rattle.pc_semantics.specs.Text.{end_of}
-use Rattle.pc_list_steps.specs.declared.fault.StepsFault.{StepsFault}
-use Rattle.pc_list_steps.specs.declared.fault.StepsFault.TheVariants.{TooLong, Memory}
 
 -- The machine of the core after all steps of the list.
 abbrev pub IsMachineAfter : CoreData → List ℕ → MachineData → Type 0

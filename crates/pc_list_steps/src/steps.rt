@@ -1,7 +1,7 @@
 //! The steps of a list of actors.
 ghost use Rattle.std.specs.Prelude.{◌≡◌, ◌≤◌, IfErr, length, List as Sequence, ℕ};
 ghost use Rattle.pc_semantics.specs.Configurations.{start as beginning};
-ghost use Rattle.pc_semantics.specs.Runs.{after};
+ghost use Rattle.pc_semantics.specs.Step.{after};
 ghost use Rattle.pc_semantics.specs.Safety.{LacksNothing};
 ghost use Rattle.pc_machine.specs.Limits.{list_limit};
 ghost use Rattle.pc_list_steps.specs.Ends.{RunEnds, StopsWithin};

@@ -2,7 +2,7 @@
 use Rattle.std.specs.Prelude.{◌⊎◌, ℕ, suc, ◌+◌, ◌<◌, List, [], ◌∷◌, ◌++◌, length}
 use Rattle.std.proofs.Common.{inl, inr, ◌∙◌, arith, ⊎_elim}
 use Rattle.std.proofs.lemmas.Option.{none-some}
-use Rattle.pc_lists.specs.Places.{Each, Has, Differ, Ascends}
+use Rattle.pc_lists.specs.Lists.{Each, Has, Differ, Ascends}
 use Rattle.pc_lists.proofs.Gets.{get_front, get_push, get_append, append_get}
 
 -- Each element of the empty list.

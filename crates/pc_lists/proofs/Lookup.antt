@@ -4,7 +4,7 @@ use Rattle.std.proofs.Common.{inl, inr, ap, eqb, sym, subst, ◌∙◌, arith}
 use Rattle.std.proofs.lemmas.Option.{same_Some, none-some}
 use Rattle.std.proofs.lemmas.Bool.{eq-eqb}
 use Rattle.std.proofs.lemmas.Bool.Decides.{eqb_tells}
-use Rattle.pc_lists.specs.Lookup.{place_of}
+use Rattle.pc_lists.specs.Lists.{place_of}
 
 -- A place that is found is that of an element with the name.
 pub place_found : {T : Type 0} → (name_of : T → ℕ) (name : ℕ) (xs : List T) (at k : ℕ) → place_of name_of name xs at ≡ Some k → (i : ℕ) × (x : T) × (k ≡ at + i) × (slice_get xs i ≡ Some x) × (name_of x ≡ name)

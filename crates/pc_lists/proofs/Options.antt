@@ -1,7 +1,7 @@
 -- Steps that may have no result.
 use Rattle.std.proofs.Common.{◌≡◌, Bool, true, false, cond, Option, Some, None, refl, ap}
 use Rattle.std.proofs.lemmas.Option.{none-some}
-use Rattle.pc_lists.specs.Options.{◌>>=◌}
+use Rattle.pc_lists.specs.Lists.{◌>>=◌}
 
 pub none_some : {A : Type 0} {x : A} → None ≡ Some x → ⊥
 none_some {x = x} e = none-some x e

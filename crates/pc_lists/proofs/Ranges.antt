@@ -3,7 +3,7 @@ use Rattle.std.specs.Prelude.{◌≡◌, ℕ, zero, suc, ◌+◌, ◌<◌, ◌�
 use Rattle.std.proofs.Common.{inl, inr, sym, subst, arith}
 use Rattle.std.proofs.lemmas.Option.{same_Some, none-some}
 use Rattle.std.proofs.lemmas.Bool.{cases_lt}
-use Rattle.pc_lists.specs.Ranges.{Follow}
+use Rattle.pc_lists.specs.Lists.{Follow}
 
 -- Runs are between the number with which they begin and the one with which they end.
 follow_le : (at : ℕ) (runs : List (ℕ × ℕ)) (last : ℕ) → Follow at runs last → at ≤ last

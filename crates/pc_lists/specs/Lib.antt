@@ -1,6 +1,2 @@
-pub mod Options
-pub mod Places
-pub mod Ranges
-pub mod Lookup
 pub mod Counts
-pub mod Texts
+pub mod Lists

@@ -1,10 +1,8 @@
 //! The vocabulary that all crates use for lists, options and booleans, and its laws. No code.
 //!
-//! - `specs/Places.antt`: a property of every element, an element of a list, a list without repetitions, an ascending
-//!   list.
-//! - `specs/Options.antt`: the next step of a computation that may have no result.
-//! - `specs/Ranges.antt`: adjacent runs of numbers.
-//! - `specs/Lookup.antt`: the place of the first element with a name.
+//! - `specs/Lists.antt`: the place of the first element with a name; the next step of a computation that may have no
+//!   result; a property of every element, an element of a list, a list without repetitions, an ascending list; adjacent
+//!   runs of numbers; texts.
 //! - `specs/Counts.antt`: a test counted as a number.
 //! - `proofs/Bools.antt`, `proofs/Options.antt`: what follows from a test or a step.
 //! - `proofs/Gets.antt`: the element at a place, after a push, a write, a cut or a map.

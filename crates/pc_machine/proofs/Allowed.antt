@@ -7,13 +7,11 @@ use Rattle.std.proofs.lemmas.List.{length-replicate}
 use borrow.Author.Tests.{ltb-true}
 use Rattle.pc_tree.specs.declared.kinds.Op.{Op}
 use Rattle.pc_tree.specs.declared.kinds.Op.TheVariants as op
-use Rattle.pc_heap.specs.Objects.{next_address}
+use Rattle.pc_heap.specs.Objects.{next_address, Object}
 use Rattle.pc_heap.specs.declared.value.Address.{Address}
-use Rattle.pc_heap.specs.Object.{Object}
 use Rattle.pc_heap.specs.declared.value.Value.{Value}
 use Rattle.pc_heap.specs.declared.value.Value.TheVariants.{Num, Truth, Text, Prim, At}
-use Rattle.pc_core.specs.CoreData.{CoreData}
-use Rattle.pc_core.specs.Lookup.{field_named, method_named}
+use Rattle.pc_core.specs.CoreData.{CoreData, field_named, method_named}
 use Rattle.pc_core.specs.declared.declarations.Method.{Method}
 use Rattle.pc_core.specs.declared.declarations.MethodKind.{MethodKind}
 use Rattle.pc_core.specs.declared.declarations.MethodKind.TheVariants as method
@@ -25,12 +23,10 @@ use Rattle.pc_semantics.specs.declared.frames.Task.{Task}
 use Rattle.pc_semantics.specs.declared.frames.Task.TheVariants as task
 use Rattle.pc_semantics.specs.Around.{Around, Move, Writes, Makes, Spawns, Sends, with_top, popped, with_popped, value_entity}
 use Rattle.pc_semantics.specs.Configurations.{blank_object, number_of_fields}
-use Rattle.pc_semantics.specs.Calls.{counted, begin_new, make_of, make_task, spawn_of, spawn_task, enter, send, invoke_kind, text_of, is_string, push_text, invoke_found, invoke_method, invoke_on, invoke_task, leave_object, leave, return_task}
-use Rattle.pc_semantics.specs.Choices.{truth, apply_task, right_side, test_and, test_or, test_task, branch, loop_turn}
-use Rattle.pc_semantics.specs.Evaluation.{push_slot, take_slot, first_then, evaluate, evaluate_node}
-use Rattle.pc_semantics.specs.Fields.{get_value, get_field, get_of, get_from, put_value, put_field, put_of, put_into, get_task, put_task, store_task}
+use Rattle.pc_semantics.specs.Calls.{counted, begin_new, make_of, make_task, spawn_of, spawn_task, enter, send, invoke_kind, text_of, is_string, push_text, invoke_found, invoke_method, invoke_on, invoke_task, leave_object, leave, return_task, get_value, get_field, get_of, get_from, put_value, put_field, put_of, put_into, get_task, put_task, store_task}
+use Rattle.pc_semantics.specs.Evaluation.{truth, apply_task, right_side, test_and, test_or, test_task, branch, loop_turn, push_slot, take_slot, first_then, evaluate, evaluate_node}
 use Rattle.pc_semantics.specs.Operators.{push_or_lack, of_numbers, of_truths, of_texts, binary, negated}
-use Rattle.pc_semantics.specs.Tasks.{at_node, task_move}
+use Rattle.pc_semantics.specs.Step.{at_node, task_move}
 use Rattle.pc_tasks.specs.Fielded.{HasFields}
 use Rattle.pc_tasks.specs.Inside.{first_move, relieved}
 use Rattle.pc_machine.specs.declared.plan.Plan.{Plan}

@@ -8,8 +8,7 @@ use Rattle.pc_semantics.specs.declared.frames.Task.{Task}
 use Rattle.pc_semantics.specs.declared.mailbox.Message.{Message}
 use Rattle.pc_semantics.specs.Configurations.{Configuration}
 use Rattle.pc_semantics.specs.Around.{Around, with_tasks}
-use Rattle.pc_semantics.specs.Tasks.{task_move}
-use Rattle.pc_semantics.specs.Step.{around, begin_method, printed_text, take_first}
+use Rattle.pc_semantics.specs.Step.{task_move, around, begin_method, printed_text, take_first}
 use Rattle.pc_semantics.specs.declared.ahead.Ahead.TheVariants as ahead
 use Rattle.pc_semantics.specs.Ahead.{by_move, by_outcome, of_tasks, of_frames, of_actor, ahead_of}
 use Rattle.pc_tasks.specs.Inside.{first_move}

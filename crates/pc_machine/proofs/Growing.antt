@@ -7,9 +7,8 @@ use Rattle.std.proofs.lemmas.List.Sums.{sum-map, sum_by-set, sum_by_push}
 use Rattle.std.proofs.lemmas.Option.{get_or_from_slice_get}
 use Rattle.pc_lists.proofs.Gets.{get_below}
 use Rattle.pc_heap.specs.Addresses.{addresses_total}
-use Rattle.pc_heap.specs.Objects.{address_cmp, ObjectMap, with_value}
+use Rattle.pc_heap.specs.Objects.{address_cmp, ObjectMap, with_value, Object}
 use Rattle.pc_heap.specs.declared.value.Address.{Address}
-use Rattle.pc_heap.specs.Object.{Object}
 use Rattle.pc_heap.specs.declared.value.Value.{Value}
 use Rattle.pc_heap.specs.declared.value.Value.TheVariants.{Num, Truth, Text, Prim, At}
 use Rattle.pc_core.specs.CoreData.{CoreData}

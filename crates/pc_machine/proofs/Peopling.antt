@@ -11,9 +11,8 @@ use Rattle.std.proofs.lemmas.Map.Lookups.{CmpEqualImpliesEq, exact_pairs, exact_
 use Rattle.std.proofs.lemmas.Map.Views.{tells_apart}
 use Rattle.pc_heap.specs.Addresses.{addresses_total}
 use Rattle.pc_heap.specs.Heaps.{object_limit}
-use Rattle.pc_heap.specs.Objects.{address_cmp, ObjectMap, made_by, next_address}
+use Rattle.pc_heap.specs.Objects.{address_cmp, ObjectMap, made_by, next_address, Object}
 use Rattle.pc_heap.specs.declared.value.Address.{Address}
-use Rattle.pc_heap.specs.Object.{Object}
 use Rattle.pc_semantics.specs.Configurations.{own_address}
 use Rattle.pc_machine.specs.States.{Peopled}
 use Rattle.pc_lists.specs.Counts.{one_if}

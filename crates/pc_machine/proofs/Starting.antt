@@ -5,10 +5,9 @@ use Rattle.std.specs.FinMap.{empty, get, insert, len, entries, put, get-insert, 
 use Rattle.std.specs.Ordering.{eq_by_cmp}
 use Rattle.pc_heap.specs.Addresses.{addresses_total}
 use Rattle.pc_heap.specs.Heaps.{object_limit}
-use Rattle.pc_heap.specs.Objects.{address_cmp, ObjectMap, next_address, object_in, with_field, with_value}
+use Rattle.pc_heap.specs.Objects.{address_cmp, ObjectMap, next_address, object_in, with_field, with_value, Object}
 use Rattle.pc_heap.specs.Fields.{field_at, field_in}
 use Rattle.pc_heap.specs.declared.value.Address.{Address}
-use Rattle.pc_heap.specs.Object.{Object}
 use Rattle.pc_heap.specs.declared.value.Value.{Value}
 use Rattle.pc_heap.specs.declared.value.Value.TheVariants.{At}
 use Rattle.pc_core.specs.CoreData.{CoreData}

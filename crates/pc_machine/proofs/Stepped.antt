@@ -6,7 +6,7 @@ use Rattle.pc_heap.specs.Objects.{ObjectMap}
 use Rattle.pc_heap.specs.declared.value.Value.{Value}
 use Rattle.pc_heap.specs.declared.value.Value.TheVariants.{Text, At}
 use Rattle.pc_core.specs.CoreData.{CoreData}
-use Rattle.pc_lists.specs.Options.{◌>>=◌}
+use Rattle.pc_lists.specs.Lists.{◌>>=◌}
 use Rattle.pc_core.specs.declared.declarations.Method.{Method}
 use Rattle.pc_semantics.specs.declared.actors.Actor.{Actor}
 use Rattle.pc_semantics.specs.declared.frames.Frame.{Frame}

@@ -1,8 +1,6 @@
 -- Lists of actors, changed at one place.
 use Rattle.std.specs.Prelude.{ℕ, zero, suc, List, [], ◌∷◌, ◌++◌, length, drop, map, sum, Option, Some, None, slice_get}
-use Rattle.pc_semantics.specs.declared.actors.Actor.{Actor}
-use Rattle.pc_semantics.specs.declared.frames.Frame.{Frame}
-use Rattle.pc_semantics.specs.declared.mailbox.Message.{Message}
+use Rattle.pc_semantics.specs.{declared.actors.Actor.Actor, declared.frames.Frame.Frame, declared.mailbox.Message.Message}
 
 -- The list with the element at a place changed.
 abbrev pub changed : {T : Type 0} → List T → ℕ → (T → T) → List T

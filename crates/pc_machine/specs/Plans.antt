@@ -1,21 +1,10 @@
 -- What a plan means, as the move of a task.
 use Rattle.std.specs.Prelude.{ℕ, ◌<◌, ◌≤◌, List, [], ◌∷◌, length, drop, Option, Some, None, nat_eq, nat_lt, ◌&&◌, if◌then◌else◌, slice_get}
-use Rattle.pc_heap.specs.Objects.{new_object, next_address}
-use Rattle.pc_heap.specs.Heaps.{field_limit}
-use Rattle.pc_heap.specs.declared.value.Value.{Value}
-use Rattle.pc_heap.specs.declared.value.Value.TheVariants.{At}
-use Rattle.pc_semantics.specs.declared.actors.Actor.{Actor}
-use Rattle.pc_semantics.specs.declared.frames.Frame.{Frame}
-use Rattle.pc_semantics.specs.declared.outcome.Outcome.{Outcome}
+use Rattle.pc_heap.specs.{Objects.new_object, Objects.next_address, Heaps.field_limit, declared.value.Value.Value, declared.value.Value.TheVariants.At}
+use Rattle.pc_semantics.specs.{declared.actors.Actor.Actor, declared.frames.Frame.Frame, declared.outcome.Outcome.Outcome, Configurations.Configuration, Configurations.own_address, Around.Around, Around.Move, Around.pushed, Around.with_slot, Around.none, Step.around, Step.left, Step.made}
+use Rattle.pc_machine.specs.{declared.plan.Change.Change, declared.plan.Change.TheVariants.Gives, declared.plan.Change.TheVariants.Enters, declared.plan.Change.TheVariants.Leaves, declared.plan.Plan.Plan, declared.plan.Plan.TheVariants.Lacks, declared.plan.Plan.TheVariants.Changes, declared.plan.Plan.TheVariants.Makes, declared.plan.Plan.TheVariants.Spawns, declared.plan.Plan.TheVariants.Sends}
 use Rattle.pc_semantics.specs.declared.outcome.Outcome.TheVariants as outcome
-use Rattle.pc_semantics.specs.Configurations.{Configuration, own_address}
 use Rattle.pc_semantics.specs.Around as move
-use Rattle.pc_semantics.specs.Around.{Around, Move, pushed, with_slot, none}
-use Rattle.pc_semantics.specs.Step.{around, left, made}
-use Rattle.pc_machine.specs.declared.plan.Change.{Change}
-use Rattle.pc_machine.specs.declared.plan.Change.TheVariants.{Gives, Enters, Leaves}
-use Rattle.pc_machine.specs.declared.plan.Plan.{Plan}
-use Rattle.pc_machine.specs.declared.plan.Plan.TheVariants.{Lacks, Changes, Makes, Spawns, Sends}
 
 -- The frame without its first task and without its topmost values.
 abbrev pub after_call : ℕ → Frame → Frame

@@ -5,19 +5,15 @@ use Rattle.std.specs.Str.{bytes_eq}
 use Rattle.std.proofs.lemmas.List.Folds.{list_any-append}
 use Rattle.pc_masks.specs.declared.mask.Mask.{Mask}
 use Rattle.pc_masks.specs.Masks.{has, join}
-use Rattle.pc_lists.specs.Places.{Has, Differ}
+use Rattle.pc_lists.specs.Lists.{Has, Differ, Text}
 use Rattle.pc_lists.proofs.Elements.{has_on}
 use Rattle.pc_tree.specs.declared.kinds.EntityKind.{EntityKind}
 use Rattle.pc_tree.specs.declared.written_names.Name.{Name}
-use Rattle.pc_tree.specs.Kinds.{is_abstract}
+use Rattle.pc_tree.specs.Kinds.{is_abstract, first_own}
 use Rattle.pc_tree.specs.Tree as t
-use Rattle.pc_lists.specs.Texts.{Text}
-use Rattle.pc_members.specs.Words.{method_texts, entity_names}
-use Rattle.pc_members.specs.Chains.{IsTransitiveClosure}
+use Rattle.pc_members.specs.Members.{method_texts, entity_names, IsTransitiveClosure, is_takable}
 use Rattle.pc_members.specs.Founded.{IsFounded}
 use Rattle.pc_members.specs.Edges.{entity_numbers}
-use Rattle.pc_tree.specs.BuiltIn.{first_own}
-use Rattle.pc_members.specs.Members.{is_takable}
 use Rattle.pc_members.specs.MemberLists.{of_entity, of_each, trait_methods, abstract_methods}
 use Rattle.pc_members.proofs.Ranks.{Target, steady, rank_few}
 use Rattle.pc_member_counts.specs.declared.block.Block.{Block}

@@ -3,15 +3,13 @@ use Rattle.std.proofs.Common.{◌≡◌, ℕ, zero, suc, List, [], ◌∷◌, �
 use Rattle.std.specs.Prelude.{slice_get, Option, None}
 use Rattle.std.proofs.lemmas.Option.{same_Some, none-some}
 use Rattle.std.proofs.lemmas.Bool.{or_left, or_right}
-use Rattle.pc_lists.specs.Places.{Has, Differ}
+use Rattle.pc_lists.specs.Lists.{Has, Differ, Text}
 use Rattle.pc_lists.proofs.Elements.{differ_none, has_on, has_either}
 use Rattle.pc_lists.proofs.Gets.{get_map}
 use Rattle.pc_tree.specs.declared.written_names.Name.{Name}
 use Rattle.pc_tree.specs.Tree as t
-use Rattle.pc_lists.specs.Texts.{Text}
-use Rattle.pc_members.specs.Words.{is_among, method_texts}
-use Rattle.pc_members.specs.Tables.{with_names}
-use Rattle.pc_members.specs.MemberLists.{firsts, entity_named, of_entity, of_each, trait_methods}
+use Rattle.pc_members.specs.MemberLists.{is_among, with_names, firsts, entity_named, of_entity, of_each, trait_methods}
+use Rattle.pc_members.specs.Members.{method_texts}
 use Rattle.pc_members.proofs.Differences.{names_differ, among_has, has_among}
 use Rattle.pc_members.proofs.Completed.{among_parts, names_known}
 use Rattle.pc_members.proofs.Named.{named_is}

@@ -4,13 +4,12 @@ use Rattle.std.specs.Prelude.{slice_get, slice_set, replicate}
 use Rattle.std.proofs.lemmas.Bool.{and_parts, and_from, eqb-true, eq-eqb}
 use Rattle.std.proofs.lemmas.Option.{same_Some}
 use Rattle.std.proofs.lemmas.List.{length-set, length-replicate}
-use Rattle.pc_lists.specs.Places.{Differ}
+use Rattle.pc_lists.specs.Lists.{Differ, Text}
 use Rattle.pc_lists.proofs.Bools.{true_false}
 use Rattle.pc_lists.proofs.Gets.{get_below, get_map, get_set_same, get_set_other}
 use Rattle.pc_tree.specs.Kinds.{is_abstract}
 use Rattle.pc_tree.specs.Tree as t
-use Rattle.pc_lists.specs.Texts.{Text}
-use Rattle.pc_members.specs.Words.{entity_names}
+use Rattle.pc_members.specs.Members.{entity_names}
 use Rattle.pc_members.specs.Founded.{IsFounded}
 use Rattle.pc_members.specs.Rounds.{rank, ClosesOwn, IsReached}
 use Rattle.pc_members.proofs.Ranks.{target, rank_less, rank_few, named_by}

@@ -11,7 +11,7 @@ use Rattle.pc_masks.specs.declared.mask.Mask.{Mask}
 use Rattle.pc_masks.specs.Masks.{has}
 use Rattle.pc_lists.proofs.Bools.{true_false}
 use Rattle.pc_lists.proofs.Gets.{get_within}
-use Rattle.pc_lists.specs.Texts.{Text}
+use Rattle.pc_lists.specs.Lists.{Text}
 
 bit_is : (n : ℕ) → n < 2 → (b : Bool) → nat_eq n 1 ≡ b → n ≡ cond b 1 0
 bit_is zero l true e = absurd (true_false (sym e))

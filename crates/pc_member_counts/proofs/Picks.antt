@@ -7,15 +7,13 @@ use Rattle.std.specs.Str.{bytes_eq}
 use Rattle.std.proofs.lemmas.Bool.{and_parts, and_cases, not-true, not-false}
 use Rattle.std.proofs.lemmas.Option.{same_Some, none-some}
 use Rattle.std.proofs.lemmas.List.Sums.{sum_by-cons}
-use Rattle.pc_lists.specs.Places.{Has, Differ}
+use Rattle.pc_lists.specs.Lists.{Has, Differ, Text}
 use Rattle.pc_lists.proofs.Bools.{true_false}
 use Rattle.pc_lists.proofs.Elements.{has_on}
 use Rattle.pc_tree.specs.declared.kinds.EntityKind.{EntityKind}
 use Rattle.pc_tree.specs.Tree as t
-use Rattle.pc_lists.specs.Texts.{Text}
-use Rattle.pc_members.specs.Words.{is_among, method_texts}
-use Rattle.pc_members.specs.Members.{is_takable}
-use Rattle.pc_members.specs.MemberLists.{firsts, methods_taken_over}
+use Rattle.pc_members.specs.MemberLists.{is_among, firsts, methods_taken_over}
+use Rattle.pc_members.specs.Members.{method_texts, is_takable}
 use Rattle.pc_members.proofs.Differences.{same_text, equal_texts}
 use Rattle.pc_member_counts.specs.Totals.{takes}
 use Rattle.pc_member_counts.proofs.Truths.{and_true, and_false, or_false, or_true}

@@ -9,11 +9,9 @@ use Rattle.std.proofs.lemmas.List.Sums.{prefix_len-le-length}
 use Rattle.std.proofs.lemmas.List.Quantifiers.{position-Some}
 use Rattle.pc_masks.specs.declared.mask.Mask.{Mask}
 use Rattle.pc_masks.specs.Masks.{has, without_number}
-use Rattle.pc_lists.specs.Places.{Differ}
+use Rattle.pc_lists.specs.Lists.{Differ, Text}
 use Rattle.pc_lists.proofs.Gets.{get_below}
-use Rattle.pc_lists.specs.Texts.{Text}
-use Rattle.pc_members.specs.Words.{is_among}
-use Rattle.pc_members.specs.Tables.{find_name}
+use Rattle.pc_members.specs.MemberLists.{is_among, find_name}
 use Rattle.pc_members.proofs.Differences.{same_text, equal_texts}
 use Rattle.pc_members.proofs.Ranks.{name_place}
 use Rattle.pc_member_counts.specs.Numbers.{number_in, numbers_in}

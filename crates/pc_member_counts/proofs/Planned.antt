@@ -5,7 +5,7 @@ use Rattle.std.proofs.lemmas.Bool.{ltb-true}
 use Rattle.std.proofs.lemmas.Option.{slice_get-get_or}
 use Rattle.std.proofs.lemmas.List.{length-take}
 use Rattle.pc_tree.specs.Tree as t
-use Rattle.pc_lists.specs.Texts.{Text}
+use Rattle.pc_lists.specs.Lists.{Text}
 use Rattle.pc_member_counts.specs.declared.block.Block.{Block}
 use Rattle.pc_member_counts.specs.declared.listing.Listing.{Listing}
 use Rattle.pc_member_counts.specs.declared.plan.Plan.{Plan}

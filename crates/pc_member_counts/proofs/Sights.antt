@@ -6,10 +6,9 @@ use Rattle.pc_tree.specs.declared.kinds.EntityKind.{EntityKind}
 use Rattle.pc_tree.specs.declared.kinds.EntityKind.TheVariants as kind
 use Rattle.pc_tree.specs.Kinds.{is_abstract}
 use Rattle.pc_tree.specs.Tree as t
-use Rattle.pc_lists.specs.Texts.{Text}
-use Rattle.pc_members.specs.Words.{is_among, method_texts}
-use Rattle.pc_members.specs.Members.{is_takable}
-use Rattle.pc_members.specs.MemberLists.{firsts}
+use Rattle.pc_lists.specs.Lists.{Text}
+use Rattle.pc_members.specs.MemberLists.{is_among, firsts}
+use Rattle.pc_members.specs.Members.{method_texts, is_takable}
 use Rattle.pc_members.proofs.Differences.{equal_texts}
 use Rattle.pc_members.proofs.Completed.{among_parts}
 use Rattle.pc_member_counts.specs.Totals.{takes}

@@ -4,14 +4,12 @@ use Rattle.std.specs.Prelude.{replicate}
 use Rattle.std.proofs.lemmas.List.{length-map, length-append}
 use Rattle.std.proofs.lemmas.List.Sums.{count_by-le-length}
 use Rattle.pc_lists.specs.Counts.{one_if}
-use Rattle.pc_lists.specs.Places.{Has}
+use Rattle.pc_lists.specs.Lists.{Has, Text}
 use Rattle.pc_lists.proofs.Elements.{has_on}
 use Rattle.pc_tree.specs.Kinds.{is_abstract}
 use Rattle.pc_tree.specs.Tree as t
-use Rattle.pc_lists.specs.Texts.{Text}
-use Rattle.pc_members.specs.Words.{is_among, method_texts, has_added}
-use Rattle.pc_members.specs.Members.{written, without_body, own_texts, added_if}
-use Rattle.pc_members.specs.MemberLists.{firsts, taken_over, of_each, trait_methods, abstract_methods, members, abstract_members, concrete_members}
+use Rattle.pc_members.specs.MemberLists.{is_among, firsts, taken_over, of_each, trait_methods, abstract_methods, members, abstract_members, concrete_members}
+use Rattle.pc_members.specs.Members.{method_texts, has_added, written, without_body, own_texts, added_if}
 use Rattle.pc_member_counts.specs.Numbers.{method_names}
 use Rattle.pc_member_counts.specs.Totals.{takes, gets, got, own_count, totals}
 use Rattle.pc_member_counts.proofs.Sights.{absent_is, sight_firsts}

@@ -9,15 +9,13 @@ use Rattle.std.proofs.lemmas.List.Folds.{list_any-append}
 use Rattle.std.proofs.Math.Seq.{take-add}
 use Rattle.pc_masks.specs.declared.mask.Mask.{Mask}
 use Rattle.pc_masks.specs.Masks.{has, empty, first, meet}
-use Rattle.pc_lists.specs.Places.{Differ}
+use Rattle.pc_lists.specs.Lists.{Differ, Text}
 use Rattle.pc_lists.proofs.Gets.{get_below, get_take, get_drop}
 use Rattle.pc_tree.specs.Kinds.{is_abstract}
 use Rattle.pc_tree.specs.Tree as t
-use Rattle.pc_lists.specs.Texts.{Text}
-use Rattle.pc_members.specs.Words.{is_among, field_texts, method_texts, entity_names, has_added}
+use Rattle.pc_members.specs.MemberLists.{is_among, of_each, abstract_methods}
+use Rattle.pc_members.specs.Members.{field_texts, method_texts, entity_names, has_added, added_text, own_texts}
 use Rattle.pc_members.specs.Founded.{IsFounded}
-use Rattle.pc_members.specs.Members.{added_text, own_texts}
-use Rattle.pc_members.specs.MemberLists.{of_each, abstract_methods}
 use Rattle.pc_members.specs.Rounds.{ClosesOwn}
 use Rattle.pc_members.proofs.Completed.{among_parts}
 use Rattle.pc_member_counts.specs.declared.block.Block.{Block}

@@ -1,14 +1,9 @@
 -- How the code counts, by masks, the members that each entity gets in addition to those written in it.
 use Rattle.std.specs.Prelude.{ℕ, ◌+◌, ◌-◌, List, [], ◌∷◌, count_ones, if◌then◌else◌}
-use Rattle.pc_masks.specs.declared.mask.Mask.{Mask}
-use Rattle.pc_masks.specs.Masks.{empty, first, without_number, meet, join}
-use Rattle.pc_tree.specs.declared.kinds.EntityKind.{EntityKind}
-use Rattle.pc_tree.specs.Kinds.{is_abstract}
+use Rattle.pc_masks.specs.{declared.mask.Mask.Mask, Masks.empty, Masks.first, Masks.without_number, Masks.meet, Masks.join}
+use Rattle.pc_tree.specs.{declared.kinds.EntityKind.EntityKind, Kinds.is_abstract}
+use Rattle.pc_member_counts.specs.{declared.block.Block.Block, declared.listing.Listing.Listing, Blocks.takable, Windows.is_within, Windows.block_at, Windows.own_place}
 use Rattle.pc_tree.specs.Tree as t
-use Rattle.pc_member_counts.specs.declared.block.Block.{Block}
-use Rattle.pc_member_counts.specs.declared.listing.Listing.{Listing}
-use Rattle.pc_member_counts.specs.Blocks.{takable}
-use Rattle.pc_member_counts.specs.Windows.{is_within, block_at, own_place}
 
 abbrev pub without_one : ℕ → Mask → ℕ → Mask
 without_one start m n = if is_within start n then without_number m (n - start) else m

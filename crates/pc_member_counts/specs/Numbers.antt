@@ -1,14 +1,10 @@
 -- How the code numbers names: the names of a file's methods, and the numbers of names among them.
 use Rattle.std.specs.Prelude.{ℕ, List, [], ◌∷◌, ◌++◌, map}
-use Rattle.std.specs.List.{position_or_len}
-use Rattle.std.specs.Str.{bytes_eq}
-use Rattle.pc_tree.specs.Tree as t
-use Rattle.pc_lists.specs.Texts.{Text}
-use Rattle.pc_members.specs.Words.{field_texts, method_texts, has_added}
-use Rattle.pc_members.specs.Tables.{with_names}
-use Rattle.pc_members.specs.Edges.{entity_numbers}
-use Rattle.pc_members.specs.Members.{added_text}
+use Rattle.std.specs.{List.position_or_len, Str.bytes_eq}
+use Rattle.pc_lists.specs.Lists.{Text}
+use Rattle.pc_members.specs.{Members.field_texts, Members.method_texts, Members.has_added, Members.added_text, MemberLists.with_names, Edges.entity_numbers}
 use Rattle.pc_member_counts.specs.declared.listing.Listing.{Listing}
+use Rattle.pc_tree.specs.Tree as t
 
 -- The known names, with those of all methods written in these entities appended, each once.
 abbrev pub method_names : List Text → List t.Entity → List Text

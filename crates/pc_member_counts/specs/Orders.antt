@@ -1,8 +1,8 @@
 -- How the code orders the traits and interfaces of a file: by the number of entities above them.
 use Rattle.std.specs.Prelude.{ℕ, zero, suc, ◌+◌, Bool, ◌&&◌, List, [], ◌∷◌, ◌++◌, length, nat_eq, if◌then◌else◌}
 use Rattle.pc_tree.specs.Kinds.{is_abstract}
-use Rattle.pc_tree.specs.Tree as t
 use Rattle.pc_members.specs.Rounds.{rank}
+use Rattle.pc_tree.specs.Tree as t
 
 abbrev pub is_of_rank : List (List ℕ) → (rank place : ℕ) → t.Entity → Bool
 is_of_rank own r i e = is_abstract e.kind && nat_eq (rank own i) r

@@ -1,12 +1,8 @@
 -- What the code computes for a file before it goes through the names.
 use Rattle.std.specs.Prelude.{◌≡◌, ℕ, List, [], map}
+use Rattle.pc_members.specs.{Members.entity_names, Founded.IsFounded, Rounds.ClosesOwn}
+use Rattle.pc_member_counts.specs.{declared.plan.Plan.Plan, Numbers.listing, Numbers.method_names, Orders.ordered}
 use Rattle.pc_tree.specs.Tree as t
-use Rattle.pc_members.specs.Words.{entity_names}
-use Rattle.pc_members.specs.Founded.{IsFounded}
-use Rattle.pc_members.specs.Rounds.{ClosesOwn}
-use Rattle.pc_member_counts.specs.declared.plan.Plan.{Plan}
-use Rattle.pc_member_counts.specs.Numbers.{listing, method_names}
-use Rattle.pc_member_counts.specs.Orders.{ordered}
 
 -- The first argument has the entities above each entity of the file.
 abbrev pub planned : List (List ℕ) → t.File → Plan

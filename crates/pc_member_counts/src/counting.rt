@@ -1,10 +1,9 @@
 //! How many members each entity of a file has.
 ghost use Rattle.std.specs.Prelude.{◌≡◌, ◌<◌, ◌≤◌, ◌+◌, ◌^◌, map, length, take, replicate, All, IfOk};
 ghost use Rattle.pc_tree.specs.View.{entity_view, file_view};
-ghost use Rattle.pc_members.specs.Chains.{IsTransitiveClosure};
+ghost use Rattle.pc_members.specs.Members.{IsTransitiveClosure, entity_names};
 ghost use Rattle.pc_members.specs.Founded.{IsFounded};
 ghost use Rattle.pc_members.specs.MemberLists.{members};
-ghost use Rattle.pc_members.specs.Words.{entity_names};
 ghost use Rattle.pc_member_counts.specs.Plans.{Plans};
 ghost use Rattle.pc_member_counts.specs.Totals as spec;
 

@@ -2,7 +2,7 @@
 ghost use Rattle.std.specs.Prelude.{◌≡◌, ◌++◌, map, IfOk, OnOk};
 ghost use Rattle.pc_tree.specs.View.{entity_view};
 ghost use Rattle.pc_members.specs.Members.{added_text};
-ghost use Rattle.pc_members.specs.Words as words;
+ghost use Rattle.pc_members.specs.Members as words;
 ghost use Rattle.pc_member_counts.specs.Numbers as spec;
 
 use crate::numbers::{number_fields, number_in, number_methods};

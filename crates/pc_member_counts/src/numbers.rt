@@ -1,7 +1,7 @@
 //! The names of a file's methods, and the numbers of names among them.
 ghost use Rattle.std.specs.Prelude.{◌≡◌, ◌++◌, [], map, IfOk};
 ghost use Rattle.pc_tree.specs.View.{entity_view, field_view, method_view};
-ghost use Rattle.pc_members.specs.Words.{field_texts, method_texts};
+ghost use Rattle.pc_members.specs.Members.{field_texts, method_texts};
 ghost use Rattle.pc_member_counts.specs.Numbers as spec;
 
 use pc_caps::List;

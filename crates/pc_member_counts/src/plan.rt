@@ -1,7 +1,7 @@
 //! What is computed for a file before its names are gone through.
 ghost use Rattle.std.specs.Prelude.{◌≡◌, IfOk};
 ghost use Rattle.pc_tree.specs.View.{file_view};
-ghost use Rattle.pc_members.specs.Words.{entity_names};
+ghost use Rattle.pc_members.specs.Members.{entity_names};
 ghost use Rattle.pc_member_counts.specs.Plans as spec;
 
 use crate::listing::{Listing, list_entities};

@@ -5,10 +5,8 @@ use Rattle.std.specs.Str.{bytes_eq}
 use Rattle.std.proofs.lemmas.Slice.Eq.{bytes_eq-Decides}
 use Rattle.std.proofs.lemmas.Option.{same_Some, none-some}
 use Rattle.std.proofs.lemmas.Cmp.{nat_list_eq_equiv}
-use Rattle.pc_lists.specs.Places.{Has, Differ}
-use Rattle.pc_lists.specs.Texts.{Text}
-use Rattle.pc_members.specs.Words.{is_among}
-use Rattle.pc_members.specs.Tables.{with_name, with_names}
+use Rattle.pc_lists.specs.Lists.{Has, Differ, Text}
+use Rattle.pc_members.specs.MemberLists.{is_among, with_name, with_names}
 use Rattle.pc_lists.proofs.Bools.{true_false}
 use Rattle.pc_lists.proofs.Elements.{has_on}
 

@@ -6,7 +6,7 @@ use Rattle.std.proofs.lemmas.Cmp.{nat_eq_equiv}
 use Rattle.std.proofs.lemmas.Option.{same_Some, none-some}
 use Rattle.std.proofs.lemmas.List.{length-set}
 use Rattle.pc_lists.proofs.Gets.{get_below, get_set_same, get_set_other}
-use Rattle.pc_members.specs.Reach.{has_number, added_last}
+use Rattle.pc_members.specs.Edges.{has_number, added_last}
 use Rattle.pc_members.specs.Marks.{IsMarked}
 
 -- The test that finds an element equal to a number finds the number.

@@ -5,13 +5,11 @@ use Rattle.std.specs.Str.{bytes_eq}
 use Rattle.std.proofs.lemmas.Option.{same_Some, none-some}
 use Rattle.pc_tree.specs.Kinds.{is_abstract}
 use Rattle.pc_tree.specs.Tree as t
-use Rattle.pc_lists.specs.Places.{Has, Differ}
+use Rattle.pc_lists.specs.Lists.{Has, Differ, Text}
 use Rattle.pc_lists.proofs.Gets.{get_append, get_map}
 use Rattle.pc_lists.proofs.Elements.{has_on, has_either}
-use Rattle.pc_lists.specs.Texts.{Text}
-use Rattle.pc_members.specs.Words.{is_among, built_in_names, texts_of, entity_names}
-use Rattle.pc_members.specs.Tables.{with_name, with_traits, trait_names}
-use Rattle.pc_members.specs.MemberLists.{entity_named}
+use Rattle.pc_members.specs.MemberLists.{is_among, with_name, with_traits, trait_names, entity_named}
+use Rattle.pc_members.specs.Members.{built_in_names, texts_of, entity_names}
 use Rattle.pc_members.proofs.Differences.{equal_texts}
 
 pub named_is : (es : List t.Entity) (name : Text) (f : t.Entity) → entity_named es name ≡ Some f → Has es f × (f.name.text ≡ name)

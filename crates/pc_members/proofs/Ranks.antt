@@ -11,20 +11,15 @@ use Rattle.std.proofs.lemmas.Iterator.Adapters.{position_from-zero}
 use Rattle.indexmap.proofs.IndexTableLemmas.Probe.{pigeonhole}
 use Rattle.pc_lists.proofs.Gets.{get_below, get_within, get_append, get_map, map_get}
 use Rattle.pc_tree.specs.declared.written_names.Name.{Name}
-use Rattle.pc_tree.specs.Kinds.{is_abstract}
+use Rattle.pc_tree.specs.Kinds.{is_abstract, first_own}
 use Rattle.pc_tree.specs.Tree as t
-use Rattle.pc_lists.specs.Places.{Has, Differ, Ascends}
-use Rattle.pc_lists.specs.Texts.{Text}
-use Rattle.pc_members.specs.Words.{is_among, built_in_names, texts_of, entity_names, or_nil}
-use Rattle.pc_members.specs.Tables.{find_name}
-use Rattle.pc_members.specs.Chains.{entity_at, ProvidesInFile, LeadsInFile, one, more, IsAbove, IsTransitiveClosure}
+use Rattle.pc_lists.specs.Lists.{Has, Differ, Ascends, Text}
+use Rattle.pc_members.specs.MemberLists.{is_among, find_name, or_no_members, firsts, entity_named, of_entity, of_each, trait_methods, abstract_methods}
+use Rattle.pc_members.specs.Members.{built_in_names, texts_of, entity_names, or_nil, entity_at, ProvidesInFile, LeadsInFile, one, more, IsAbove, IsTransitiveClosure, Member, written}
 use Rattle.pc_members.specs.Founded.{IsFounded}
-use Rattle.pc_tree.specs.BuiltIn.{first_own}
 use Rattle.pc_members.proofs.Differences.{same_text, equal_texts}
 use Rattle.pc_lists.proofs.Bools.{true_false}
 use Rattle.pc_members.proofs.Closings.{nobody, no_entity}
-use Rattle.pc_members.specs.Members.{Member, written, or_no_members}
-use Rattle.pc_members.specs.MemberLists.{firsts, entity_named, of_entity, of_each, trait_methods, abstract_methods}
 use Rattle.pc_lists.proofs.Elements.{has_on}
 use Rattle.pc_members.proofs.Named.{named_is, one_entity, is_trait_named}
 use Rattle.pc_members.specs.Rounds.{first_members, named_all, table_members, gathered, methods_written}

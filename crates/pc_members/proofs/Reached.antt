@@ -6,8 +6,8 @@ use Rattle.std.proofs.lemmas.Cmp.{nat_eq_equiv}
 use Rattle.std.proofs.lemmas.Option.{same_Some, none-some}
 use Rattle.std.proofs.lemmas.Map.Keys.{IsDistinct-push}
 use Rattle.std.proofs.lemmas.Map.Steps.{length-le_from_distinct_below}
-use Rattle.pc_lists.specs.Places.{Has, Ascends, IsIn}
-use Rattle.pc_members.specs.Reach.{Edges, edges_from, has_number, added_last, add_all, reach_turn, grow, reached, ascending, above_from, EdgePath, link, links}
+use Rattle.pc_lists.specs.Lists.{Has, Ascends, IsIn}
+use Rattle.pc_members.specs.Edges.{Edges, edges_from, has_number, added_last, add_all, reach_turn, grow, reached, ascending, above_from, EdgePath, link, links}
 use Rattle.pc_members.proofs.Reaches.{any_has, has_in, get_in, in_get, only_led, all_led}
 use Rattle.pc_lists.proofs.Bools.{true_false}
 use Rattle.pc_lists.proofs.Elements.{ascends_none}

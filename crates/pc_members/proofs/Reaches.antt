@@ -3,9 +3,8 @@ use Rattle.std.proofs.Common.{◌≡◌, ℕ, zero, suc, ◌+◌, ◌-◌, ◌�
 use Rattle.std.specs.Prelude.{slice_get}
 use Rattle.std.specs.List.{list_any}
 use Rattle.std.proofs.lemmas.Option.{same_Some, none-some, slice_get_within}
-use Rattle.pc_members.specs.Reach.{Edges, edges_from, has_number, added_last, add_all, reach_turn, grow, reached_in, reached, ascending, above_from, EdgePath}
-use Rattle.pc_members.specs.Reach.{link, links}
-use Rattle.pc_lists.specs.Places.{IsIn}
+use Rattle.pc_members.specs.Edges.{Edges, edges_from, has_number, added_last, add_all, reach_turn, grow, reached_in, reached, ascending, above_from, EdgePath, link, links}
+use Rattle.pc_lists.specs.Lists.{IsIn}
 
 in_front : (b : ℕ) (xs ys : List ℕ) → IsIn b xs → IsIn b (xs ++ ys)
 in_front b [] ys h = absurd h

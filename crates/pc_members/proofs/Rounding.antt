@@ -4,13 +4,11 @@ use Rattle.std.specs.Prelude.{slice_get, slice_set}
 use Rattle.std.proofs.lemmas.Option.{same_Some}
 use Rattle.std.proofs.lemmas.List.{length-set}
 use Rattle.pc_lists.proofs.Gets.{get_below, get_drop, get_set_same, get_set_other}
-use Rattle.pc_tree.specs.Kinds.{is_abstract}
+use Rattle.pc_tree.specs.Kinds.{is_abstract, first_own}
 use Rattle.pc_tree.specs.Tree as t
-use Rattle.pc_lists.specs.Texts.{Text}
-use Rattle.pc_members.specs.Words.{entity_names, or_nil}
+use Rattle.pc_lists.specs.Lists.{Text}
+use Rattle.pc_members.specs.Members.{entity_names, or_nil, Member}
 use Rattle.pc_members.specs.Founded.{IsFounded}
-use Rattle.pc_tree.specs.BuiltIn.{first_own}
-use Rattle.pc_members.specs.Members.{Member}
 use Rattle.pc_members.specs.Rounds.{gathered, methods_written, rank, ClosesOwn, Knows, IsReached}
 use Rattle.pc_members.proofs.Ranks.{gathers, rank_few, rank_at}
 

@@ -3,7 +3,7 @@ use Rattle.std.proofs.Common.{◌≡◌, ℕ, zero, suc, ◌∙◌, ◌+◌, Lis
 use Rattle.std.specs.List.{list_any, position, position_or_len, prefix_len}
 use Rattle.std.specs.Prelude.{Option, Some, None, nat_lt, slice_get}
 use Rattle.std.specs.Str.{bytes_eq}
-use Rattle.pc_members.specs.Tables.{with_name}
+use Rattle.pc_members.specs.MemberLists.{with_name}
 use Rattle.std.proofs.lemmas.List.{map-append, length-map}
 
 module _ {K X : Type 0} (f : K → X) (p : X → Bool) where

@@ -1,9 +1,5 @@
-pub mod Words
-pub mod Tables
-pub mod Reach
 pub mod Edges
 pub mod Founded
-pub mod Chains
 pub mod MemberLists
 pub mod Members
 pub mod Views

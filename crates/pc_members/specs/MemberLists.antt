@@ -1,13 +1,53 @@
 -- The members of an entity in the order of their numbers, each list made from those of the entities above it.
-use Rattle.std.specs.Prelude.{ℕ, zero, suc, ◌&&◌, not, List, [], ◌∷◌, ◌++◌, map, length, Option, Some, None, if◌then◌else◌}
-use Rattle.std.specs.Str.{bytes_eq}
-use Rattle.pc_tree.specs.declared.kinds.EntityKind.{EntityKind}
-use Rattle.pc_tree.specs.declared.written_names.Name.{Name}
-use Rattle.pc_tree.specs.Kinds.{is_abstract}
+use Rattle.std.specs.Prelude.{ℕ, List, [], ◌∷◌, ◌++◌, Option, position, if◌then◌else◌, zero, suc, ◌&&◌, not, map, length, Some, None, Bool, true}
+use Rattle.std.specs.{Str.bytes_eq, List.list_any}
+use Rattle.pc_lists.specs.Lists.{Text}
+use Rattle.pc_tree.specs.{Kinds.is_abstract, declared.kinds.EntityKind.EntityKind, declared.written_names.Name.Name}
+use Rattle.pc_members.specs.Members.{has_added, Member, written, added, without_body, own_texts, is_takable, added_if, is_new}
+use Rattle.pc_caps.specs.declared.span.Span.{Span}
 use Rattle.pc_tree.specs.Tree as t
-use Rattle.pc_lists.specs.Texts.{Text}
-use Rattle.pc_members.specs.Words.{is_among, has_added}
-use Rattle.pc_members.specs.Members.{Member, written, without_body, own_texts, is_takable, added_if}
+
+-- The span of an added `create` is the name of its entity.
+abbrev pub member_span : Span → Member → Span
+member_span entity (written m) = m.name.span
+member_span entity added = entity
+
+abbrev pub is_constructor : Member → Bool
+is_constructor (written m) = is_new m.word
+is_constructor added = true
+
+-- The members that a table has at a place, or none if it does not have the place.
+abbrev pub or_no_members : Option (List Member) → List Member
+or_no_members None = []
+or_no_members (Some ms) = ms
+
+-- The text is in the list.
+abbrev pub is_among : Text → List Text → Bool
+is_among text texts = list_any (bytes_eq text) texts
+
+-- ---- lists of different names
+
+-- The known names, with this one appended if it is new.
+abbrev pub with_name : List Text → Text → List Text
+with_name names name = if is_among name names then names else names ++ name ∷ []
+
+abbrev pub with_names : List Text → List Text → List Text
+with_names names [] = names
+with_names names (x ∷ xs) = with_names (with_name names x) xs
+
+-- The number of a name.
+abbrev pub find_name : List Text → Text → Option ℕ
+find_name names name = position (bytes_eq name) names
+
+-- The known names, with those of the traits among these entities appended.
+abbrev pub with_traits : List Text → List t.Entity → List Text
+with_traits known [] = known
+with_traits known (e ∷ es) = with_traits (if is_abstract e.kind then with_name known e.name.text else known) es
+
+abbrev pub trait_names : List t.Entity → List Text
+trait_names es = with_traits [] es
+
+-- ---- the members of an entity in the order of their numbers, each list made from those of the entities above it
 
 -- Of all methods with the same name, the first. Methods whose names are in `known` are left out.
 abbrev pub firsts : List Text → List t.Method → List t.Method

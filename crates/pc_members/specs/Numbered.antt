@@ -1,8 +1,6 @@
 -- The members that numbered methods represent. Their numbers are left out.
 use Rattle.std.specs.Prelude.{List, map, Option, Some, None}
-use Rattle.pc_members.specs.declared.known.Numbered.{Numbered}
-use Rattle.pc_members.specs.Members.{Member}
-use Rattle.pc_members.specs.Views.{member_view}
+use Rattle.pc_members.specs.{declared.known.Numbered.Numbered, Members.Member, Views.member_view}
 
 abbrev pub numbered_view : List Numbered → List Member
 numbered_view ms = map (λ (n : Numbered). member_view n.member) ms

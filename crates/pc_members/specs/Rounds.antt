@@ -2,17 +2,10 @@
 -- those it names, and then from these the members of each entity.
 -- ---- the methods of traits and interfaces
 use Rattle.std.specs.Prelude.{◌≡◌, ◌⊎◌, ◌&&◌, ◌<◌, Bool, true, false, not, ℕ, ◌-◌, ◌+◌, List, [], ◌∷◌, ◌++◌, map, drop, length, Option, Some, None, slice_get, if◌then◌else◌}
-use Rattle.pc_tree.specs.declared.kinds.EntityKind.{EntityKind}
-use Rattle.pc_tree.specs.declared.written_names.Name.{Name}
-use Rattle.pc_tree.specs.Kinds.{is_abstract}
+use Rattle.pc_tree.specs.{declared.kinds.EntityKind.EntityKind, declared.written_names.Name.Name, Kinds.is_abstract, Kinds.first_own}
+use Rattle.pc_lists.specs.Lists.{Text}
+use Rattle.pc_members.specs.{MemberLists.is_among, MemberLists.find_name, MemberLists.with_names, MemberLists.or_no_members, MemberLists.abstract_methods, Members.has_added, Members.or_nil, Members.IsTransitiveClosure, Members.Member, Members.member_text, Members.written, Members.added, Members.without_body, Members.is_takable, Members.own_texts, Members.added_if}
 use Rattle.pc_tree.specs.Tree as t
-use Rattle.pc_lists.specs.Texts.{Text}
-use Rattle.pc_members.specs.Words.{is_among, has_added, or_nil}
-use Rattle.pc_members.specs.Tables.{find_name, with_names}
-use Rattle.pc_members.specs.Chains.{IsTransitiveClosure}
-use Rattle.pc_tree.specs.BuiltIn.{first_own}
-use Rattle.pc_members.specs.Members.{Member, member_text, written, added, without_body, is_takable, own_texts, added_if, or_no_members}
-use Rattle.pc_members.specs.MemberLists.{abstract_methods}
 
 -- Of all members with the same name, the first. Members whose names are in `known` are left out.
 abbrev pub first_members : List Text → List Member → List Member

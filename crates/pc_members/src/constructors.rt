@@ -3,7 +3,7 @@ ghost use Rattle.std.specs.Prelude.{◌≡◌, map};
 ghost use Rattle.std.specs.List.{list_any};
 ghost use Rattle.pc_tree.specs.Tree as tree;
 ghost use Rattle.pc_tree.specs.View.{entity_view, method_view};
-ghost use Rattle.pc_members.specs.Words as spec;
+ghost use Rattle.pc_members.specs.Members as spec;
 
 use pc_tree::{Entity, MethodDef, MethodWord};
 

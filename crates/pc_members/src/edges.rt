@@ -1,9 +1,9 @@
 //! The `is` lists, as edges between the numbers of entities.
 ghost use Rattle.std.specs.Prelude.{◌≡◌, ◌++◌, [], map, replicate, IfOk, OnOk};
-ghost use Rattle.pc_tree.specs.BuiltIn.{first_own};
+ghost use Rattle.pc_tree.specs.Kinds.{first_own};
 ghost use Rattle.pc_tree.specs.View.{entity_view, file_view};
 ghost use Rattle.pc_members.specs.Edges as spec;
-ghost use Rattle.pc_members.specs.Words.{entity_names};
+ghost use Rattle.pc_members.specs.Members.{entity_names};
 
 use crate::table::NameTable;
 use pc_caps::List;

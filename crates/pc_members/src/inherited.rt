@@ -1,13 +1,10 @@
 //! The members of each entity of a file, including what it takes over.
 ghost use Rattle.std.specs.Prelude.{◌≡◌, ◌≤◌, ◌++◌, map, drop, length, slice_get, IfOk, OnOk};
 ghost use Rattle.pc_tree.specs.View.{entity_view, file_view};
-ghost use Rattle.pc_members.specs.Chains.{IsTransitiveClosure};
+ghost use Rattle.pc_members.specs.Members.{IsTransitiveClosure, entity_names};
 ghost use Rattle.pc_members.specs.Founded.{IsFounded};
-ghost use Rattle.pc_tree.specs.BuiltIn.{first_own};
-ghost use Rattle.pc_members.specs.MemberLists.{members};
-ghost use Rattle.pc_members.specs.Members.{or_no_members};
-ghost use Rattle.pc_members.specs.Tables.{find_name};
-ghost use Rattle.pc_members.specs.Words.{entity_names};
+ghost use Rattle.pc_tree.specs.Kinds.{first_own};
+ghost use Rattle.pc_members.specs.MemberLists.{members, or_no_members, find_name};
 ghost use Rattle.pc_members.specs.Rounds as spec;
 ghost use Rattle.pc_members.specs.Numbered.{numbered_table, numbered_view};
 ghost use Rattle.pc_members.specs.Views.{members_view, table_view};

@@ -1,9 +1,8 @@
 //! The names that are known while the methods of a trait or an interface are gathered.
 ghost use Rattle.std.specs.Prelude.{◌≡◌, [], true, IsTrue, OnOk};
 ghost use Rattle.pc_members.specs.Members.{member_text};
-ghost use Rattle.pc_members.specs.Tables.{with_name};
+ghost use Rattle.pc_members.specs.MemberLists.{with_name, is_among};
 ghost use Rattle.pc_members.specs.Views.{member_view};
-ghost use Rattle.pc_members.specs.Words.{is_among};
 
 use crate::member::Member;
 use crate::table::NameTable;

@@ -1,4 +1,5 @@
 //! The members of an entity.
+ghost use Rattle.pc_members.specs.MemberLists as lists;
 ghost use Rattle.std.specs.Prelude.{◌≡◌, ◌++◌, map, IfOk, OnOk};
 ghost use Rattle.pc_tree.specs.View.{entity_view, method_view};
 ghost use Rattle.pc_members.specs.Members as spec;
@@ -35,7 +36,7 @@ impl<'a> Member<'a> {
 
     /// The span of the member, in an entity whose name has this span.
     pub fn span(&self, entity: Span) -> Span
-        ensures { result ≡ spec.member_span entity (member_view self.now) }
+        ensures { result ≡ lists.member_span entity (member_view self.now) }
     {
         match self {
             Member::Written(method) => method.name.span,
@@ -46,7 +47,7 @@ impl<'a> Member<'a> {
 
     /// Whether it is a constructor.
     pub fn is_constructor(&self) -> bool
-        ensures { result ≡ spec.is_constructor (member_view self.now) }
+        ensures { result ≡ lists.is_constructor (member_view self.now) }
     {
         match self {
             Member::Written(method) => matches!(method.word, MethodWord::New),

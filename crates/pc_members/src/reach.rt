@@ -1,6 +1,6 @@
 //! What can be reached from each entity.
 ghost use Rattle.std.specs.Prelude.{◌≡◌, ◌<◌, ◌+◌, [], ◌++◌, ◌^◌, false, length, true, OnOk, IfOk, replicate, slice_get, slice_set};
-ghost use Rattle.pc_members.specs.Reach as spec;
+ghost use Rattle.pc_members.specs.Edges as spec;
 
 use pc_caps::List;
 use std::alloc::{AllocError, Global};

@@ -4,18 +4,16 @@ use Rattle.std.specs.Prelude.{◌⊎◌, slice_get, nat_lt, codes}
 use Rattle.std.specs.Str.{bytes_eq}
 use Rattle.std.proofs.lemmas.Bool.{ltb-true}
 use Rattle.std.proofs.lemmas.Option.{same_Some, none-some}
-use Rattle.pc_lists.specs.Places.{Has}
+use Rattle.pc_lists.specs.Lists.{Has, Text}
 use Rattle.pc_lists.proofs.Bools.{true_false, false_true}
 use Rattle.pc_tree.specs.Tree as t
 use Rattle.pc_names.specs.declared.fault.NameFault.{NameFault}
 use Rattle.pc_names.specs.declared.fault.NameFault.TheVariants as fault
 use Rattle.pc_names.specs.declared.fault.Which.TheVariants as which
-use Rattle.pc_lists.specs.Texts.{Text}
-use Rattle.pc_members.specs.Words.{texts_of}
-use Rattle.pc_names.specs.Counts.{method_count, count_faults}
+use Rattle.pc_members.specs.Members.{texts_of}
+use Rattle.pc_names.specs.Faults.{method_count, count_faults, main_faults, where_}
 use Rattle.pc_caps.specs.Limits.{method_limit}
-use Rattle.pc_names.specs.Mains.{is_main, main_faults}
-use Rattle.pc_names.specs.Faults.{where_}
+use Rattle.pc_names.specs.Mains.{is_main}
 use Rattle.pc_names.specs.Laws.{fault_start}
 use Rattle.pc_members.proofs.Differences.{same_text, equal_texts}
 use Rattle.pc_body_spec.proofs.Places.{Sub, none, skip, take}

@@ -5,7 +5,7 @@ use Rattle.std.proofs.lemmas.Bool.{ltb-true, cases_lt}
 use Rattle.std.proofs.lemmas.List.{length-append}
 use Rattle.std.proofs.lemmas.Option.{same_Some, none-some}
 use Rattle.pc_caps.specs.Limits.{field_limit}
-use Rattle.pc_lists.specs.Places.{Has}
+use Rattle.pc_lists.specs.Lists.{Has, Text}
 use Rattle.pc_lists.proofs.Bools.{true_false, false_true}
 use Rattle.pc_lists.proofs.Elements.{has_front, has_behind, has_either}
 use Rattle.pc_lists.proofs.Gets.{get_take, take_get}
@@ -17,12 +17,10 @@ use Rattle.pc_tree.specs.Tree as t
 use Rattle.pc_names.specs.declared.fault.NameFault.{NameFault}
 use Rattle.pc_names.specs.declared.fault.NameFault.TheVariants as fault
 use Rattle.pc_names.specs.declared.fault.Which.TheVariants as which
-use Rattle.pc_lists.specs.Texts.{Text}
-use Rattle.pc_members.specs.Words.{is_among, built_in_names, entity_names, texts_of, has_added}
-use Rattle.pc_members.specs.Tables.{with_name, with_traits, trait_names}
+use Rattle.pc_members.specs.MemberLists.{is_among, with_name, with_traits, trait_names}
+use Rattle.pc_members.specs.Members.{built_in_names, entity_names, texts_of, has_added, field_texts, method_texts}
 use Rattle.pc_names.specs.Faults as spec
 use Rattle.pc_names.specs.Faults.{where_, either_fault}
-use Rattle.pc_members.specs.Words.{field_texts, method_texts}
 use Rattle.pc_members.proofs.Named.{is_trait_named}
 use Rattle.pc_file_spec.proofs.Tables.{names_there, names_kept}
 use Rattle.pc_name_laws.specs.Uses.{param_texts}

@@ -4,27 +4,19 @@ use Rattle.std.specs.Prelude.{slice_get, Result, Ok, Err}
 use Rattle.std.proofs.lemmas.Option.{same_Some, none-some}
 use Rattle.std.proofs.lemmas.Bool.{cases_lt}
 use Rattle.std.proofs.lemmas.List.{take_all}
-use Rattle.pc_lists.specs.Places.{Has}
+use Rattle.pc_lists.specs.Lists.{Has}
 use Rattle.pc_lists.proofs.Gets.{get_below, take_get}
 use Rattle.pc_tree.specs.declared.written_names.Name.{Name}
-use Rattle.pc_tree.specs.Kinds.{is_abstract}
+use Rattle.pc_tree.specs.Kinds.{is_abstract, first_own}
 use Rattle.pc_tree.specs.Tree as t
 use Rattle.pc_core.specs.declared.nodes.Node.{Node}
 use Rattle.pc_core.specs.CoreData.{CoreData}
 use Rattle.pc_names.specs.declared.fault.NameFault.{NameFault}
 use Rattle.pc_names.specs.declared.fault.NameFault.TheVariants as fault
 use Rattle.pc_names.specs.declared.fault.Which.TheVariants as which
-use Rattle.pc_members.specs.Words.{built_in_names, entity_names}
-use Rattle.pc_names.specs.Faults.{where_, entity_name_faults, declaration_faults}
-use Rattle.pc_members.specs.Reach.{above_all, has_number}
-use Rattle.pc_members.specs.Chains.{IsTransitiveClosure}
-use Rattle.pc_members.specs.Edges.{edges_of}
-use Rattle.pc_tree.specs.BuiltIn.{first_own}
-use Rattle.pc_names.specs.Cycles.{cycle_faults}
-use Rattle.pc_names.specs.Counts.{count_faults}
-use Rattle.pc_names.specs.Mains.{main_faults}
-use Rattle.pc_names.specs.Texts.{built_in_and_member_texts}
-use Rattle.pc_names.specs.Names.{NamesData, Collected, name_faults, above_faults, IsNotMemory}
+use Rattle.pc_members.specs.Members.{built_in_names, entity_names, IsTransitiveClosure, Member, written, added}
+use Rattle.pc_names.specs.Faults.{where_, entity_name_faults, declaration_faults, cycle_faults, count_faults, main_faults, built_in_and_member_texts, NamesData, Collected, name_faults, above_faults, IsNotMemory}
+use Rattle.pc_members.specs.Edges.{above_all, has_number, edges_of}
 use Rattle.pc_names.specs.Laws.{fault_start}
 use Rattle.pc_names.proofs.Ones.{first_is}
 use Rattle.pc_members.proofs.Closings.{closes}
@@ -32,11 +24,8 @@ use Rattle.pc_names.proofs.OtherTexts.{other_texts_differ}
 use Rattle.pc_caps.specs.Limits.{node_limit}
 use Rattle.pc_body_spec.specs.Faults.{BodyNameFault, unknown, double, long_text}
 use Rattle.pc_body_spec.specs.Places as body_places
-use Rattle.pc_members.specs.Members.{Member, written, added, member_span}
-use Rattle.pc_file_spec.specs.Members.{Owned}
-use Rattle.pc_file_spec.specs.Signatures.{context_of}
-use Rattle.pc_file_spec.specs.Parts.{Parts, body_fault, built_in_parts, and_members, parts_of, if_ok}
-use Rattle.pc_file_spec.specs.Cores.{core_of, core_with}
+use Rattle.pc_members.specs.MemberLists.{member_span}
+use Rattle.pc_file_spec.specs.Cores.{Owned, context_of, Parts, body_fault, built_in_parts, and_members, parts_of, if_ok, core_of, core_with}
 use Rattle.pc_file_spec.proofs.Collects.{Collects, collects}
 use Rattle.pc_file_spec.proofs.Origins.{sort_of}
 use Rattle.pc_file_spec.proofs.Declared.{member_order}
@@ -49,8 +38,7 @@ use Rattle.pc_elab.proofs.Wholes.{in_order, in_place}
 use Rattle.pc_name_laws.specs.Missing.{IsBodyFault}
 use Rattle.pc_name_laws.specs.Declared.{IsEntityFault, IsDeclarationFault}
 use Rattle.pc_name_laws.specs.Declared as law
-use Rattle.pc_name_laws.specs.Turns.{Turn, entity_names as all_names, declarations, cycles, method_counts, main, body, slots, nodes, pass, part, Earlier}
-use Rattle.pc_name_laws.specs.Turns.{IsFaultInTurn, all_members, slots_named, nodes_of, owned_size}
+use Rattle.pc_name_laws.specs.Turns.{Turn, entity_names as all_names, declarations, cycles, method_counts, main, body, slots, nodes, pass, part, Earlier, IsFaultInTurn, all_members, slots_named, nodes_of, owned_size}
 use Rattle.pc_name_laws.specs.Laws.{IsTold, FaultIsTold}
 use Rattle.pc_name_laws.proofs.Declarations.{entities_list}
 use Rattle.pc_name_laws.proofs.Counting.{file_counts, file_mains}

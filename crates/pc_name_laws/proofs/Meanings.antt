@@ -4,16 +4,14 @@ use Rattle.std.specs.Prelude.{◌⊎◌, slice_get, nat_eq, nat_le}
 use Rattle.std.specs.Str.{bytes_eq}
 use Rattle.std.proofs.lemmas.Bool.{leb-true, le-leb, eqb-true}
 use Rattle.std.proofs.lemmas.Option.{same_Some, none-some}
-use Rattle.pc_lists.specs.Places.{Has}
+use Rattle.pc_lists.specs.Lists.{Has, Text}
 use Rattle.pc_lists.proofs.Bools.{true_false}
 use Rattle.pc_lists.proofs.Elements.{has_on}
 use Rattle.pc_tree.specs.declared.kinds.EntityKind.{EntityKind}
 use Rattle.pc_tree.specs.declared.kinds.EntityKind.TheVariants as kind
-use Rattle.pc_lists.specs.Texts.{Text}
-use Rattle.pc_tree.specs.BuiltIn.{first_own}
+use Rattle.pc_tree.specs.Kinds.{first_own}
 use Rattle.pc_members.proofs.Differences.{same_text, equal_texts}
-use Rattle.pc_body_spec.specs.Scopes.{Context, KnownEntity, Constructor, Scope, Visible, is_among_names, slot_named, TypeMeaning, primitive, created, no_value}
-use Rattle.pc_body_spec.specs.Scopes.{is_own, by_kind, type_from, type_meaning, constructor_named}
+use Rattle.pc_body_spec.specs.Scopes.{Context, KnownEntity, Constructor, Scope, Visible, is_among_names, slot_named, TypeMeaning, primitive, created, no_value, is_own, by_kind, type_from, type_meaning, constructor_named}
 use Rattle.pc_body_spec.specs.Faults.{is_entity}
 use Rattle.pc_name_laws.specs.Missing.{IsFirstNamed, HasValue, IsPrimitive, IsCreated, HasConstructor}
 

@@ -9,15 +9,15 @@ use Rattle.pc_core.specs.declared.nodes.Node.{Node}
 use Rattle.pc_names.specs.declared.fault.NameFault.{NameFault}
 use Rattle.pc_names.specs.declared.fault.NameFault.TheVariants as fault
 use Rattle.pc_names.specs.declared.fault.Which.TheVariants as which
-use Rattle.pc_body_spec.specs.Roses.{Rose, Numbered, put}
+use Rattle.pc_body_spec.specs.Bodies.{Rose}
+use Rattle.pc_body_spec.specs.Fold.{Numbered, put}
 use Rattle.pc_caps.specs.Limits.{node_limit}
 use Rattle.pc_body_spec.specs.Scopes.{Context}
 use Rattle.pc_body_spec.specs.Faults.{BodyNameFault}
 use Rattle.pc_body_spec.specs.Methods.{MethodOutcome, unless_fault, unless_name, unless_full, numbered_or_full, put_body}
-use Rattle.pc_members.specs.Members.{Member, written, added, member_span}
-use Rattle.pc_file_spec.specs.Members.{Owned}
-use Rattle.pc_file_spec.specs.Signatures.{context_of}
-use Rattle.pc_file_spec.specs.Parts.{Parts, body_fault, outcome, joined_parts, with_outcome, and_member, and_members, if_ok}
+use Rattle.pc_members.specs.Members.{Member, written, added}
+use Rattle.pc_members.specs.MemberLists.{member_span}
+use Rattle.pc_file_spec.specs.Cores.{Owned, context_of, Parts, body_fault, outcome, joined_parts, with_outcome, and_member, and_members, if_ok}
 use Rattle.pc_file_spec.proofs.Steps.{member_faults, member_names, member_rose, Made, Ends}
 use Rattle.pc_file_spec.proofs.Parts.{made_of}
 use Rattle.pc_name_laws.specs.Turns.{size_if, size, member_size, owned_size, nodes_of}

@@ -1,7 +1,7 @@
 -- The first fault of a member's body has the smallest start.
 use Rattle.std.proofs.Common.{◌≡◌, List, ◌∷◌, ap}
 use Rattle.std.specs.Prelude.{slice_get}
-use Rattle.pc_lists.specs.Places.{Has, Ascends}
+use Rattle.pc_lists.specs.Lists.{Has, Ascends}
 use Rattle.pc_tree.specs.Tree as t
 use Rattle.pc_body_spec.specs.Scopes.{Context}
 use Rattle.pc_body_spec.specs.Faults.{BodyNameFault}

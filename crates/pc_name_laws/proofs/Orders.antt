@@ -1,6 +1,6 @@
 -- The names of the entities of a file that tokens spell are in the order of the tokens.
 use Rattle.std.proofs.Common.{List, [], ◌∷◌, map, ℕ}
-use Rattle.pc_lists.specs.Places.{Ascends}
+use Rattle.pc_lists.specs.Lists.{Ascends}
 use Rattle.pc_tree.specs.Tree as t
 use Rattle.pc_token.specs.declared.kinds.Token.{Token}
 use Rattle.pc_grammar.specs.SpellsFile.{SpellsEntity, SpellsMoreEntities, SpellsEntities, SpellsFile}

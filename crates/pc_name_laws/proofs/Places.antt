@@ -2,7 +2,7 @@
 use Rattle.std.proofs.Common.{◌≡◌, ℕ, zero, suc, ◌+◌, ◌<◌, List, [], ◌∷◌, ◌++◌, map, length, Some, refl, sym, ap, ◌∙◌, subst, arith}
 use Rattle.std.specs.Prelude.{slice_get}
 use Rattle.std.proofs.lemmas.Option.{same_Some, none-some}
-use Rattle.pc_lists.specs.Places.{Has, Ascends}
+use Rattle.pc_lists.specs.Lists.{Has, Ascends}
 use Rattle.pc_lists.proofs.Elements.{has_on, has_front, has_behind}
 use Rattle.pc_lists.proofs.Gets.{get_below, get_front, get_append, get_map}
 use Rattle.pc_tree.specs.Tree as t

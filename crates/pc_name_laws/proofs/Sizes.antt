@@ -8,10 +8,11 @@ use Rattle.pc_lists.proofs.Bools.{true_false}
 use Rattle.pc_caps.specs.declared.span.Span.{Span}
 use Rattle.pc_core.specs.declared.nodes.Node.{Node}
 use Rattle.pc_core.specs.declared.nodes.NodeKind.{NodeKind}
-use Rattle.pc_body_spec.specs.Roses.{Rose, Roses, rose, no_roses, more, Numbered, and_then, node_of, push, put, puts}
+use Rattle.pc_body_spec.specs.Bodies.{Rose, Roses, rose, no_roses, more, node_of}
+use Rattle.pc_body_spec.specs.Fold.{Numbered, and_then, push, put, puts}
 use Rattle.pc_caps.specs.Limits.{node_limit}
 use Rattle.pc_tree.specs.Tree as t
-use Rattle.pc_file_spec.specs.Members.{Owned}
+use Rattle.pc_file_spec.specs.Cores.{Owned}
 use Rattle.pc_name_laws.specs.Turns.{size, sizes, owned_size, nodes_of}
 
 -- There is this number of nodes, or there are too many.

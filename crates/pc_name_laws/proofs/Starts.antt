@@ -9,8 +9,9 @@ use Rattle.pc_tree.specs.Tree as t
 use Rattle.pc_names.specs.declared.fault.NameFault.{NameFault}
 use Rattle.pc_names.specs.declared.fault.NameFault.TheVariants as fault
 use Rattle.pc_names.specs.declared.fault.Which.TheVariants as which
-use Rattle.pc_lists.specs.Texts.{Text}
-use Rattle.pc_members.specs.Words.{is_among, has_added, field_texts}
+use Rattle.pc_lists.specs.Lists.{Text}
+use Rattle.pc_members.specs.MemberLists.{is_among}
+use Rattle.pc_members.specs.Members.{has_added, field_texts}
 use Rattle.pc_names.specs.Faults as spec
 use Rattle.pc_names.specs.Faults.{where_, either_fault}
 use Rattle.pc_names.specs.Laws.{fault_start, name_start, result_places, field_places, param_places, method_places, declared_places}

@@ -11,8 +11,7 @@ use Rattle.pc_names.specs.declared.fault.NameFault.TheVariants as fault
 use Rattle.pc_names.specs.Laws.{fault_start}
 use Rattle.pc_body_spec.specs.Scopes.{Context}
 use Rattle.pc_body_spec.specs.Faults.{BodyNameFault, unknown, double, long_text}
-use Rattle.pc_file_spec.specs.Signatures.{context_of}
-use Rattle.pc_file_spec.specs.Parts.{body_fault}
+use Rattle.pc_file_spec.specs.Cores.{context_of, body_fault}
 use Rattle.pc_elab.specs.Cores.{IsSpelledFile}
 use Rattle.pc_name_laws.specs.Uses.{Spot}
 use Rattle.pc_name_laws.specs.Missing.{IsMissing, IsAtFault, place}

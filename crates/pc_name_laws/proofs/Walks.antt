@@ -3,7 +3,7 @@ use Rattle.std.proofs.Common.{◌≡◌, ℕ, zero, suc, List, [], ◌∷◌, �
 use Rattle.std.specs.Prelude.{◌⊎◌}
 use Rattle.std.proofs.lemmas.List.{map-append}
 use Rattle.std.proofs.lemmas.Option.{same_Some, none-some}
-use Rattle.pc_lists.specs.Places.{Has}
+use Rattle.pc_lists.specs.Lists.{Has}
 use Rattle.pc_lists.proofs.Elements.{has_on}
 use Rattle.pc_tree.specs.declared.written_names.Name.{Name}
 use Rattle.pc_tree.specs.declared.file.ParamDef.{ParamDef}
@@ -11,11 +11,8 @@ use Rattle.pc_tree.specs.declared.kinds.MethodWord.{MethodWord}
 use Rattle.pc_tree.specs.declared.kinds.MethodWord.TheVariants as word
 use Rattle.pc_tree.specs.Tree as t
 use Rattle.pc_body_spec.specs.Scopes.{Context, Scope, Visible, defined_local, resolve, primitive, created, no_value, scope_after, params_from, params_scope}
-use Rattle.pc_body_spec.specs.Bodies.{initial_fields}
-use Rattle.pc_body_spec.specs.Expressions.{Start, with_method, with_type, with_value, chain_start}
-use Rattle.pc_body_spec.specs.Faults.{BodyNameFault, double, fault_if, is_name_taken, written_faults, Next, end, next_of, start_faults, faults_of, exprs_faults}
-use Rattle.pc_body_spec.specs.Faults.{suffixes_faults, arms_faults, arm_faults, other_faults, seq_faults, items_faults, item_faults, value_faults}
-use Rattle.pc_body_spec.specs.Faults.{initial_faults, written_body_faults}
+use Rattle.pc_body_spec.specs.Bodies.{initial_fields, Start, with_method, with_type, with_value, chain_start}
+use Rattle.pc_body_spec.specs.Faults.{BodyNameFault, double, fault_if, is_name_taken, written_faults, Next, end, next_of, start_faults, faults_of, exprs_faults, suffixes_faults, arms_faults, arm_faults, other_faults, seq_faults, items_faults, item_faults, value_faults, initial_faults, written_body_faults}
 use Rattle.pc_body_spec.specs.Places.{written_places, places, exprs_places, suffixes_places, arm_places, arms_places, other_places, seq_places, items_places, item_places, value_places, initial_places, written_body_places, body_places}
 use Rattle.pc_members.specs.Members.{Member, written, added}
 use Rattle.pc_file_spec.proofs.Steps.{member_faults}

@@ -1,19 +1,14 @@
 -- The faults that the names and declarations of a file's entities can have.
 use Rattle.std.specs.Prelude.{◌≡◌, ◌⊎◌, ℕ, ◌<◌, ◌≤◌, true, List, map, Some, slice_get, codes}
 use Rattle.pc_caps.specs.Limits.{entity_limit, field_limit}
-use Rattle.pc_lists.specs.Places.{Has}
-use Rattle.pc_tree.specs.declared.file.ParamDef.{ParamDef}
-use Rattle.pc_tree.specs.declared.written_names.Name.{Name}
-use Rattle.pc_tree.specs.declared.written_names.TypeRef.{TypeRef}
-use Rattle.pc_tree.specs.Kinds.{is_abstract}
-use Rattle.pc_tree.specs.Tree as t
+use Rattle.pc_lists.specs.Lists.{Has, Text}
+use Rattle.pc_tree.specs.{declared.file.ParamDef.ParamDef, declared.written_names.Name.Name, declared.written_names.TypeRef.TypeRef, Kinds.is_abstract}
 use Rattle.pc_names.specs.declared.fault.NameFault.{NameFault}
+use Rattle.pc_members.specs.Members.{built_in_names, entity_names, texts_of, has_added, field_texts, method_texts}
+use Rattle.pc_name_laws.specs.Uses.{param_texts}
+use Rattle.pc_tree.specs.Tree as t
 use Rattle.pc_names.specs.declared.fault.NameFault.TheVariants as fault
 use Rattle.pc_names.specs.declared.fault.Which.TheVariants as which
-use Rattle.pc_lists.specs.Texts.{Text}
-use Rattle.pc_members.specs.Words.{built_in_names, entity_names, texts_of, has_added}
-use Rattle.pc_members.specs.Words.{field_texts, method_texts}
-use Rattle.pc_name_laws.specs.Uses.{param_texts}
 
 -- The list has this element before place i.
 abbrev pub HasBefore : {T : Type 0} → List T → ℕ → T → Type 0

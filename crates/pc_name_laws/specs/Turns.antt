@@ -2,30 +2,16 @@
 -- their turns: the body of a member, its slots, and its nodes.
 use Rattle.std.specs.Prelude.{◌≡◌, ◌⊎◌, ℕ, suc, ◌+◌, ◌*◌, ◌<◌, ◌≤◌, false, List, [], ◌∷◌, take, Option, Some, None, slice_get, codes, ◌-◌}
 use Rattle.pc_caps.specs.Limits.{method_limit, node_limit, slot_limit}
-use Rattle.pc_lists.specs.Places.{Has}
-use Rattle.pc_tree.specs.declared.written_names.Name.{Name}
+use Rattle.pc_lists.specs.Lists.{Has}
+use Rattle.pc_tree.specs.{declared.written_names.Name.Name, Kinds.first_own}
+use Rattle.pc_names.specs.{declared.fault.NameFault.NameFault, Faults.method_count, Mains.is_main, Laws.fault_start}
+use Rattle.pc_members.specs.{Members.texts_of, Members.InCycle, Members.entity_at, Members.Member, Members.written, Members.added, MemberLists.member_span}
+use Rattle.pc_body_spec.specs.{Bodies.Rose, Bodies.Roses, Bodies.rose, Bodies.no_roses, Bodies.more, Bodies.body_of, Bodies.added_body, Scopes.Context, Slots.initial_locals, Methods.slot_names, Methods.local_names, Faults.BodyNameFault}
+use Rattle.pc_file_spec.specs.Cores.{Owned, members_from, context_of, body_fault}
+use Rattle.pc_name_laws.specs.{Missing.IsBodyFault, Declared.HasBefore, Declared.IsEntityFault, Declared.IsDeclarationFault}
 use Rattle.pc_tree.specs.Tree as t
-use Rattle.pc_names.specs.declared.fault.NameFault.{NameFault}
 use Rattle.pc_names.specs.declared.fault.NameFault.TheVariants as fault
 use Rattle.pc_names.specs.declared.fault.Which.TheVariants as which
-use Rattle.pc_members.specs.Words.{texts_of}
-use Rattle.pc_members.specs.Chains.{InCycle, entity_at}
-use Rattle.pc_tree.specs.BuiltIn.{first_own}
-use Rattle.pc_names.specs.Counts.{method_count}
-use Rattle.pc_names.specs.Mains.{is_main}
-use Rattle.pc_names.specs.Laws.{fault_start}
-use Rattle.pc_body_spec.specs.Roses.{Rose, Roses, rose, no_roses, more}
-use Rattle.pc_body_spec.specs.Scopes.{Context}
-use Rattle.pc_body_spec.specs.Bodies.{body_of, added_body}
-use Rattle.pc_body_spec.specs.Slots.{initial_locals}
-use Rattle.pc_body_spec.specs.Methods.{slot_names, local_names}
-use Rattle.pc_body_spec.specs.Faults.{BodyNameFault}
-use Rattle.pc_members.specs.Members.{Member, written, added, member_span}
-use Rattle.pc_file_spec.specs.Members.{Owned, members_from}
-use Rattle.pc_file_spec.specs.Signatures.{context_of}
-use Rattle.pc_file_spec.specs.Parts.{body_fault}
-use Rattle.pc_name_laws.specs.Missing.{IsBodyFault}
-use Rattle.pc_name_laws.specs.Declared.{HasBefore, IsEntityFault, IsDeclarationFault}
 
 pub data Turn : Type 0 where
   -- the names of all entities

@@ -6,12 +6,10 @@ use Rattle.pc_lists.proofs.Gets.{get_drop, get_within}
 use Rattle.pc_tree.specs.Tree as t
 use Rattle.pc_names.specs.declared.fault.NameFault.{NameFault}
 use Rattle.pc_names.specs.declared.fault.NameFault.TheVariants as fault
-use Rattle.pc_tree.specs.Kinds.{is_abstract}
-use Rattle.pc_names.specs.Faults.{where_}
-use Rattle.pc_members.specs.Reach.{has_number}
-use Rattle.pc_members.specs.Chains.{IsTransitiveClosure, InCycle, LeadsInFile, entity_at}
-use Rattle.pc_tree.specs.BuiltIn.{first_own}
-use Rattle.pc_names.specs.Cycles.{cycle_faults}
+use Rattle.pc_tree.specs.Kinds.{is_abstract, first_own}
+use Rattle.pc_names.specs.Faults.{where_, cycle_faults}
+use Rattle.pc_members.specs.Edges.{has_number}
+use Rattle.pc_members.specs.Members.{IsTransitiveClosure, InCycle, LeadsInFile, entity_at}
 use Rattle.pc_names.specs.Laws.{CycleIsFirst, NoCycle}
 use Rattle.pc_members.proofs.Reaches.{has_in, in_get, get_in}
 use Rattle.pc_members.proofs.Reached.{in_has}

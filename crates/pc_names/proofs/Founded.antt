@@ -6,23 +6,18 @@ use Rattle.std.proofs.lemmas.Option.{same_Some, none-some}
 use Rattle.std.proofs.lemmas.List.{length_push, append_assoc}
 use Rattle.pc_tree.specs.declared.written_names.Name.{Name}
 use Rattle.pc_tree.specs.Tree as t
-use Rattle.pc_lists.specs.Places.{Has, Differ}
+use Rattle.pc_lists.specs.Lists.{Has, Differ, Text}
 use Rattle.pc_lists.proofs.Elements.{differ_none}
 use Rattle.pc_lists.proofs.Cuts.{nil_left, nil_right}
 use Rattle.pc_names.specs.declared.fault.NameFault.{NameFault}
 use Rattle.pc_names.specs.declared.fault.NameFault.TheVariants as fault
 use Rattle.pc_names.specs.declared.fault.Which.TheVariants as which
-use Rattle.pc_lists.specs.Texts.{Text}
-use Rattle.pc_members.specs.Words.{is_among, built_in_names, texts_of, entity_names}
-use Rattle.pc_members.specs.Tables.{trait_names}
-use Rattle.pc_members.specs.Chains.{IsTransitiveClosure}
+use Rattle.pc_members.specs.MemberLists.{is_among, trait_names}
+use Rattle.pc_members.specs.Members.{built_in_names, texts_of, entity_names, IsTransitiveClosure}
 use Rattle.pc_members.specs.Founded.{IsFounded}
-use Rattle.pc_tree.specs.BuiltIn.{first_own}
+use Rattle.pc_tree.specs.Kinds.{first_own}
 use Rattle.pc_members.proofs.Differences.{differ_push, among_has}
-use Rattle.pc_names.specs.Faults.{where_, either_fault, provided_faults, added_faults, entity_faults, entities_faults, entity_name_faults, declaration_faults}
-use Rattle.pc_names.specs.Faults.{known_limit}
-use Rattle.pc_names.specs.Cycles.{cycle_faults}
-use Rattle.pc_names.specs.Names.{NamesData, Collected}
+use Rattle.pc_names.specs.Faults.{where_, either_fault, provided_faults, added_faults, entity_faults, entities_faults, entity_name_faults, declaration_faults, known_limit, cycle_faults, NamesData, Collected}
 use Rattle.pc_names.proofs.CycleFirsts.{no_cycle}
 
 -- ---- no faults

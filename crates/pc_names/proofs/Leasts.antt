@@ -3,7 +3,7 @@ use Rattle.std.proofs.Common.{◌≡◌, ℕ, zero, suc, ◌≤◌, ◌<◌, Boo
 use Rattle.std.specs.Prelude.{slice_get, nat_lt, codes, ◌&&◌}
 use Rattle.std.proofs.lemmas.Option.{same_Some, none-some}
 use Rattle.pc_caps.specs.Limits.{field_limit}
-use Rattle.pc_lists.specs.Places.{Has, Ascends}
+use Rattle.pc_lists.specs.Lists.{Has, Ascends, Text}
 use Rattle.pc_tree.specs.declared.file.ParamDef.{ParamDef}
 use Rattle.pc_tree.specs.declared.written_names.Name.{Name}
 use Rattle.pc_tree.specs.declared.written_names.TypeRef.{TypeRef}
@@ -11,8 +11,8 @@ use Rattle.pc_tree.specs.Tree as t
 use Rattle.pc_names.specs.declared.fault.NameFault.{NameFault}
 use Rattle.pc_names.specs.declared.fault.NameFault.TheVariants as fault
 use Rattle.pc_names.specs.declared.fault.Which.TheVariants as which
-use Rattle.pc_lists.specs.Texts.{Text}
-use Rattle.pc_members.specs.Words.{is_among, has_added, field_texts}
+use Rattle.pc_members.specs.MemberLists.{is_among}
+use Rattle.pc_members.specs.Members.{has_added, field_texts}
 use Rattle.pc_names.specs.Faults as spec
 use Rattle.pc_names.specs.Faults.{where_, either_fault}
 use Rattle.pc_names.specs.Laws.{FirstIsLeast, fault_start, name_start, result_places, field_places, param_places, method_places, declared_places}

@@ -1,11 +1,10 @@
 -- The other texts of a file differ.
 use Rattle.std.proofs.Common.{List, [], ◌∷◌, ◌++◌}
-use Rattle.pc_lists.specs.Places.{Differ}
+use Rattle.pc_lists.specs.Lists.{Differ, Text}
 use Rattle.pc_tree.specs.Tree as t
-use Rattle.pc_lists.specs.Texts.{Text}
-use Rattle.pc_members.specs.Words.{field_texts, method_texts}
-use Rattle.pc_members.specs.Tables.{with_names}
-use Rattle.pc_names.specs.Texts.{with_members, built_in_and_member_texts, built_in_texts}
+use Rattle.pc_members.specs.Members.{field_texts, method_texts}
+use Rattle.pc_members.specs.MemberLists.{with_names}
+use Rattle.pc_names.specs.Faults.{with_members, built_in_and_member_texts, built_in_texts}
 use Rattle.pc_members.proofs.Differences.{names_differ}
 use Rattle.pc_lists.proofs.Elements.{differ_none}
 

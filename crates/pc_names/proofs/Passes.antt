@@ -6,15 +6,11 @@ use Rattle.pc_tree.specs.View.{entity_view, file_view}
 use Rattle.pc_tree.specs.Tree as t
 use Rattle.pc_names.specs.declared.fault.NameFault.{NameFault}
 use Rattle.pc_names.specs.declared.fault.NameFault.TheVariants as fault
-use Rattle.pc_members.specs.Words.{built_in_names, entity_names}
-use Rattle.pc_names.specs.Faults.{IsFirstNameFault, entity_name_faults, declaration_faults}
-use Rattle.pc_members.specs.Reach.{above_all}
-use Rattle.pc_members.specs.Chains.{IsTransitiveClosure}
-use Rattle.pc_members.specs.Edges.{edges_of}
-use Rattle.pc_tree.specs.BuiltIn.{first_own}
-use Rattle.pc_lists.specs.Places.{Differ}
-use Rattle.pc_names.specs.Texts.{built_in_and_member_texts}
-use Rattle.pc_names.specs.Names.{NamesData, above_faults, name_faults, Collected, IsNameFault}
+use Rattle.pc_members.specs.Members.{built_in_names, entity_names, IsTransitiveClosure}
+use Rattle.pc_names.specs.Faults.{IsFirstNameFault, entity_name_faults, declaration_faults, built_in_and_member_texts, NamesData, above_faults, name_faults, Collected, IsNameFault}
+use Rattle.pc_members.specs.Edges.{above_all, edges_of}
+use Rattle.pc_tree.specs.Kinds.{first_own}
+use Rattle.pc_lists.specs.Lists.{Differ}
 use Rattle.pc_names.proofs.Firsts.{is_first_on}
 use Rattle.pc_members.proofs.Closings.{closes, edges_length}
 use Rattle.pc_names.proofs.OtherTexts.{other_texts_differ}

@@ -11,10 +11,9 @@ use Rattle.pc_tree.specs.declared.written_names.Name.{Name}
 use Rattle.pc_names.specs.declared.fault.NameFault.{NameFault}
 use Rattle.pc_names.specs.declared.fault.NameFault.TheVariants as fault
 use Rattle.pc_names.specs.declared.fault.Which.TheVariants as which
-use Rattle.pc_lists.specs.Texts.{Text}
-use Rattle.pc_members.specs.Words.{is_among}
-use Rattle.pc_names.specs.Faults.{IsFirstNameFault, where_, either_fault, type_faults, field_faults, param_faults, signature_faults, method_faults}
-use Rattle.pc_names.specs.Faults.{entity_faults, entities_faults}
+use Rattle.pc_lists.specs.Lists.{Text}
+use Rattle.pc_members.specs.MemberLists.{is_among}
+use Rattle.pc_names.specs.Faults.{IsFirstNameFault, where_, either_fault, type_faults, field_faults, param_faults, signature_faults, method_faults, entity_faults, entities_faults}
 use Rattle.pc_caps.specs.Limits.{field_limit}
 use Rattle.pc_names.proofs.Firsts.{is_first_on}
 

@@ -1,18 +1,37 @@
 -- The faults of a file's names, pass by pass. Each pass has the list of its faults in the order of the text; the first
 -- of them is reported.
-use Rattle.std.specs.Prelude.{◌≡◌, ℕ, Bool, true, false, ◌&&◌, ◌||◌, not, List, [], ◌∷◌, ◌++◌, length, Option, Some, None, Result, Ok, Err, slice_get, nat_lt, codes, ◌+◌}
-use Rattle.pc_caps.specs.Limits.{entity_limit, field_limit}
-use Rattle.pc_tree.specs.declared.file.ParamDef.{ParamDef}
-use Rattle.pc_tree.specs.declared.written_names.Name.{Name}
-use Rattle.pc_tree.specs.declared.written_names.TypeRef.{TypeRef}
+use Rattle.std.specs.Prelude.{List, [], ◌∷◌, ◌++◌, codes, ◌≡◌, ℕ, Bool, true, false, ◌&&◌, ◌||◌, not, length, Option, Some, None, Result, Ok, Err, slice_get, nat_lt, ◌+◌, drop, if◌then◌else◌}
+use Rattle.std.specs.Str.{bytes_eq}
+use Rattle.pc_lists.specs.Lists.{Text, Differ}
+use Rattle.pc_members.specs.{Members.field_texts, Members.method_texts, Members.entity_names, Members.has_added, Members.built_in_names, Members.IsTransitiveClosure, MemberLists.with_names, MemberLists.is_among, MemberLists.trait_names, MemberLists.members, Edges.has_number}
+use Rattle.pc_caps.specs.Limits.{entity_limit, field_limit, method_limit}
+use Rattle.pc_tree.specs.{declared.file.ParamDef.ParamDef, declared.written_names.Name.Name, declared.written_names.TypeRef.TypeRef, Kinds.first_own, Kinds.is_abstract}
+use Rattle.pc_names.specs.{declared.fault.NameFault.NameFault, Mains.is_main}
 use Rattle.pc_tree.specs.Tree as t
-use Rattle.pc_tree.specs.BuiltIn.{first_own}
-use Rattle.pc_names.specs.declared.fault.NameFault.{NameFault}
 use Rattle.pc_names.specs.declared.fault.NameFault.TheVariants as fault
 use Rattle.pc_names.specs.declared.fault.Which.TheVariants as which
-use Rattle.pc_lists.specs.Texts.{Text}
-use Rattle.pc_members.specs.Words.{is_among, entity_names, field_texts, method_texts, has_added}
-use Rattle.pc_members.specs.Tables.{trait_names}
+
+-- The fault if no entity is called Main, or if the first one that is called Main is not one with which a program can
+-- start.
+abbrev pub main_faults : List t.Entity → List NameFault
+main_faults [] = fault.NoMain ∷ []
+main_faults (e ∷ es) = if bytes_eq e.name.text (codes "Main") then (if is_main e then [] else fault.BadMain e.name.span ∷ []) else main_faults es
+
+-- ---- the texts of a file that are not entities' names
+
+-- The names of the built-in entities' field and methods, and of an added constructor.
+abbrev pub built_in_texts : List Text
+built_in_texts = codes "out" ∷ codes "print" ∷ codes "create" ∷ []
+
+-- The known names, with those of these entities' fields and methods appended, each at its first appearance.
+abbrev pub with_members : List Text → List t.Entity → List Text
+with_members known [] = known
+with_members known (e ∷ es) = with_members (with_names known (field_texts e.fields ++ method_texts e.methods)) es
+
+abbrev pub built_in_and_member_texts : List t.Entity → List Text
+built_in_and_member_texts es = with_members (with_names [] built_in_texts) es
+
+-- ---- the faults of each pass
 
 -- A fault if the test holds.
 abbrev pub where_ : Bool → NameFault → List NameFault
@@ -109,3 +128,65 @@ entities_faults entities traits (e ∷ es) = entity_faults entities traits e ++ 
 
 abbrev pub declaration_faults : t.File → List NameFault
 declaration_faults file = entities_faults (entity_names file) (trait_names file.entities) file.entities
+
+-- ---- how many methods a file has
+
+-- How many methods an entity has: its own, an added `create`, and those that it takes over. The first argument is the
+-- list of the file's entities.
+abbrev pub method_count : List t.Entity → t.Entity → ℕ
+method_count all e = length (members all e)
+
+-- The entities at which the number of the file's methods exceeds the limit. The number is that of the methods before
+-- the first of them.
+abbrev pub count_faults : List t.Entity → ℕ → List t.Entity → List NameFault
+count_faults all n [] = []
+count_faults all n (e ∷ es) =
+    where_ (nat_lt method_limit (n + method_count all e)) (fault.TooMany which.Methods e.name.span)
+    ++ count_faults all (n + method_count all e) es
+
+-- The same, given the numbers of the entities' methods.
+abbrev pub faults_by_count : ℕ → List t.Entity → List ℕ → List NameFault
+faults_by_count n (e ∷ es) (c ∷ cs) = where_ (nat_lt method_limit (n + c)) (fault.TooMany which.Methods e.name.span) ++ faults_by_count (n + c) es cs
+faults_by_count n es cs = []
+
+-- ---- traits and interfaces that lead back to themselves
+
+-- Traits and interfaces, from entity number a on, that are above themselves; each entity comes with what is above it.
+abbrev pub cycle_faults : ℕ → List t.Entity → List (List ℕ) → List NameFault
+cycle_faults a (e ∷ es) (above ∷ lists) = where_ (is_abstract e.kind && has_number above a) (fault.Cycle e.name.span) ++ cycle_faults (a + 1) es lists
+cycle_faults a es lists = []
+
+-- ---- what is collected from a file
+
+-- The names of the entities in the order of their numbers, the other texts, and for each entity those above it.
+pub record NamesData : Type 0 where
+  pub entities : List Text
+  pub texts : List Text
+  pub above : List (List ℕ)
+
+-- The faults that depend on the members of these entities, the entities of a file, and then those that depend on what
+-- is above each.
+abbrev pub member_faults : List t.Entity → List NameFault
+member_faults all = count_faults all 0 all ++ main_faults all
+
+abbrev pub above_faults : List t.Entity → List (List ℕ) → List NameFault
+above_faults all above = cycle_faults first_own all above ++ member_faults all
+
+-- All faults of a file's names, pass by pass, given the entities above each.
+abbrev pub name_faults : t.File → List (List ℕ) → List NameFault
+name_faults file above = entity_name_faults built_in_names file.entities ++ (declaration_faults file ++ above_faults file.entities (drop first_own above))
+
+-- The file's names have no fault, and these are the names.
+pub record Collected (file : t.File) (names : NamesData) : Type 0 where
+  pub faults : name_faults file names.above ≡ []
+  pub entities : names.entities ≡ entity_names file
+  pub above : IsTransitiveClosure file names.above
+  pub texts : Differ names.texts
+
+-- The first fault of the file's names.
+abbrev pub IsNameFault : t.File → NameFault → Type 0
+IsNameFault file f = (above : List (List ℕ)) × IsTransitiveClosure file above × IsFirstNameFault f (name_faults file above)
+
+-- A fault other than running out of memory.
+abbrev pub IsNotMemory : NameFault → Type 0
+IsNotMemory f = f ≡ fault.Memory → ⊥

@@ -1,18 +1,11 @@
 -- Laws of the names of every file.
 use Rattle.std.specs.Prelude.{◌≡◌, ℕ, ◌≤◌, ◌<◌, List, [], ◌∷◌, ◌++◌, map, drop, Option, Some, None}
-use Rattle.pc_lists.specs.Places.{Has, Ascends}
-use Rattle.pc_tree.specs.declared.file.ParamDef.{ParamDef}
-use Rattle.pc_tree.specs.declared.written_names.Name.{Name}
-use Rattle.pc_tree.specs.declared.written_names.TypeRef.{TypeRef}
+use Rattle.pc_lists.specs.Lists.{Has, Ascends, Text}
+use Rattle.pc_tree.specs.{declared.file.ParamDef.ParamDef, declared.written_names.Name.Name, declared.written_names.TypeRef.TypeRef, Kinds.first_own}
+use Rattle.pc_names.specs.{declared.fault.NameFault.NameFault, Faults.IsFirstNameFault, Faults.entity_faults, Faults.cycle_faults, Faults.NamesData, Faults.Collected, Faults.IsNameFault, Faults.IsNotMemory}
+use Rattle.pc_members.specs.Members.{IsTransitiveClosure, InCycle, entity_at}
 use Rattle.pc_tree.specs.Tree as t
-use Rattle.pc_names.specs.declared.fault.NameFault.{NameFault}
 use Rattle.pc_names.specs.declared.fault.NameFault.TheVariants as fault
-use Rattle.pc_lists.specs.Texts.{Text}
-use Rattle.pc_names.specs.Faults.{IsFirstNameFault, entity_faults}
-use Rattle.pc_members.specs.Chains.{IsTransitiveClosure, InCycle, entity_at}
-use Rattle.pc_tree.specs.BuiltIn.{first_own}
-use Rattle.pc_names.specs.Cycles.{cycle_faults}
-use Rattle.pc_names.specs.Names.{NamesData, Collected, IsNameFault, IsNotMemory}
 
 -- A file has one list above each of its entities.
 abbrev pub OneClosing : Type 0

@@ -1,7 +1,7 @@
 //! The collected names of a file.
 ghost use Rattle.std.specs.Prelude.{◌≡◌, length, slice_get};
 ghost use Rattle.std.specs.Option.{option_copied};
-ghost use Rattle.pc_members.specs.Tables.{find_name};
+ghost use Rattle.pc_members.specs.MemberLists.{find_name};
 
 use pc_caps::List;
 use pc_members::NameTable;
@@ -18,7 +18,7 @@ pub struct Names {
 }
 
 impl Model for Names {
-    ghost use Rattle.pc_names.specs.Names.{NamesData};
+    ghost use Rattle.pc_names.specs.Faults.{NamesData};
 
     ghost Value = { NamesData };
 

@@ -1,15 +1,11 @@
 //! The names of a file, or their first fault.
 ghost use Rattle.std.specs.Prelude.{◌≡◌, ◌+◌, ◌<◌, ◌^◌, [], drop, length, IfOk, IfErr};
 ghost use Rattle.pc_tree.specs.View.{file_view};
-ghost use Rattle.pc_members.specs.Chains.{IsTransitiveClosure};
+ghost use Rattle.pc_members.specs.Members.{IsTransitiveClosure, built_in_names, entity_names};
 ghost use Rattle.pc_members.specs.Founded.{IsFounded};
-ghost use Rattle.pc_members.specs.Edges.{edges_of};
-ghost use Rattle.pc_tree.specs.BuiltIn.{first_own};
-ghost use Rattle.pc_names.specs.Cycles.{cycle_faults};
-ghost use Rattle.pc_names.specs.Faults.{TellsFirst, declaration_faults, entity_name_faults};
-ghost use Rattle.pc_names.specs.Names.{Collected, IsNameFault, above_faults, member_faults};
-ghost use Rattle.pc_members.specs.Reach.{above_all};
-ghost use Rattle.pc_members.specs.Words.{built_in_names, entity_names};
+ghost use Rattle.pc_members.specs.Edges.{edges_of, above_all};
+ghost use Rattle.pc_tree.specs.Kinds.{first_own};
+ghost use Rattle.pc_names.specs.Faults.{cycle_faults, TellsFirst, declaration_faults, entity_name_faults, Collected, IsNameFault, above_faults, member_faults};
 
 use crate::collected_names::Names;
 use crate::counts::check_counts;

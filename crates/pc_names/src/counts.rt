@@ -1,7 +1,7 @@
 //! How many methods a file has.
 ghost use Rattle.std.specs.Prelude.{◌≡◌, map, length};
 ghost use Rattle.pc_tree.specs.View.{entity_view};
-ghost use Rattle.pc_names.specs.Counts as spec;
+ghost use Rattle.pc_names.specs.Faults as spec;
 ghost use Rattle.pc_names.specs.Faults.{TellsFirst};
 
 use crate::fault::{NameFault, Which};

@@ -2,9 +2,8 @@
 ghost use Rattle.std.specs.Prelude.{◌≡◌, ◌&&◌, ◌+◌, ◌<◌, ◌^◌, map, length};
 ghost use Rattle.pc_tree.specs.Kinds.{is_abstract};
 ghost use Rattle.pc_tree.specs.View.{entity_view};
-ghost use Rattle.pc_names.specs.Cycles.{cycle_faults};
-ghost use Rattle.pc_names.specs.Faults.{TellsFirst};
-ghost use Rattle.pc_members.specs.Reach as reach;
+ghost use Rattle.pc_names.specs.Faults.{cycle_faults, TellsFirst};
+ghost use Rattle.pc_members.specs.Edges as reach;
 
 use crate::fault::NameFault;
 use pc_caps::List;

@@ -5,7 +5,8 @@ ghost use Rattle.pc_tree.specs.View.{entity_view, field_view, method_view};
 ghost use Rattle.pc_names.specs.Faults as spec;
 ghost use Rattle.pc_names.specs.declared.fault.NameFault.TheVariants.{Double, TooMany};
 ghost use Rattle.pc_names.specs.declared.fault.Which.TheVariants.{Fields};
-ghost use Rattle.pc_members.specs.Words.{is_among, field_texts, method_texts};
+ghost use Rattle.pc_members.specs.MemberLists.{is_among};
+ghost use Rattle.pc_members.specs.Members.{field_texts, method_texts};
 
 use crate::fault::{NameFault, Which};
 use pc_caps::FIELD_LIMIT;

@@ -2,8 +2,8 @@
 ghost use Rattle.std.specs.Prelude.{◌≡◌, ◌++◌, ◌≤◌, [], map, length, take, IfOk, OnOk};
 ghost use Rattle.pc_tree.specs.View.{entity_view, file_view};
 ghost use Rattle.pc_names.specs.Faults.{TellsFirst, entity_name_faults, known_limit};
-ghost use Rattle.pc_members.specs.Tables.{trait_names, with_traits};
-ghost use Rattle.pc_members.specs.Words.{built_in_names, entity_names, texts_of};
+ghost use Rattle.pc_members.specs.MemberLists.{trait_names, with_traits};
+ghost use Rattle.pc_members.specs.Members.{built_in_names, entity_names, texts_of};
 
 use crate::fault::{NameFault, Which};
 use pc_caps::ENTITY_LIMIT;

@@ -1,4 +1,5 @@
 //! The entity Main.
+ghost use Rattle.pc_names.specs.Faults as faults;
 ghost use Rattle.std.specs.Prelude.{◌≡◌, map};
 ghost use Rattle.std.specs.List.{list_any};
 ghost use Rattle.pc_tree.specs.View.{entity_view, method_view};
@@ -64,7 +65,7 @@ fn is_main(entity: &Entity) -> bool
 
 /// The first of these entities that is named `Main` is one with which a program may start.
 pub(crate) fn check_main(entities: &[Entity]) -> Result<(), NameFault>
-    ensures { TellsFirst result (spec.main_faults (map entity_view entities.now)) }
+    ensures { TellsFirst result (faults.main_faults (map entity_view entities.now)) }
 {
     for entity in entities {
         if entity.name.text.as_slice() == b"Main".as_slice() {

@@ -1,8 +1,8 @@
 //! The texts of a file that are not entities' names.
 ghost use Rattle.std.specs.Prelude.{◌≡◌, [], map, OnOk, IfOk};
 ghost use Rattle.pc_tree.specs.View.{entity_view, file_view};
-ghost use Rattle.pc_members.specs.Tables.{with_names};
-ghost use Rattle.pc_names.specs.Texts as spec;
+ghost use Rattle.pc_members.specs.MemberLists.{with_names};
+ghost use Rattle.pc_names.specs.Faults as spec;
 
 use pc_members::{NameTable, add_texts};
 use pc_tree::{Entity, File};

@@ -1,7 +1,7 @@
 -- A seed has only one play.
 use Rattle.std.proofs.Common.{◌≡◌, ◌≤◌, ℕ, List, ◌++◌, length, sym, ap, ◌∙◌, arith}
 use Rattle.pc_core.specs.CoreData.{CoreData}
-use Rattle.pc_semantics.specs.Runs.{after, outcomes}
+use Rattle.pc_semantics.specs.Step.{after, outcomes}
 use Rattle.pc_semantics.specs.Text.{lines, end_of}
 use Rattle.pc_choose.specs.Able.{able_actors}
 use Rattle.pc_choose.specs.Laws.{ListsAreOne}

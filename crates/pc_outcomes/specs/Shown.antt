@@ -1,9 +1,6 @@
 -- Outcomes with their seeds, as entries.
 use Rattle.std.specs.Prelude.{ℕ}
-use Rattle.pc_outcomes.specs.declared.entry.Entry.{Entry}
-use Rattle.pc_outcomes.specs.declared.entry.Outcome.{Outcome}
-use Rattle.pc_outcomes.specs.declared.entry.Play.{Play}
-use Rattle.pc_outcomes.specs.declared.entry.Seeds.{Seeds}
+use Rattle.pc_outcomes.specs.{declared.entry.Entry.Entry, declared.entry.Outcome.Outcome, declared.entry.Play.Play, declared.entry.Seeds.Seeds}
 
 -- The entry of an outcome and its seeds.
 abbrev pub shown : Outcome × Seeds → Entry

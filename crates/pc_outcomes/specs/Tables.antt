@@ -2,11 +2,8 @@
 use Rattle.std.specs.Prelude.{◌≡◌, ℕ, ◌+◌, ◌<◌, ◌≤◌, Bool, true, false, List, [], ◌∷◌, length, take, Result, Ok, Err, IsSomeAnd, slice_get, ⊤}
 use Rattle.std.specs.List.{AllByRecursion, count_by, list_any, sum_by}
 use Rattle.pc_core.specs.CoreData.{CoreData}
-use Rattle.pc_outcomes.specs.declared.entry.Entry.{Entry}
-use Rattle.pc_outcomes.specs.declared.entry.Play.{Play}
-use Rattle.pc_outcomes.specs.declared.fault.OutcomesFault.{OutcomesFault}
+use Rattle.pc_outcomes.specs.{declared.entry.Entry.Entry, declared.entry.Play.Play, declared.fault.OutcomesFault.OutcomesFault, Plays.ArePlays, Plays.IsPlayOfSeed, Plays.has_outcome}
 use Rattle.pc_outcomes.specs.declared.fault.OutcomesFault.TheVariants as fault
-use Rattle.pc_outcomes.specs.Plays.{ArePlays, IsPlayOfSeed, has_outcome}
 
 -- how many steps all plays may have together
 abbrev pub steps_limit : ℕ

@@ -2,8 +2,8 @@
 ghost use Rattle.std.specs.Prelude.{◌≡◌, ◌++◌, [], ℕ, IfOk, OnOk, List as Sequence};
 ghost use Rattle.pc_core.specs.CoreData.{CoreData};
 ghost use Rattle.pc_semantics.specs.Configurations.{Configuration};
-ghost use Rattle.pc_semantics.specs.Runs as run;
-ghost use Rattle.pc_lists.specs.Texts.{line_end};
+ghost use Rattle.pc_semantics.specs.Step as run;
+ghost use Rattle.pc_lists.specs.Lists.{line_end};
 ghost use Rattle.pc_semantics.specs.Text.{lines, end_of};
 ghost use Rattle.pc_run.specs.Ends.{NeverLacks};
 ghost use Rattle.pc_run.specs.Underway.{ReachedSoFar};

@@ -1,14 +1,11 @@
 -- What the parser returns.
 use Rattle.std.specs.Prelude.{◌≡◌, ℕ, ◌<◌, List, ◌∷◌, drop, length, Result, Ok, Err}
 use Rattle.pc_token.specs.declared.kinds.Token.{Token}
-use Rattle.pc_tree.specs.declared.file.File.{File}
-use Rattle.pc_tree.specs.View.{file_view}
+use Rattle.pc_tree.specs.{declared.file.File.File, View.file_view}
 use Rattle.pc_grammar.specs.FileAnswers.{FileAnswer, spelled, unexpected, too_deep, IsFileAnswer}
-use Rattle.pc_expr.specs.declared.stop.ParseStop.{ParseStop}
+use Rattle.pc_expr.specs.{declared.stop.ParseStop.ParseStop, declared.fault.ParseFault.ParseFault, Answers.Places}
 use Rattle.pc_expr.specs.declared.stop.ParseStop.TheVariants as stop
-use Rattle.pc_expr.specs.declared.fault.ParseFault.{ParseFault}
 use Rattle.pc_expr.specs.declared.fault.ParseFault.TheVariants as fault
-use Rattle.pc_expr.specs.Answers.{Places}
 
 -- Why there is no tree, by the first byte of the token with which no file begins any more, or with which only deeper
 -- ones begin. Or memory ran out.

@@ -1,13 +1,9 @@
 -- The fields and methods that a node names.
 use Rattle.std.specs.Prelude.{ℕ, Option, Some, None, slice_get}
 use Rattle.pc_caps.specs.declared.capability.Cap.{Cap}
-use Rattle.pc_core.specs.Lookup.{method_named}
-use Rattle.pc_core.specs.declared.declarations.FieldInfo.{FieldInfo}
-use Rattle.pc_core.specs.declared.declarations.Method.{Method}
-use Rattle.pc_core.specs.declared.nodes.Node.{Node}
-use Rattle.pc_lists.specs.Options.{◌>>=◌}
-use Rattle.pc_rules.specs.Fields.{field_of}
-use Rattle.pc_rules.specs.Parts.{last_child}
+use Rattle.pc_core.specs.{CoreData.method_named, declared.declarations.FieldInfo.FieldInfo, declared.declarations.Method.Method, declared.nodes.Node.Node}
+use Rattle.pc_lists.specs.Lists.{◌>>=◌}
+use Rattle.pc_rules.specs.{Fields.field_of, Parts.last_child}
 use Rattle.pc_words.specs.Scene.{SceneData, noted_type}
 
 -- The field with this name of the entity of node c.

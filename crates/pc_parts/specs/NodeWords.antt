@@ -1,22 +1,15 @@
 -- The line about a node.
 use Rattle.std.specs.Prelude.{ℕ, Bool, true, false, nat_eq, [], ◌++◌, Option, Some, None, slice_get, if◌then◌else◌, codes}
 use Rattle.pc_caps.specs.declared.capability.Cap.{Cap}
-use Rattle.pc_core.specs.CoreData.{CoreData}
-use Rattle.pc_core.specs.declared.declarations.Method.{Method}
-use Rattle.pc_core.specs.declared.nodes.Node.{Node}
-use Rattle.pc_core.specs.declared.nodes.NodeKind.{NodeKind}
-use Rattle.pc_core.specs.declared.nodes.NodeKind.TheVariants as node
-use Rattle.pc_core.specs.declared.nodes.Slot.{Slot}
-use Rattle.pc_lists.specs.Texts.{Text, line_end}
+use Rattle.pc_core.specs.{CoreData.CoreData, declared.declarations.Method.Method, declared.nodes.Node.Node, declared.nodes.NodeKind.NodeKind, declared.nodes.Slot.Slot}
+use Rattle.pc_lists.specs.Lists.{Text, line_end}
 use Rattle.pc_tree.specs.declared.kinds.Op.{Op}
-use Rattle.pc_tree.specs.declared.kinds.Op.TheVariants as op
-use Rattle.pc_window.specs.Places.{piece_of}
-use Rattle.pc_window.specs.Quoting.{piece, quoted}
-use Rattle.pc_words.specs.Caps.{cap_word}
-use Rattle.pc_words.specs.Forms.{name_text, place_words}
-use Rattle.pc_words.specs.Methods as methods
-use Rattle.pc_words.specs.Scene.{SceneData, child, is_param, slot_in, slot_name, noted_slot_type}
+use Rattle.pc_window.specs.{Places.piece_of, Quoting.piece, Quoting.quoted}
+use Rattle.pc_words.specs.{Caps.cap_word, Forms.name_text, Forms.place_words, Scene.SceneData, Scene.child, Scene.is_param, Scene.slot_in, Scene.slot_name, Scene.noted_slot_type}
 use Rattle.pc_parts.specs.Members.{node_callee, field_of_node, found_field_place}
+use Rattle.pc_core.specs.declared.nodes.NodeKind.TheVariants as node
+use Rattle.pc_tree.specs.declared.kinds.Op.TheVariants as op
+use Rattle.pc_words.specs.Methods as methods
 
 abbrev pub op_word : Op → Text
 op_word op.Add = codes "+"

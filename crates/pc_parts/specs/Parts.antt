@@ -1,17 +1,13 @@
 -- The lines about the parts of a node: the children whose types its rules look at.
 use Rattle.std.specs.Prelude.{ℕ, zero, suc, ◌+◌, Bool, true, false, nat_eq, List, [], ◌∷◌, ◌++◌, length, Option, Some, None, slice_get, if◌then◌else◌, codes, decimal}
 use Rattle.pc_caps.specs.declared.capability.Form.{Form}
-use Rattle.pc_core.specs.CoreData.{CoreData}
-use Rattle.pc_core.specs.declared.nodes.Node.{Node}
-use Rattle.pc_core.specs.declared.nodes.NodeKind.{NodeKind}
-use Rattle.pc_core.specs.declared.nodes.NodeKind.TheVariants as node
-use Rattle.pc_lists.specs.Texts.{Text, line_end}
+use Rattle.pc_core.specs.{CoreData.CoreData, declared.nodes.Node.Node, declared.nodes.NodeKind.NodeKind}
+use Rattle.pc_lists.specs.Lists.{Text, line_end}
 use Rattle.pc_rules.specs.Parts.{last_child}
-use Rattle.pc_window.specs.Places.{piece_of}
-use Rattle.pc_window.specs.Quoting.{quoted}
-use Rattle.pc_words.specs.Forms.{type_words}
-use Rattle.pc_words.specs.Scene.{SceneData, is_unwritten_this, noted_type}
+use Rattle.pc_window.specs.{Places.piece_of, Quoting.quoted}
+use Rattle.pc_words.specs.{Forms.type_words, Scene.SceneData, Scene.is_unwritten_this, Scene.noted_type}
 use Rattle.pc_parts.specs.declared.parts.Role.{Role}
+use Rattle.pc_core.specs.declared.nodes.NodeKind.TheVariants as node
 use Rattle.pc_parts.specs.declared.parts.Role.TheVariants as role
 
 -- ---- the role of a child in its node

@@ -1,9 +1,8 @@
 -- The nodes of a method are within those of the core.
 use Rattle.std.specs.Prelude.{◌≡◌, ◌≤◌, ◌-◌, ℕ, length, Option, Some, None, slice_get, refl}
 use Rattle.std.proofs.Common.{arith}
-use Rattle.pc_core.specs.CoreData.{CoreData}
+use Rattle.pc_core.specs.CoreData.{CoreData, node_end}
 use Rattle.pc_core.specs.Formed.{Formed}
-use Rattle.pc_core.specs.Lookup.{node_end}
 use Rattle.pc_core.specs.Methods.{BodyFits}
 use Rattle.pc_core.specs.declared.declarations.Method.{Method}
 use Rattle.pc_lists.proofs.Gets.{get_map}

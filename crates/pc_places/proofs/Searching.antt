@@ -5,7 +5,7 @@ use Rattle.std.proofs.lemmas.Bool.{lt-ltb, le-ltb}
 use Rattle.std.proofs.lemmas.Bool.Decides.{leb_tells}
 use Rattle.std.proofs.lemmas.Option.{same_Some}
 use Rattle.pc_lists.proofs.Gets.{get_map}
-use Rattle.pc_lists.specs.Places.{Ascends}
+use Rattle.pc_lists.specs.Lists.{Ascends}
 use Rattle.pc_places.specs.Search.{IsAfter}
 use Rattle.pc_text_order.specs.Laws.{starts}
 use Rattle.pc_token.specs.declared.kinds.Token.{Token}

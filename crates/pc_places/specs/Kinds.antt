@@ -1,9 +1,8 @@
 -- The kinds of nodes, each with what it refers to.
 use Rattle.std.specs.Prelude.{◌++◌, Option, Some, None, codes, decimal, slice_get}
-use Rattle.pc_core.specs.CoreData.{CoreData}
-use Rattle.pc_core.specs.declared.nodes.NodeKind.{NodeKind}
+use Rattle.pc_core.specs.{CoreData.CoreData, declared.nodes.NodeKind.NodeKind}
+use Rattle.pc_lists.specs.Lists.{Text}
 use Rattle.pc_core.specs.declared.nodes.NodeKind.TheVariants as node
-use Rattle.pc_lists.specs.Texts.{Text}
 
 -- A name, or `-` if there is none.
 abbrev pub name_or_dash : Option Text → Text

@@ -1,6 +1,6 @@
 //! A line of each kind.
 ghost use Rattle.std.specs.Prelude.{◌≡◌, ◌++◌, ◌-◌, OnOk, count_by};
-ghost use Rattle.pc_lists.specs.Places.{Ascends};
+ghost use Rattle.pc_lists.specs.Lists.{Ascends};
 ghost use Rattle.pc_places.specs.Names as names;
 ghost use Rattle.pc_places.specs.Text as spec;
 ghost use Rattle.pc_text_order.specs.Laws.{starts};

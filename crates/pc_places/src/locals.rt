@@ -1,7 +1,8 @@
 //! The spans of the names of slots in the source.
 ghost use Rattle.std.specs.Prelude.{◌≡◌, ◌+◌, ◌<◌, ◌≤◌, ◌^◌, find, length, slice_get, option_copied};
-ghost use Rattle.pc_core.specs.Lookup.{node_end, own_nodes};
-ghost use Rattle.pc_lists.specs.Places.{Ascends};
+ghost use Rattle.pc_core.specs.CoreData.{node_end};
+ghost use Rattle.pc_core.specs.Further.{own_nodes};
+ghost use Rattle.pc_lists.specs.Lists.{Ascends};
 ghost use Rattle.pc_places.specs.Names as spec;
 ghost use Rattle.pc_places.specs.Search.{IsAfter};
 ghost use Rattle.pc_text_order.specs.Laws.{starts};

@@ -1,7 +1,7 @@
 //! The whole text.
 ghost use Rattle.std.specs.Prelude.{◌≡◌, ◌++◌, ◌<◌, ◌^◌, ◌≤◌, IfOk, OnOk, length, map};
-ghost use Rattle.pc_lex.specs.Limits.{bytes_limit};
-ghost use Rattle.pc_lists.specs.Places.{Ascends};
+ghost use Rattle.pc_lex.specs.Pieces.{bytes_limit};
+ghost use Rattle.pc_lists.specs.Lists.{Ascends};
 ghost use Rattle.pc_places.specs.Text as spec;
 ghost use Rattle.pc_text_order.specs.Laws.{starts};
 

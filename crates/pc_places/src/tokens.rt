@@ -1,7 +1,6 @@
 //! The tokens of a source that has tokens.
 ghost use Rattle.std.specs.Prelude.{◌≤◌, IfOk, length};
-ghost use Rattle.pc_lex.specs.Answers.{TokenList};
-ghost use Rattle.pc_lex.specs.Limits.{bytes_limit};
+ghost use Rattle.pc_lex.specs.Pieces.{TokenList, bytes_limit};
 ghost use Rattle.pc_places.specs.Text.{HasTokens};
 
 use pc_caps::List;

@@ -1,6 +1,6 @@
 //! The words of the text.
 ghost use Rattle.std.specs.Prelude.{◌≡◌};
-ghost use Rattle.pc_deriv.specs.Names.{cap_name};
+ghost use Rattle.pc_deriv.specs.Text.{cap_name};
 ghost use Rattle.pc_places.specs.Words as spec;
 
 use pc_caps::Cap;

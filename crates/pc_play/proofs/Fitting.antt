@@ -6,10 +6,8 @@ use Rattle.std.specs.List.{AllByRecursion}
 use Rattle.pc_semantics.specs.Text.{steps_of}
 use Rattle.pc_run.specs.Spreading.{spread}
 use Rattle.pc_sched.specs.declared.turns.Turn.{Turn}
-use Rattle.pc_sched.specs.Limits.{schedule_limit, turn_limit}
-use Rattle.pc_sched.specs.Schedules.{total}
-use Rattle.pc_sched_lines.specs.Lines.{IsLine, line_of, turn_word, more_words}
-use Rattle.pc_sched_lines.specs.Rows.{AreRows, HasOtherActor}
+use Rattle.pc_sched.specs.Schedules.{schedule_limit, turn_limit, total}
+use Rattle.pc_sched_lines.specs.Lines.{IsLine, line_of, turn_word, more_words, AreRows, HasOtherActor}
 use Rattle.pc_choose.specs.Laws.{InTurns, IsTurn}
 use Rattle.pc_choose.proofs.Cutting.{lists_are_in_turns}
 use Rattle.pc_play.specs.Laws.{LinesFit}

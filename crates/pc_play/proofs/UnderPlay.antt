@@ -2,7 +2,7 @@
 use Rattle.std.proofs.Common.{◌≡◌, ◌≢◌, ℕ, suc, ◌+◌, ◌-◌, ◌<◌, ◌≤◌, List, [], ◌∷◌, Option, Some, None, Result, Ok, Err, refl, sym, ap, subst, ◌∙◌, arith, zero-add, length, append-nil}
 use Rattle.std.specs.Prelude.{IsErrAnd, IsSomeAnd}
 use Rattle.std.specs.Io.KnownBytes.{Appends}
-use Rattle.pc_io.specs.Change.{Change, change}
+use Rattle.pc_io.specs.Sink.{Change, change}
 use Rattle.pc_run.specs.declared.report.Report.{Report}
 use Rattle.pc_run.specs.declared.report.RunFault.{RunFault}
 use Rattle.pc_run.specs.declared.report.RunFault.TheVariants.{Memory}
@@ -13,7 +13,7 @@ use Rattle.pc_semantics.specs.declared.outcome.Outcome.TheVariants.{Moved, Skipp
 use Rattle.pc_semantics.specs.Configurations.{Configuration, start}
 use Rattle.pc_semantics.specs.Step.{step}
 use Rattle.pc_machine.proofs.Growing.{few_at_start}
-use Rattle.pc_sched.specs.Limits.{turn_limit}
+use Rattle.pc_sched.specs.Schedules.{turn_limit}
 use Rattle.pc_run.specs.declared.counts.Counts.{Counts}
 use Rattle.pc_run.specs.declared.counts.Progress.{Progress}
 use Rattle.pc_run.specs.declared.counts.Progress.TheVariants.{Going}

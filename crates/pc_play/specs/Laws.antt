@@ -1,7 +1,7 @@
 -- The lines of the lists of seeds.
 use Rattle.std.specs.Prelude.{ℕ, ◌≤◌, List, length}
 use Rattle.pc_core.specs.CoreData.{CoreData}
-use Rattle.pc_sched.specs.Limits.{schedule_limit}
+use Rattle.pc_sched.specs.Schedules.{schedule_limit}
 use Rattle.pc_sched_lines.specs.Lines.{IsLine}
 use Rattle.pc_choose.specs.Lists.{Chosen}
 

@@ -1,14 +1,10 @@
 -- Plays: runs of the list of a seed.
 use Rattle.std.specs.Prelude.{◌≡◌, ℕ, List, [], length, Result}
 use Rattle.pc_core.specs.CoreData.{CoreData}
-use Rattle.pc_io.specs.Change.{Change}
+use Rattle.pc_io.specs.Sink.{Change}
 use Rattle.pc_semantics.specs.Configurations.{Configuration}
 use Rattle.pc_choose.specs.Lists.{Chosen}
-use Rattle.pc_run.specs.declared.counts.Progress.{Progress}
-use Rattle.pc_run.specs.declared.report.Report.{Report}
-use Rattle.pc_run.specs.declared.report.RunFault.{RunFault}
-use Rattle.pc_run.specs.Ends.{IsAnswer, WritesText}
-use Rattle.pc_run.specs.Underway.{ReachedSoFar}
+use Rattle.pc_run.specs.{declared.counts.Progress.Progress, declared.report.Report.Report, declared.report.RunFault.RunFault, Ends.IsAnswer, Ends.WritesText, Underway.ReachedSoFar}
 
 -- The run of the seed's list came to configuration c with this progress; the list has this number of steps, and none is
 -- left.

@@ -1,7 +1,7 @@
 //! A play: the steps are chosen and taken, and then the text is written.
 ghost use Rattle.std.specs.Prelude.{◌≡◌, ◌≤◌, IfOk};
 ghost use Rattle.pc_semantics.specs.Configurations.{start as begin};
-ghost use Rattle.pc_io.specs.Change.{change};
+ghost use Rattle.pc_io.specs.Sink.{change};
 ghost use Rattle.pc_choose.specs.Choice.{at_first};
 ghost use Rattle.pc_choose.specs.Choosers.{IsAt};
 ghost use Rattle.pc_run.specs.Ends.{NeverLacks};

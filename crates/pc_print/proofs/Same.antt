@@ -13,7 +13,7 @@ use Rattle.pc_token.specs.declared.words.Word.{Word}
 use Rattle.pc_token.specs.declared.words.Word.TheVariants as w
 use Rattle.pc_token.specs.declared.signs.Sign.TheVariants as s
 use Rattle.pc_token.specs.Words.{word_text}
-use Rattle.pc_grammar.specs.Asking.{local_word}
+use Rattle.pc_grammar.specs.Spells.{local_word}
 use Rattle.pc_grammar.specs.SpellsFile.{method_word, entity_word}
 use Rattle.pc_lex.specs.Pieces.{Piece}
 use Rattle.pc_print.proofs.Spelling.{word, sign, blank, feed, op_kind, spelling}

@@ -5,7 +5,7 @@ use Rattle.std.specs.declared.alloc.Global.{Global}
 use Rattle.pc_caps.specs.declared.capability.Cap.{Cap}
 use Rattle.pc_caps.specs.declared.span.Span.{Span}
 use Rattle.pc_token.specs.Words.{word_text}
-use Rattle.pc_grammar.specs.Asking.{local_word}
+use Rattle.pc_grammar.specs.Spells.{local_word}
 use Rattle.pc_tree.specs.declared.written_names.Name.{Name}
 use Rattle.pc_tree.specs.declared.written_names.TypeRef.{TypeRef}
 use Rattle.pc_tree.specs.declared.expression.Expr.{Expr}

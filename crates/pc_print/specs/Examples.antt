@@ -1,12 +1,11 @@
 -- One tree and its printed text.
-use Rattle.std.specs.Prelude.{◌≡◌, List, [], ◌∷◌, ◌++◌, Some, None, false, codes}
-use Rattle.pc_tree.specs.Tree as t
+use Rattle.std.specs.Prelude.{◌≡◌, List, [], ◌∷◌, ◌++◌, Some, None, false, codes, ℕ}
 use Rattle.pc_tree.specs.declared.written_names.Name.{Name}
+use Rattle.pc_grammar.specs.Spells.{no_span}
+use Rattle.pc_print.specs.Printing.{printed}
+use Rattle.pc_tree.specs.Tree as t
 use Rattle.pc_tree.specs.declared.kinds.EntityKind.TheVariants as kind
 use Rattle.pc_tree.specs.declared.kinds.MethodWord.TheVariants as method
-use Rattle.pc_grammar.specs.Spells.{no_span}
-use Rattle.std.specs.Prelude.{ℕ}
-use Rattle.pc_print.specs.Printing.{printed}
 
 abbrev named : List ℕ → Name
 named b = record { text = b; span = no_span }

@@ -1,4 +1,3 @@
-pub mod Escapes
 pub mod Printing
 pub mod Bare
 pub mod Laws

@@ -1,18 +1,34 @@
 -- The printed text of a tree.
-use Rattle.std.specs.Prelude.{ℕ, Bool, true, false, List, [], ◌∷◌, ◌++◌, Option, Some, None, codes}
-use Rattle.std.specs.Fmt.{decimal}
+use Rattle.std.specs.Prelude.{ℕ, ◌/◌, ◌%◌, ◌==◌, ◌||◌, nat_lt, List, [], ◌∷◌, ◌++◌, if◌then◌else◌, Bool, true, false, Option, Some, None, codes}
+use Rattle.std.specs.{Char.digit_char, Fmt.decimal}
 use Rattle.pc_caps.specs.declared.capability.Cap.{Cap}
+use Rattle.pc_tree.specs.{declared.written_names.Name.Name, declared.written_names.TypeRef.TypeRef, declared.file.ParamDef.ParamDef, declared.kinds.Op.Op}
+use Rattle.pc_token.specs.Words.{word_text}
+use Rattle.pc_grammar.specs.{Spells.local_word, Spells.truth_word, SpellsFile.method_word, SpellsFile.entity_word}
 use Rattle.pc_caps.specs.declared.capability.Cap.TheVariants as c
 use Rattle.pc_tree.specs.Tree as t
-use Rattle.pc_tree.specs.declared.written_names.Name.{Name}
-use Rattle.pc_tree.specs.declared.written_names.TypeRef.{TypeRef}
-use Rattle.pc_tree.specs.declared.file.ParamDef.{ParamDef}
-use Rattle.pc_tree.specs.declared.kinds.Op.{Op}
 use Rattle.pc_tree.specs.declared.kinds.Op.TheVariants as o
-use Rattle.pc_token.specs.Words.{word_text}
-use Rattle.pc_grammar.specs.Asking.{local_word, truth_word}
-use Rattle.pc_grammar.specs.SpellsFile.{method_word, entity_word}
-use Rattle.pc_print.specs.Escapes.{all_escaped}
+
+-- ---- how the value of a text literal is printed
+
+-- One byte of a text's value: `"`, `\`, LF, CR, TAB and 0 as `\` and a letter, other bytes below 32 and 127 as `\x` and
+-- two digits, the rest as they are.
+unfoldable pub escaped : ℕ → List ℕ
+escaped b =
+    if b == 34 then 92 ∷ 34 ∷ []
+    else (if b == 92 then 92 ∷ 92 ∷ []
+    else (if b == 10 then 92 ∷ 110 ∷ []
+    else (if b == 13 then 92 ∷ 114 ∷ []
+    else (if b == 9 then 92 ∷ 116 ∷ []
+    else (if b == 0 then 92 ∷ 48 ∷ []
+    else (if nat_lt b 32 || b == 127 then 92 ∷ 120 ∷ digit_char (b / 16) ∷ digit_char (b % 16) ∷ []
+    else b ∷ []))))))
+
+abbrev pub all_escaped : List ℕ → List ℕ
+all_escaped [] = []
+all_escaped (b ∷ bs) = escaped b ++ all_escaped bs
+
+-- ---- trees
 
 -- the end of a line
 abbrev pub feed : List ℕ

@@ -1,9 +1,9 @@
 //! Expressions, items and sequences, each appended to a text, all on one line.
 ghost use Rattle.std.specs.Prelude.{◌≡◌, ◌++◌, ◌∷◌, [], OnOk, codes, if◌then◌else◌};
-ghost use Rattle.pc_print.specs.Escapes.{all_escaped};
+ghost use Rattle.pc_print.specs.Printing.{all_escaped};
 ghost use Rattle.pc_print.specs.Printing as text;
 ghost use Rattle.pc_token.specs.Words.{word_text};
-ghost use Rattle.pc_grammar.specs.Asking.{truth_word};
+ghost use Rattle.pc_grammar.specs.Spells.{truth_word};
 ghost use Rattle.pc_tree.specs.View.{expr_view, item_view, suffix_view, arm_view, seq_view, exprs_view, suffixes_view, arms_view, items_view, other_view};
 
 use crate::leaves::{

@@ -2,10 +2,10 @@
 ghost use Rattle.std.specs.Prelude.{◌≡◌, ◌++◌, ◌<◌, ◌/◌, ◌%◌, [], ◌∷◌, if◌then◌else◌, OnOk};
 ghost use Rattle.std.specs.Char.{digit_char};
 ghost use Rattle.std.specs.Fmt.{decimal};
-ghost use Rattle.pc_print.specs.Escapes.{escaped};
+ghost use Rattle.pc_print.specs.Printing.{escaped};
 ghost use Rattle.pc_print.specs.Printing as text;
 ghost use Rattle.pc_token.specs.Words.{word_text};
-ghost use Rattle.pc_grammar.specs.Asking.{local_word};
+ghost use Rattle.pc_grammar.specs.Spells.{local_word};
 
 use pc_caps::Cap;
 use pc_tree::{Op, TypeRef};
@@ -27,7 +27,7 @@ fn push_digits(out: &mut Vec<u8>, byte: u8) -> Result<(), AllocError>
 }
 
 /// One byte of a text literal's value.
-#[tactic(auto, unfolding(crate::specs::Escapes::escaped))]
+#[tactic(auto, unfolding(crate::specs::Printing::escaped))]
 pub fn push_escaped(out: &mut Vec<u8>, byte: u8) -> Result<(), AllocError>
     ensures { OnOk result (out.new.items ≡ out.old.items ++ escaped byte) }
 {

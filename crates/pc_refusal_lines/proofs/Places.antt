@@ -4,7 +4,7 @@ use Rattle.std.specs.Prelude.{count_by}
 use Rattle.std.specs.List.{prefix_len}
 use Rattle.std.proofs.lemmas.List.{take_more, reverse-append}
 use Rattle.std.proofs.lemmas.List.Sums.{sum_by_push}
-use Rattle.pc_refusal_lines.specs.Place.{is_line_end, is_in_line, line_number, column_number}
+use Rattle.pc_refusal_lines.specs.Lines.{is_line_end, is_in_line, line_number, column_number}
 
 -- The place after the first bytes of a text, with bounds.
 pub record At (front : List ℕ) (i line column : ℕ) : Type 0 where

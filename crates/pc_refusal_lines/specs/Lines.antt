@@ -1,6 +1,7 @@
--- The lines on err, and the first line of `make`.
-use Rattle.std.specs.Prelude.{ℕ, [], ◌∷◌, ◌++◌, codes, decimal}
-use Rattle.pc_lists.specs.Texts.{Text, line_end}
+-- The lines on err, the first line of `make`, and places in a text.
+use Rattle.std.specs.Prelude.{ℕ, ◌++◌, codes, decimal, ◌+◌, ◌==◌, Bool, not, List, reverse, count_by, take}
+use Rattle.std.specs.List.{prefix_len}
+use Rattle.pc_lists.specs.Lists.{Text, line_end}
 
 abbrev pub usage_line : Text
 usage_line = codes "usage: rcap COMMAND ARGUMENT ..." ++ line_end
@@ -53,3 +54,26 @@ node_refusal_line name n = name ++ (codes ": node " ++ (decimal n ++ line_end))
 
 abbrev pub unset_line : Text → ℕ → Text
 unset_line name n = name ++ (codes ": unset in method " ++ (decimal n ++ line_end))
+
+-- ---- the position of a byte in a text
+
+-- LF
+abbrev pub is_line_end : ℕ → Bool
+is_line_end b = b == 10
+
+abbrev pub is_in_line : ℕ → Bool
+is_in_line b = not (is_line_end b)
+
+-- The line after these bytes: one more than the number of line ends among them.
+abbrev pub line_number : List ℕ → ℕ
+line_number front = 1 + count_by is_line_end front
+
+-- The column after these bytes: one more than the number of bytes since the last line end.
+abbrev pub column_number : List ℕ → ℕ
+column_number front = 1 + prefix_len is_in_line (reverse front)
+
+-- ---- lines that name a byte of a file
+
+-- The line that names the byte at an offset, and what is wrong there.
+abbrev pub offset_line : Text → Text → ℕ → Text → Text
+offset_line name bytes at what = place_line name (line_number (take at bytes)) (column_number (take at bytes)) what

@@ -1,6 +1,6 @@
 //! The position of a byte in a text.
 ghost use Rattle.std.specs.Prelude.{◌≡◌, ◌<◌, ◌+◌, ◌^◌, cond, take};
-ghost use Rattle.pc_refusal_lines.specs.Place.{is_line_end, line_number, column_number};
+ghost use Rattle.pc_refusal_lines.specs.Lines.{is_line_end, line_number, column_number};
 
 /// A place in a text, both numbers counted from 1.
 #[derive(Clone, Copy, Debug)]

@@ -3,14 +3,12 @@ use Rattle.std.proofs.Common.{ℕ, [], Option, Some, None, inl, inr, Ok, Err, le
 use Rattle.std.specs.Prelude.{Result}
 use Rattle.std.proofs.Math.Seq.{take-length}
 use Rattle.std.specs.Io.KnownBytes.{Appends, Keeps}
-use Rattle.pc_lists.specs.Texts.{Text}
-use Rattle.pc_io.specs.Change.{Change}
-use Rattle.pc_refusals.specs.Answer.{Answer}
-use Rattle.pc_refusals.specs.Answer.Answer.{given, file, out_failed, err_failed, file_err_failed, no_memory}
-use Rattle.pc_refusals.specs.Complete.{Completes}
+use Rattle.pc_lists.specs.Lists.{Text}
+use Rattle.pc_io.specs.Sink.{Change}
+use Rattle.pc_refusals.specs.Verdict.{Answer, Completes, Verdict}
+use Rattle.pc_refusals.specs.Verdict.Answer.{given, file, out_failed, err_failed, file_err_failed, no_memory}
 use Rattle.pc_refusals.specs.Inner.Answering.{EndsCommand, WritesVerdict}
 use Rattle.pc_refusals.specs.Inner.Finishing.{Finishes, LineEnds}
-use Rattle.pc_refusals.specs.Verdict.{Verdict}
 use Rattle.pc_refusals.specs.declared.stop.Stop.{Stop}
 use Rattle.pc_refusals.specs.declared.stop.Stop.TheVariants.{Refused, File, Sink, Memory}
 use Rattle.pc_refusals.proofs.Ending.{unchanged}

@@ -2,16 +2,15 @@
 use Rattle.std.proofs.Common.{◌≡◌, ℕ, [], Option, Some, None, refl, inl, inr, Ok, Err, append-nil, sym, subst}
 use Rattle.std.specs.Prelude.{Result}
 use Rattle.std.specs.Io.KnownBytes.{Appends, Keeps}
-use Rattle.pc_lists.specs.Texts.{Text}
-use Rattle.pc_io.specs.Change.{Change}
-use Rattle.pc_refusals.specs.FromFile.{FromFile, FilePasses}
-use Rattle.pc_refusals.specs.FromFile.FromFile.{refuses, goes_on}
+use Rattle.pc_lists.specs.Lists.{Text}
+use Rattle.pc_io.specs.Sink.{Change}
+use Rattle.pc_refusals.specs.Source.{FromFile, FilePasses}
+use Rattle.pc_refusals.specs.Source.FromFile.{refuses, goes_on}
 use Rattle.pc_refusals.specs.Inner.Answering.{AnswerStops, AnswersText, CommandStops, EndsCommand, Puts}
 use Rattle.pc_refusals.specs.Inner.Refusals.{IsRefusal}
 use Rattle.pc_refusals.specs.Inner.Stages.{PartStops, PartGives, StageEnds, StageStops, StageWrote}
 use Rattle.pc_refusals.specs.Inner.TwoFiles.{BothGive, OneStops}
-use Rattle.pc_refusals.specs.Named.{Reading, Named, FailedAt}
-use Rattle.pc_refusals.specs.Verdict.{EndsAs, EndsWith, Verdict, refused, done}
+use Rattle.pc_refusals.specs.Verdict.{Reading, Named, FailedAt, EndsAs, EndsWith, Verdict, refused, done}
 use Rattle.pc_refusals.specs.declared.stop.Stop.{Stop}
 use Rattle.pc_refusals.specs.declared.stop.Stop.TheVariants.{Refused, File, Sink, Memory}
 

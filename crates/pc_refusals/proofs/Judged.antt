@@ -3,9 +3,8 @@ use Rattle.std.proofs.Common.{◌≡◌, ◌≤◌, ℕ, ◌++◌, Option, Some,
 use Rattle.std.specs.Prelude.{Result}
 use Rattle.pc_ann.specs.declared.annotation.Ann.{Ann}
 use Rattle.pc_core.specs.Formed.{Formed}
-use Rattle.pc_deriv.specs.Limits.{derivation_limit}
+use Rattle.pc_deriv.specs.Text.{derivation_limit, IsText}
 use Rattle.pc_valid.specs.Valid.{Valid}
-use Rattle.pc_deriv.specs.Faults.{IsText}
 use Rattle.pc_deriv.specs.Laws.{as_read}
 use Rattle.pc_deriv.specs.declared.line.LineFault.{LineFault}
 use Rattle.pc_deriv.specs.declared.line.LineFault.TheVariants as line_fault
@@ -14,16 +13,15 @@ use Rattle.pc_feed.specs.declared.parts.DerivationFault.{DerivationFault}
 use Rattle.pc_feed.specs.declared.parts.DerivationFault.TheVariants as parts
 use Rattle.pc_feed.specs.Laws.{ValidAsksAll}
 use Rattle.pc_feed.specs.Parts.{AsksNodes, FileJudged, ReadWhole}
-use Rattle.pc_lists.specs.Texts.{Text}
-use Rattle.pc_refusals.specs.After.After.{stops, goes}
-use Rattle.pc_refusals.specs.Derivation.{DerivationStage, in_parts, text_status}
+use Rattle.pc_lists.specs.Lists.{Text}
+use Rattle.pc_refusals.specs.Source.After.{stops, goes}
+use Rattle.pc_refusals.specs.Derivation.{DerivationStage, in_parts, text_status, AsksEach, JudgedFile}
 use Rattle.pc_refusals.specs.Derivation.Deriving.{reads, garbled}
 use Rattle.pc_refusals.specs.Derivation.Judging.{holds, fails}
 use Rattle.pc_refusals.specs.Inner.Derivations.{DerivationJudged, NotDone}
 use Rattle.pc_refusals.specs.Inner.Refusals.{IsDerivationStop}
 use Rattle.pc_refusals.specs.Inner.Stages.{PartGives}
-use Rattle.pc_refusals.specs.Named.{IsReadingOf, Named, longer, whole}
-use Rattle.pc_refusals.specs.Referee.{AsksEach, JudgedFile}
+use Rattle.pc_refusals.specs.Verdict.{IsReadingOf, Named, longer, whole}
 use Rattle.pc_refusals.specs.Source.Length.{fits, is_longer}
 use Rattle.pc_refusals.specs.declared.source.Source.{Source}
 use Rattle.pc_refusals.specs.declared.stop.Stop.{Stop}

@@ -1,12 +1,10 @@
 -- What holds of a command's verdict, from what holds of its stages.
 use Rattle.std.proofs.Common.{◌≡◌, ◌⊎◌, ℕ, Ok, Err, inl, inr, sym, ap, ◌∙◌, subst}
 use Rattle.std.specs.Prelude.{Result}
-use Rattle.pc_lists.specs.Texts.{Text}
-use Rattle.pc_refusals.specs.After.{HasOneEnd}
-use Rattle.pc_refusals.specs.FromFile.{FromFile}
-use Rattle.pc_refusals.specs.FromFile.FromFile.{refuses, goes_on}
-use Rattle.pc_refusals.specs.Named.{Named, Reading, IsReadingOf}
-use Rattle.pc_refusals.specs.Verdict.{EndsAs, Verdict, done, ended}
+use Rattle.pc_lists.specs.Lists.{Text}
+use Rattle.pc_refusals.specs.Source.{HasOneEnd, FromFile}
+use Rattle.pc_refusals.specs.Source.FromFile.{refuses, goes_on}
+use Rattle.pc_refusals.specs.Verdict.{Named, Reading, IsReadingOf, EndsAs, Verdict, done, ended}
 
 -- ---- a last stage
 

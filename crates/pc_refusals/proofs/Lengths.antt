@@ -11,19 +11,15 @@ use Rattle.pc_caps.specs.declared.capability.Cap.{Cap}
 use Rattle.pc_caps.specs.declared.capability.Cap.TheVariants as cap
 use Rattle.pc_caps.specs.declared.capability.Form.{Form}
 use Rattle.pc_caps.specs.declared.capability.Form.TheVariants as form
-use Rattle.pc_deriv.specs.Limits.{derivation_limit}
+use Rattle.pc_deriv.specs.Text.{derivation_limit, IsText, version_name, rule_name, cap_name, form_name, head_line, slot_line, type_text, mask_text, masks_text, note_line, shown_after, each_line, blank, SlotFits, TypeFits, MaskFits, MasksFit, NoteFits}
 use Rattle.pc_masks.specs.declared.mask.Mask.{Mask}
 use Rattle.pc_ann.specs.declared.annotation.Note.{Note}
 use Rattle.pc_ann.specs.declared.annotation.Ann.{Ann}
 use Rattle.pc_ann.specs.declared.annotation.Rule.{Rule}
 use Rattle.pc_ann.specs.declared.annotation.Rule.TheVariants as rule
 use Rattle.pc_deriv.proofs.Digits.{hex_step}
-use Rattle.pc_deriv.specs.Faults.{IsText}
 use Rattle.pc_deriv.proofs.Shown.{shown_fits}
-use Rattle.pc_deriv.specs.Names.{version_name, rule_name, cap_name, form_name}
-use Rattle.pc_lists.specs.Texts.{line_end}
-use Rattle.pc_deriv.specs.Text.{head_line, slot_line, type_text, mask_text, masks_text, note_line, shown_after, each_line, blank, SlotFits, TypeFits, MaskFits}
-use Rattle.pc_deriv.specs.Text.{MasksFit, NoteFits}
+use Rattle.pc_lists.specs.Lists.{line_end}
 use Rattle.pc_deriv.specs.declared.version.Version.{Version}
 use Rattle.pc_deriv.specs.declared.version.Version.TheVariants as version
 

@@ -11,22 +11,18 @@ use Rattle.pc_names.specs.Laws.{NotBoth as NotBothNames, OneFault as OneNameFaul
 use Rattle.pc_names.specs.declared.fault.NameFault.{NameFault}
 use Rattle.pc_file_spec.specs.Laws.{OneCore, NotBoth as NotBothMembers, OneFault as OneMemberFault}
 use Rattle.pc_tree.specs.Tree as t
-use Rattle.pc_lists.specs.Texts.{Text}
-use Rattle.pc_refusals.specs.After.{After, HasOneEnd}
-use Rattle.pc_refusals.specs.After.After.{stops, goes}
-use Rattle.pc_refusals.specs.LexFaults.{fault_status, fault_line}
-use Rattle.pc_refusals.specs.FromFile.{FromFile}
-use Rattle.pc_refusals.specs.FromFile.FromFile.{refuses, goes_on}
-use Rattle.pc_refusals.specs.Named.{Named, Reading, whole, longer, IsReading}
-use Rattle.pc_refusals.specs.NameFaults.{name_status, name_line}
-use Rattle.pc_refusal_lines.specs.Refusal.{offset_line}
-use Rattle.pc_refusals.specs.Source.{FileStage, SyntaxStage, Length, Lexing, Parsing, Elaborating, TreeStage, CoreStage, TextStage, SourceStage, source_limit}
+use Rattle.pc_lists.specs.Lists.{Text}
+use Rattle.pc_refusals.specs.Source.{After, HasOneEnd, FromFile, FileStage, SyntaxStage, Length, Lexing, Parsing, Elaborating, TreeStage, CoreStage, TextStage, SourceStage, source_limit}
+use Rattle.pc_refusals.specs.Source.After.{stops, goes}
+use Rattle.pc_refusals.specs.FaultLines.{fault_status, fault_line, name_status, name_line}
+use Rattle.pc_refusals.specs.Source.FromFile.{refuses, goes_on}
+use Rattle.pc_refusals.specs.Verdict.{Named, Reading, whole, longer, IsReading, Verdict, refused}
+use Rattle.pc_refusal_lines.specs.Lines.{offset_line}
 use Rattle.pc_refusals.specs.Source.Length.{fits, is_longer}
 use Rattle.pc_refusals.specs.Source.Lexing.{lexed, faulty}
 use Rattle.pc_refusals.specs.Source.Parsing.{parsed, astray, nested}
 use Rattle.pc_refusals.specs.Source.Elaborating.{elaborated, misnamed, misused}
 use Rattle.pc_refusals.specs.Source.TextStage.{has_core, has_none}
-use Rattle.pc_refusals.specs.Verdict.{Verdict, refused}
 
 -- What the stages rest on.
 pub record SourceLaws : Type 0 where

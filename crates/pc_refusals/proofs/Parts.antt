@@ -1,16 +1,14 @@
 -- From the result of reading one file to its stages, whatever they are.
 use Rattle.std.proofs.Common.{◌≡◌, ◌≤◌, ◌<◌, ℕ, Option, Ok, Err, subst, arith}
 use Rattle.std.specs.Prelude.{Result}
-use Rattle.pc_lists.specs.Texts.{Text}
-use Rattle.pc_refusals.specs.After.{After}
-use Rattle.pc_refusals.specs.After.After.{stops, goes}
+use Rattle.pc_lists.specs.Lists.{Text}
+use Rattle.pc_refusals.specs.Source.{After, Length}
+use Rattle.pc_refusals.specs.Source.After.{stops, goes}
 use Rattle.pc_refusals.specs.Inner.Reading.{NotRead}
 use Rattle.pc_refusals.specs.Inner.Stages.{PartStops, PartGives, PartEnds, StageEnds}
 use Rattle.pc_refusal_lines.specs.Lines.{longer_line}
-use Rattle.pc_refusals.specs.Named.{Reading, whole, longer, Named, IsReadingOf, IsReading}
-use Rattle.pc_refusals.specs.Source.{Length}
+use Rattle.pc_refusals.specs.Verdict.{Reading, whole, longer, Named, IsReadingOf, IsReading, Verdict, refused}
 use Rattle.pc_refusals.specs.Source.Length.{fits}
-use Rattle.pc_refusals.specs.Verdict.{Verdict, refused}
 use Rattle.pc_refusals.specs.declared.stop.Stop.{Stop}
 use Rattle.pc_refusals.specs.declared.stop.Stop.TheVariants.{Refused, File, Sink, Memory}
 

@@ -1,13 +1,12 @@
 -- From the result of reading a schedule to its stages.
 use Rattle.std.proofs.Common.{◌≡◌, ◌≤◌, List, Ok, refl}
-use Rattle.pc_sched.specs.Limits.{turn_limit}
-use Rattle.pc_sched.specs.Schedules.{TurnList, total}
+use Rattle.pc_sched.specs.Schedules.{turn_limit, TurnList, total}
 use Rattle.pc_sched.specs.declared.turns.Turn.{Turn}
-use Rattle.pc_lists.specs.Texts.{Text}
-use Rattle.pc_refusals.specs.After.After.{goes}
-use Rattle.pc_refusals.specs.Named.{Reading, whole}
-use Rattle.pc_refusals.specs.Schedule.{ScheduleStage}
-use Rattle.pc_refusals.specs.Schedule.Scheduling.{scheduled}
+use Rattle.pc_lists.specs.Lists.{Text}
+use Rattle.pc_refusals.specs.Source.After.{goes}
+use Rattle.pc_refusals.specs.Verdict.{Reading, whole}
+use Rattle.pc_refusals.specs.Source.{ScheduleStage}
+use Rattle.pc_refusals.specs.Source.Scheduling.{scheduled}
 use Rattle.pc_refusals.specs.Source.Length.{fits}
 
 -- The schedule was read whole, and its words are these turns.

@@ -11,11 +11,11 @@ use Rattle.pc_expr.specs.Gives.{EndsWithEnd}
 use Rattle.pc_expr.specs.declared.fault.ParseFault.TheVariants as syntax
 use Rattle.pc_parse.specs.Answers.{RefusesFile as RefusesTree}
 use Rattle.pc_text_order.specs.Laws.{TokensEnd}
-use Rattle.pc_lists.specs.Texts.{Text}
-use Rattle.pc_refusals.specs.After.After.{stops, goes}
+use Rattle.pc_lists.specs.Lists.{Text}
+use Rattle.pc_refusals.specs.Source.After.{stops, goes}
 use Rattle.pc_refusals.specs.Inner.Refusals.{IsLexStop, IsRefusal}
 use Rattle.pc_refusals.specs.Inner.Stages.{StageStops, StageEndsAs}
-use Rattle.pc_refusal_lines.specs.Refusal.{offset_line}
+use Rattle.pc_refusal_lines.specs.Lines.{offset_line}
 use Rattle.pc_refusals.specs.Source.{Lexing, Parsing, SyntaxStage}
 use Rattle.pc_refusals.specs.Source.Lexing.{lexed, faulty}
 use Rattle.pc_refusals.specs.Source.Parsing.{astray, nested}

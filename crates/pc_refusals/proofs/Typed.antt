@@ -6,13 +6,13 @@ use Rattle.pc_check.specs.declared.fault.CheckFault.{CheckFault}
 use Rattle.pc_check.specs.declared.fault.CheckFault.TheVariants as fault
 use Rattle.pc_core.specs.declared.declarations.Method.{Method}
 use Rattle.pc_core.specs.declared.nodes.Node.{Node}
-use Rattle.pc_lists.specs.Texts.{Text}
-use Rattle.pc_refusals.specs.Accepting.{Typing}
-use Rattle.pc_refusals.specs.Accepting.Typing.{declared, no_rule, unset}
-use Rattle.pc_refusals.specs.CoreFaults.{method_start, node_start}
+use Rattle.pc_lists.specs.Lists.{Text}
+use Rattle.pc_refusals.specs.Source.{Typing}
+use Rattle.pc_refusals.specs.Source.Typing.{declared, no_rule, unset}
+use Rattle.pc_refusals.specs.FaultLines.{method_start, node_start}
 use Rattle.pc_refusals.specs.Inner.Refusals.{IsCoreStop}
 use Rattle.pc_refusals.specs.Inner.Stages.{StageStops}
-use Rattle.pc_refusal_lines.specs.Refusal.{offset_line}
+use Rattle.pc_refusal_lines.specs.Lines.{offset_line}
 use Rattle.pc_refusals.specs.Verdict.{refused}
 use Rattle.pc_refusals.specs.declared.source.Source.{Source}
 use Rattle.pc_refusals.specs.declared.stop.Stop.{Stop}

@@ -1,23 +1,17 @@
 -- The stages of a derivation: its length, its text, and whether it is valid for a source.
-use Rattle.std.specs.Prelude.{ℕ, ◌+◌, Result, Ok, Err, codes}
+use Rattle.std.specs.Prelude.{ℕ, ◌+◌, Result, Ok, Err, codes, ◌≡◌, ◌++◌, Option, Some, None, IfSome}
 use Rattle.pc_ann.specs.declared.annotation.Ann.{Ann}
-use Rattle.pc_deriv.specs.Limits.{derivation_limit}
+use Rattle.pc_deriv.specs.{Text.derivation_limit, Text.IsText, Text.IsFault, declared.fault.DerivFault.DerivFault}
 use Rattle.pc_valid.specs.Valid.{Valid}
-use Rattle.pc_deriv.specs.Faults.{IsText, IsFault}
-use Rattle.pc_deriv.specs.declared.fault.DerivFault.{DerivFault}
+use Rattle.pc_judge.specs.{Faults.FirstAnnotationFault, declared.faults.JudgeFault.JudgeFault}
+use Rattle.pc_lists.specs.Lists.{Text}
+use Rattle.pc_refusals.specs.{Source.After, Source.Length, FaultLines.decl_offset, FaultLines.decl_text, Verdict.Named, Verdict.Reading, Verdict.Verdict, Verdict.refused, declared.source.Source.Source}
+use Rattle.pc_refusal_lines.specs.Lines.{bad_line, many_line, shape_line, slot_refusal_line, node_refusal_line, unset_line, offset_line}
+use Rattle.pc_core.specs.CoreData.{CoreData}
+use Rattle.pc_referee.specs.Asked.{Pairs}
+use Rattle.pc_feed.specs.Numbered.{numbered_notes}
 use Rattle.pc_deriv.specs.declared.fault.DerivFault.TheVariants as deriv
-use Rattle.pc_judge.specs.Faults.{FirstAnnotationFault}
-use Rattle.pc_judge.specs.declared.faults.JudgeFault.{JudgeFault}
 use Rattle.pc_judge.specs.declared.faults.JudgeFault.TheVariants as fault
-use Rattle.pc_lists.specs.Texts.{Text}
-use Rattle.pc_refusals.specs.After.{After}
-use Rattle.pc_refusals.specs.CoreFaults.{decl_offset, decl_text}
-use Rattle.pc_refusal_lines.specs.Lines.{bad_line, many_line, shape_line, slot_refusal_line, node_refusal_line, unset_line}
-use Rattle.pc_refusals.specs.Named.{Named, Reading}
-use Rattle.pc_refusal_lines.specs.Refusal.{offset_line}
-use Rattle.pc_refusals.specs.Source.{Length}
-use Rattle.pc_refusals.specs.Verdict.{Verdict, refused}
-use Rattle.pc_refusals.specs.declared.source.Source.{Source}
 
 -- A derivation is read in parts, and only the last part is counted in `taken`. If the file is longer, this part begins
 -- after all bytes that a derivation may have.
@@ -56,3 +50,19 @@ pub data Judging (source_name name : Text) (source : Source) (ann : Ann) : Resul
   holds : Valid source.core ann → Judging source_name name source ann (Ok tt)
   fails : (f : JudgeFault) → FirstAnnotationFault source.core ann f
       → Judging source_name name source ann (Err (refused 6 (judge_line source_name name source f)))
+
+-- ---- what the referee is asked for a derivation's file
+
+-- Its list, if it is known, grew by each node with its note, in order.
+abbrev pub AsksEach : Ann → Option Pairs → Option Pairs → Type 0
+AsksEach ann None after = after ≡ None
+AsksEach ann (Some pairs) after = after ≡ Some (pairs ++ numbered_notes 0 ann.notes)
+
+-- A derivation of the core: it has the bytes of the file, if they are known, and each of its nodes was asked.
+pub record JudgedFile (core : CoreData) (derivation : Option Text) (before after : Option Pairs) : Type 0 where
+  pub text : Text
+  pub of_file : IfSome derivation (λ t. text ≡ t)
+  pub ann : Ann
+  pub is_text : IsText text ann
+  pub valid : Valid core ann
+  pub asks : AsksEach ann before after

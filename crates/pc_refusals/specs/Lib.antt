@@ -1,16 +1,5 @@
-pub mod Accepting
-pub mod After
-pub mod Answer
-pub mod Complete
-pub mod CoreFaults
 pub mod Derivation
-pub mod Ends
-pub mod FromFile
 pub mod Inner
-pub mod LexFaults
-pub mod NameFaults
-pub mod Named
-pub mod Referee
-pub mod Schedule
 pub mod Source
 pub mod Verdict
+pub mod FaultLines

@@ -1,25 +1,33 @@
 -- The stages of a source, which come first in every command that reads one.
-use Rattle.std.specs.Prelude.{ℕ, ◌≤◌, ◌∷◌, Result, Ok, Err, List, length, codes}
-use Rattle.pc_tree.specs.Tree as t
+use Rattle.std.specs.Prelude.{◌≡◌, Result, Ok, Err, ℕ, ◌≤◌, ◌∷◌, List, length, codes, ◌⊎◌, Some}
+use Rattle.pc_refusals.specs.{Verdict.Verdict, Verdict.Reading, Verdict.whole, Verdict.longer, Verdict.refused, Verdict.FailedAt, Verdict.Named, Verdict.IsReadingOf, FaultLines.fault_status, FaultLines.fault_line, FaultLines.name_status, FaultLines.name_line, FaultLines.decl_offset, FaultLines.decl_text, declared.source.Source.Source, declared.typing.Accepted.Accepted}
 use Rattle.pc_token.specs.declared.kinds.Token.{Token}
 use Rattle.pc_grammar.specs.FileAnswers.{IsFileAnswer, spelled, unexpected, too_deep}
-use Rattle.pc_lex.specs.Answers.{TokenList}
-use Rattle.pc_lex.specs.Limits.{bytes_limit}
-use Rattle.pc_lex.specs.Faults.{FirstLexFault}
-use Rattle.pc_lex.specs.declared.fault.LexFault.{LexFault}
+use Rattle.pc_lex.specs.{Pieces.TokenList, Pieces.bytes_limit, Faults.FirstLexFault, declared.fault.LexFault.LexFault}
 use Rattle.pc_core.specs.CoreData.{CoreData}
-use Rattle.pc_names.specs.Names.{IsNotMemory, IsNameFault}
-use Rattle.pc_names.specs.declared.fault.NameFault.{NameFault}
+use Rattle.pc_names.specs.{Faults.IsNotMemory, Faults.IsNameFault, declared.fault.NameFault.NameFault}
 use Rattle.pc_file_spec.specs.Cores.{Stands, IsElabFault}
-use Rattle.pc_refusals.specs.After.{After}
-use Rattle.pc_lists.specs.Texts.{Text}
-use Rattle.pc_refusal_lines.specs.Refusal.{offset_line}
-use Rattle.pc_refusals.specs.LexFaults.{fault_status, fault_line}
-use Rattle.pc_refusal_lines.specs.Lines.{longer_line}
-use Rattle.pc_refusals.specs.Named.{Reading, whole, longer}
-use Rattle.pc_refusals.specs.NameFaults.{name_status, name_line}
-use Rattle.pc_refusals.specs.Verdict.{Verdict, refused}
-use Rattle.pc_refusals.specs.declared.source.Source.{Source}
+use Rattle.pc_lists.specs.Lists.{Text}
+use Rattle.pc_refusal_lines.specs.Lines.{offset_line, longer_line}
+use Rattle.pc_sched.specs.{Schedules.schedule_limit, Schedules.TurnList, Schedules.FirstScheduleFault, declared.fault.SchedFault.TheVariants.BadWord, declared.fault.SchedFault.TheVariants.TooMany, declared.turns.Turn.Turn}
+use Rattle.pc_ann.specs.declared.annotation.Ann.{Ann}
+use Rattle.pc_sub.specs.{DeclarationFaults.first_fault, declared.faults.DeclFault.DeclFault}
+use Rattle.pc_valid.specs.{Valid.Valid, NoRule.NoRule, NoRule.Unset}
+use Rattle.pc_tree.specs.Tree as t
+
+-- ---- stages in sequence
+
+-- Each gives a value for the next, or the verdict of its refusal. The first refusal ends them.
+-- One stage, and then another on the value that it gave.
+pub data After {T U : Type 0} (First : Result T Verdict → Type 0) (Next : T → Result U Verdict → Type 0) : Result U Verdict → Type 0 where
+  stops : {v : Verdict} → First (Err v) → After First Next (Err v)
+  goes : {x : T} {y : Result U Verdict} → First (Ok x) → Next x y → After First Next y
+
+-- Any two results of a stage are equal.
+abbrev pub HasOneEnd : {T : Type 0} → (Result T Verdict → Type 0) → Type 0
+HasOneEnd {T} Stage = (x y : Result T Verdict) → Stage x → Stage y → x ≡ y
+
+-- ---- the stages of a source
 
 -- the greatest number of bytes of a source: as many as a text may have that is read as tokens
 abbrev pub source_limit : ℕ
@@ -75,3 +83,50 @@ SyntaxStage name bytes = After (Lexing name bytes) (Parsing name bytes)
 -- Its length, its tokens and its tree. There are no further stages.
 abbrev pub FileStage : Text → Reading → Result t.File Verdict → Type 0
 FileStage name reading = After (Length source_limit name reading) (SyntaxStage name)
+
+-- ---- the verdict of a command that reads a file, and then continues with the result
+
+-- The file goes through its stages. The verdict is that of the stage that refuses it, or otherwise that of the last
+-- part, on the value of the stages.
+pub data FromFile {T : Type 0} (file : Named) (limit : ℕ) (Stages : Reading → Result T Verdict → Type 0) (Last : T → Verdict → Type 0) (v : Verdict) : Type 0 where
+  refuses : (r : Reading) → IsReadingOf file limit r → Stages r (Err v) → FromFile file limit Stages Last v
+  goes_on : (r : Reading) (x : T) → IsReadingOf file limit r → Stages r (Ok x) → Last x v → FromFile file limit Stages Last v
+
+-- The file passes its stages, with some value.
+abbrev pub FilePasses : {T : Type 0} → Named → (limit : ℕ) → (Reading → Result T Verdict → Type 0) → Type 0
+FilePasses {T} file limit Stages = (r : Reading) × (x : T) × IsReadingOf file limit r × Stages r (Ok x)
+
+-- This is the one of two files that could not be read, where one comes after the other: the first, or the second if the
+-- first passes its stages.
+abbrev pub FailedInTurn : {T : Type 0} → (first : Named) → (limit : ℕ) → (Reading → Result T Verdict → Type 0) → (second : Named) → Text → Type 0
+FailedInTurn first limit Stages second name = FailedAt first name ⊎ (FilePasses first limit Stages × FailedAt second name)
+
+-- ---- the stages of a schedule
+
+-- Its turns: 7 at the first word that is not a turn, and 8 at the first turn too many.
+pub data Scheduling (name bytes : Text) : Result (List Turn) Verdict → Type 0 where
+  scheduled : {turns : List Turn} → TurnList bytes turns → Scheduling name bytes (Ok turns)
+  bad_word : (at : ℕ) → FirstScheduleFault bytes (BadWord at) → Scheduling name bytes (Err (refused 7 (offset_line name bytes at (codes "bad word"))))
+  too_many : (at : ℕ) → FirstScheduleFault bytes (TooMany at)
+      → Scheduling name bytes (Err (refused 8 (offset_line name bytes at (codes "too many steps"))))
+
+-- Its length, and then its turns.
+abbrev pub ScheduleStage : Text → Reading → Result (List Turn) Verdict → Type 0
+ScheduleStage name reading = After (Length schedule_limit name reading) (Scheduling name)
+
+-- ---- sources whose core has a derivation
+
+-- The core: its valid annotation; or else 1, with the place of the first declaration that fails, of the node at which
+-- no rule holds, or of a constructor that leaves a field unset.
+pub data Typing (name : Text) (source : Source) : Result Accepted Verdict → Type 0 where
+  typed : (ann : Ann) → Valid source.core ann → Typing name source (Ok (record { source = source; ann = ann }))
+  declared : (f : DeclFault) → first_fault source.core ≡ Some f
+      → Typing name source (Err (refused 1 (offset_line name source.bytes (decl_offset source.core f) (decl_text f))))
+  no_rule : (ann : Ann) (n : ℕ) (stop : NoRule source.core ann n)
+      → Typing name source (Err (refused 1 (offset_line name source.bytes stop.at.span.start (codes "no rule"))))
+  unset : (ann : Ann) (m : ℕ) (left : Unset source.core ann m)
+      → Typing name source (Err (refused 1 (offset_line name source.bytes left.method.span.start (codes "field not set"))))
+
+-- The stages of the source, and then the stage of its core.
+abbrev pub AcceptedStage : Text → Reading → Result Accepted Verdict → Type 0
+AcceptedStage name reading = After (SourceStage name reading) (Typing name)

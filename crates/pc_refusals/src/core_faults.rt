@@ -1,6 +1,6 @@
 //! The refusals of a core that has no derivation.
 ghost use Rattle.std.specs.Prelude.{◌≡◌, slice_get};
-ghost use Rattle.pc_refusals.specs.CoreFaults as spec;
+ghost use Rattle.pc_refusals.specs.FaultLines as spec;
 ghost use Rattle.pc_refusals.specs.Inner.Refusals.{IsCoreStop};
 
 use crate::refusal::refuse_at;

@@ -1,12 +1,12 @@
 //! A derivation: read in parts and judged as they come, or read whole.
 ghost use Rattle.std.specs.Prelude.{◌≡◌, ◌≤◌, ℕ, List as Sequence, IfOk};
 ghost use Rattle.pc_deriv.specs.Laws.{as_read};
-ghost use Rattle.pc_deriv.specs.Limits.{derivation_limit};
+ghost use Rattle.pc_deriv.specs.Text.{derivation_limit};
 ghost use Rattle.pc_refusals.specs.Derivation.{DerivationStage, Deriving, Judging, in_parts, judge_line, text_line, text_status};
 ghost use Rattle.pc_refusals.specs.Inner.Derivations.{DerivationJudged, FileAsks};
 ghost use Rattle.pc_refusals.specs.Inner.Refusals.{IsDerivationStop, IsRefusal, IsTextStop};
 ghost use Rattle.pc_refusals.specs.Inner.Stages.{PartEnds, StageEnds};
-ghost use Rattle.pc_refusals.specs.Named.{file_at};
+ghost use Rattle.pc_refusals.specs.Verdict.{file_at};
 
 use crate::core_faults::{declaration_offset, declaration_text};
 use crate::lines::{

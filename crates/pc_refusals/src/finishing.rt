@@ -1,6 +1,6 @@
 //! The line on err and the status.
 ghost use Rattle.std.specs.Prelude.{◌≤◌};
-ghost use Rattle.pc_io.specs.Change.{change};
+ghost use Rattle.pc_io.specs.Sink.{change};
 ghost use Rattle.pc_refusals.specs.Inner.Finishing.{Finishes, LineEnds};
 
 use crate::lines::make_unread_line;

@@ -1,7 +1,7 @@
 //! The refusals of a source by its names.
 ghost use Rattle.std.specs.Prelude.{◌≡◌};
 ghost use Rattle.pc_refusals.specs.Inner.Refusals.{IsNameStop};
-ghost use Rattle.pc_refusals.specs.NameFaults.{many_text};
+ghost use Rattle.pc_refusals.specs.FaultLines.{many_text};
 
 use crate::lines::make_no_main_line;
 use crate::refusal::{refuse, refuse_at};

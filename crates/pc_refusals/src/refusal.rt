@@ -1,8 +1,8 @@
 //! Refusals with their line, and those that name a byte of a file.
 ghost use Rattle.std.specs.Prelude.{◌≡◌, IfOk};
-ghost use Rattle.pc_lists.specs.Texts.{Text};
+ghost use Rattle.pc_lists.specs.Lists.{Text};
 ghost use Rattle.pc_refusals.specs.Inner.Refusals.{IsRefusal};
-ghost use Rattle.pc_refusal_lines.specs.Refusal.{offset_line};
+ghost use Rattle.pc_refusal_lines.specs.Lines.{offset_line};
 
 use crate::lines::make_place_line;
 use crate::stop::Stop;

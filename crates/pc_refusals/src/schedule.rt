@@ -1,8 +1,8 @@
 //! The stages of a schedule: its length and its turns.
 ghost use Rattle.std.specs.Prelude.{◌≡◌, ◌≤◌, ℕ, List as Sequence, length};
-ghost use Rattle.pc_sched.specs.Limits.{schedule_limit};
-ghost use Rattle.pc_refusals.specs.Named.{file_at};
-ghost use Rattle.pc_refusals.specs.Schedule.{ScheduleStage, Scheduling};
+ghost use Rattle.pc_sched.specs.Schedules.{schedule_limit};
+ghost use Rattle.pc_refusals.specs.Verdict.{file_at};
+ghost use Rattle.pc_refusals.specs.Source.{ScheduleStage, Scheduling};
 ghost use Rattle.pc_refusals.specs.Inner.Stages.{PartEnds, StageEnds};
 
 use crate::reading::read_file;

@@ -1,7 +1,7 @@
 //! The tokens and the tree of a source.
 ghost use Rattle.std.specs.Prelude.{◌≤◌, length};
 ghost use Rattle.pc_expr.specs.Gives.{EndsWithEnd};
-ghost use Rattle.pc_lex.specs.Limits.{bytes_limit};
+ghost use Rattle.pc_lex.specs.Pieces.{bytes_limit};
 ghost use Rattle.pc_tree.specs.View.{file_view};
 ghost use Rattle.pc_refusals.specs.Inner.Stages.{StageEnds, StageEndsAs};
 ghost use Rattle.pc_refusals.specs.Source.{Lexing, Parsing, SyntaxStage};

@@ -1,5 +1,5 @@
 //! The last stage of a source whose core must have a derivation: its annotation.
-ghost use Rattle.pc_refusals.specs.Accepting.{Typing};
+ghost use Rattle.pc_refusals.specs.Source.{Typing};
 ghost use Rattle.pc_refusals.specs.Inner.Stages.{StageEnds};
 
 use crate::core_faults::refuse_core;

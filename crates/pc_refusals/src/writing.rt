@@ -1,6 +1,6 @@
 //! The writing of a command's text.
 ghost use Rattle.std.specs.Prelude.{◌≤◌};
-ghost use Rattle.pc_io.specs.Change.{change};
+ghost use Rattle.pc_io.specs.Sink.{change};
 ghost use Rattle.pc_refusals.specs.Inner.Answering.{Puts};
 ghost use Rattle.pc_refusals.specs.Inner.Stages.{StageWrote};
 

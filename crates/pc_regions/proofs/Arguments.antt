@@ -5,12 +5,12 @@ use Rattle.std.proofs.lemmas.Option.{same_Some, some_pair_parts}
 use Rattle.std.proofs.lemmas.Bool.{and_parts, or_cases}
 use Rattle.std.proofs.lemmas.List.{append-nil}
 use Rattle.pc_heap.specs.declared.value.Value.{Value}
-use Rattle.pc_caps.specs.Order.{is_below}
+use Rattle.pc_caps.specs.Computed.{is_below, fits}
 use Rattle.pc_caps.specs.Closure.{below_iff}
-use Rattle.pc_caps.specs.Tables.{unalias, fits, sendable, sendable_form}
+use Rattle.pc_caps.specs.Tables.{unalias, sendable, sendable_form}
 use Rattle.pc_core.specs.declared.declarations.ParamInfo.{ParamInfo}
 use Rattle.pc_core.specs.CoreData.{CoreData}
-use Rattle.pc_lists.specs.Places.{Each}
+use Rattle.pc_lists.specs.Lists.{Each}
 use Rattle.pc_ann.specs.declared.annotation.Ann.{Ann}
 use Rattle.pc_semantics.specs.Around.{popped}
 use Rattle.pc_sub.specs.Computed.{is_sub}

@@ -5,7 +5,7 @@ use Rattle.std.proofs.Common.{inl, inr, sym, subst, ◌∙◌, arith, None}
 use Rattle.std.proofs.lemmas.Bool.{eq-eqb, ne_eqb, cases_lt, lt-ltb, le-ltb}
 use Rattle.pc_heap.specs.Objects.{ObjectMap}
 use Rattle.pc_heap.specs.declared.value.Value.{Value}
-use Rattle.pc_caps.specs.Order.{is_below}
+use Rattle.pc_caps.specs.Computed.{is_below}
 use Rattle.pc_caps.specs.Closure.{below_iff}
 use Rattle.pc_caps.specs.Tables.{unalias, sendable, sendable_form}
 use Rattle.pc_caps.specs.declared.capability.Cap.{Cap}
@@ -14,7 +14,7 @@ use Rattle.pc_caps.specs.declared.capability.Form.{Form}
 use Rattle.pc_caps.specs.declared.capability.Form.TheVariants as form
 use Rattle.pc_core.specs.declared.declarations.ParamInfo.{ParamInfo}
 use Rattle.pc_core.specs.CoreData.{CoreData}
-use Rattle.pc_lists.specs.Places.{Each}
+use Rattle.pc_lists.specs.Lists.{Each}
 use Rattle.pc_ann.specs.declared.annotation.Ann.{Ann}
 use Rattle.pc_rules.specs.Parts.{type_of}
 use Rattle.pc_rules.proofs.ByNumber.{arguments_go, arguments_sendable}

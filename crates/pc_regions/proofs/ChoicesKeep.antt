@@ -15,8 +15,8 @@ use Rattle.pc_semantics.specs.declared.frames.Frame.{Frame}
 use Rattle.pc_semantics.specs.declared.frames.Task.{Task}
 use Rattle.pc_semantics.specs.declared.frames.Task.TheVariants as task
 use Rattle.pc_semantics.specs.Around.{Around, Move, Goes, with_stack, pushed, with_top, none}
-use Rattle.pc_semantics.specs.Tasks.{at_node}
-use Rattle.pc_semantics.specs.Choices.{truth, right_side, test_and, test_or, test_task, branch, branch_task, loop_turn, loop_task}
+use Rattle.pc_semantics.specs.Step.{at_node}
+use Rattle.pc_semantics.specs.Evaluation.{truth, right_side, test_and, test_or, test_task, branch, branch_task, loop_turn, loop_task}
 use Rattle.pc_valid.specs.Words.{Ty}
 use Rattle.pc_lists.proofs.Bools.{false_true}
 use Rattle.pc_types.proofs.Types.{OfType, Want, StackOk}

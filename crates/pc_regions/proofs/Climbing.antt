@@ -4,17 +4,17 @@ use Rattle.std.specs.FinMap.{get}
 use Rattle.std.proofs.Common.{inl, ap, sym, subst, ◌∙◌, arith}
 use Rattle.std.proofs.lemmas.Bool.{eq-eqb, ltb-false, le-ltb, or_from}
 use Rattle.std.proofs.lemmas.Option.{same_Some}
-use Rattle.pc_heap.specs.Objects.{ObjectMap}
+use Rattle.pc_heap.specs.Objects.{ObjectMap, Object}
 use Rattle.pc_heap.specs.declared.value.Address.{Address}
-use Rattle.pc_heap.specs.Object.{Object}
 use Rattle.pc_heap.specs.declared.value.Value.{Value}
 use Rattle.pc_heap.specs.declared.value.Value.TheVariants.{Num, Truth, Text, Prim, At}
-use Rattle.pc_caps.specs.Tables.{unalias, fits, lift}
+use Rattle.pc_caps.specs.Tables.{unalias, lift}
+use Rattle.pc_caps.specs.Computed.{fits}
 use Rattle.pc_caps.specs.declared.capability.Cap.{Cap}
 use Rattle.pc_caps.specs.declared.capability.Form.{Form}
 use Rattle.pc_caps.specs.declared.capability.Form.TheVariants as form
 use Rattle.pc_core.specs.CoreData.{CoreData}
-use Rattle.pc_lists.specs.Options.{◌>>=◌}
+use Rattle.pc_lists.specs.Lists.{◌>>=◌}
 use Rattle.pc_ann.specs.declared.annotation.Ann.{Ann}
 use Rattle.pc_valid.specs.Words.{Ty}
 use Rattle.pc_rules.specs.Control.{recovered}

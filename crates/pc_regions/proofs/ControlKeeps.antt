@@ -4,7 +4,7 @@ use Rattle.std.proofs.Common.{inl, inr, ap, sym, subst, ◌∙◌, append_assoc,
 use Rattle.std.proofs.lemmas.Option.{same_Some, none-some}
 use Rattle.std.proofs.lemmas.Bool.{and_parts}
 use Rattle.pc_lists.proofs.Gets.{get_below}
-use Rattle.pc_caps.specs.Order.{is_below}
+use Rattle.pc_caps.specs.Computed.{is_below}
 use Rattle.pc_caps.specs.declared.capability.Form.{Form}
 use Rattle.pc_caps.specs.declared.capability.Form.TheVariants as form
 use Rattle.pc_core.specs.declared.declarations.Method.{Method}
@@ -15,7 +15,7 @@ use Rattle.pc_core.specs.declared.nodes.NodeKind.{NodeKind}
 use Rattle.pc_core.specs.declared.nodes.NodeKind.TheVariants as nodes
 use Rattle.pc_core.specs.CoreData.{CoreData}
 use Rattle.pc_core.specs.Nodes.{inner_depth}
-use Rattle.pc_lists.specs.Places.{Each}
+use Rattle.pc_lists.specs.Lists.{Each}
 use Rattle.pc_masks.specs.declared.mask.Mask.{Mask}
 use Rattle.pc_ann.specs.declared.annotation.Note.{Note}
 use Rattle.pc_ann.specs.declared.annotation.Ann.{Ann}

@@ -8,7 +8,8 @@ use Rattle.pc_heap.specs.Objects.{ObjectMap}
 use Rattle.pc_heap.specs.declared.value.Address.{Address}
 use Rattle.pc_heap.specs.declared.value.Value.{Value}
 use Rattle.pc_heap.specs.declared.value.Value.TheVariants.{Num, Truth, Text, Prim, At}
-use Rattle.pc_caps.specs.Tables.{at, unalias, taken, may_write}
+use Rattle.pc_caps.specs.Tables.{at, unalias, taken}
+use Rattle.pc_caps.specs.Computed.{may_write}
 use Rattle.pc_caps.specs.declared.capability.Cap.{Cap}
 use Rattle.pc_caps.specs.declared.capability.Cap.TheVariants as cap
 use Rattle.pc_caps.specs.declared.capability.Form.{Form}

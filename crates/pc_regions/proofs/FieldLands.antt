@@ -3,10 +3,10 @@ use Rattle.std.specs.Prelude.{◌≡◌, ◌⊎◌, ℕ, ◌+◌, ◌<◌, true,
 use Rattle.std.specs.FinMap.{get}
 use Rattle.std.proofs.Common.{inl, inr, ap, sym, subst, ◌∙◌, arith}
 use Rattle.std.proofs.lemmas.Bool.{and_parts}
-use Rattle.pc_heap.specs.Objects.{ObjectMap}
+use Rattle.pc_heap.specs.Objects.{ObjectMap, Object}
 use Rattle.pc_heap.specs.declared.value.Address.{Address}
-use Rattle.pc_heap.specs.Object.{Object}
-use Rattle.pc_caps.specs.Tables.{unalias, fits, enters, may_write}
+use Rattle.pc_caps.specs.Tables.{unalias, enters}
+use Rattle.pc_caps.specs.Computed.{fits, may_write}
 use Rattle.pc_caps.specs.declared.capability.Cap.{Cap}
 use Rattle.pc_caps.specs.declared.capability.Cap.TheVariants as cap
 use Rattle.pc_caps.specs.declared.capability.Form.{Form}

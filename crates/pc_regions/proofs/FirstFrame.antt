@@ -12,7 +12,7 @@ use Rattle.pc_core.specs.declared.declarations.ParamInfo.{ParamInfo}
 use Rattle.pc_core.specs.declared.nodes.Slot.{Slot}
 use Rattle.pc_core.specs.CoreData.{CoreData}
 use Rattle.pc_lists.proofs.Options.{bind_some}
-use Rattle.pc_core.specs.MethodKinds.{this_slot, param_slot}
+use Rattle.pc_core.specs.Entities.{this_slot, param_slot}
 use Rattle.pc_ann.specs.declared.annotation.Ann.{Ann}
 use Rattle.pc_masks.specs.Masks.{first}
 use Rattle.pc_masks.specs.MaskLaws.{first_bits}

@@ -3,9 +3,8 @@ use Rattle.std.specs.Prelude.{◌≡◌, ℕ, suc, ◌+◌, ◌<◌, ◌≤◌, 
 use Rattle.std.specs.FinMap.{insert}
 use Rattle.std.proofs.Common.{inl, inr, ap, sym, subst, ◌∙◌, arith}
 use Rattle.std.proofs.lemmas.Bool.{ltb-true}
-use Rattle.pc_heap.specs.Objects.{ObjectMap}
+use Rattle.pc_heap.specs.Objects.{ObjectMap, Object}
 use Rattle.pc_heap.specs.declared.value.Address.{Address}
-use Rattle.pc_heap.specs.Object.{Object}
 use Rattle.pc_heap.specs.declared.value.Value.{Value}
 use Rattle.pc_caps.specs.Tables.{unalias}
 use Rattle.pc_caps.specs.declared.capability.Form.{Form}

@@ -11,11 +11,10 @@ use Rattle.pc_core.specs.declared.nodes.Slot.{Slot}
 use Rattle.pc_core.specs.declared.nodes.Node.{Node}
 use Rattle.pc_core.specs.declared.nodes.NodeKind.{NodeKind}
 use Rattle.pc_core.specs.declared.nodes.NodeKind.TheVariants as node
-use Rattle.pc_core.specs.CoreData.{CoreData}
-use Rattle.pc_lists.specs.Places.{Each}
-use Rattle.pc_core.specs.Lookup.{own_slots}
+use Rattle.pc_core.specs.CoreData.{CoreData, own_slots}
+use Rattle.pc_lists.specs.Lists.{Each}
 use Rattle.pc_core.specs.Methods.{LocalFits, SlotsFit, UsesSlot}
-use Rattle.pc_core.specs.MethodKinds.{this_slot, param_slot}
+use Rattle.pc_core.specs.Entities.{this_slot, param_slot}
 use Rattle.pc_core.specs.Nodes.{NamesFit, NamesLocal, NamesSlot, inner_depth}
 use Rattle.pc_masks.specs.declared.mask.Mask.{Mask}
 use Rattle.pc_ann.specs.declared.annotation.Note.{Note}

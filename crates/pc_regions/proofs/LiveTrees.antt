@@ -7,7 +7,7 @@ use Rattle.pc_core.specs.declared.nodes.Node.{Node}
 use Rattle.pc_core.specs.declared.nodes.NodeKind.{NodeKind}
 use Rattle.pc_core.specs.declared.nodes.NodeKind.TheVariants as nodes
 use Rattle.pc_core.specs.CoreData.{CoreData}
-use Rattle.pc_lists.specs.Places.{Each}
+use Rattle.pc_lists.specs.Lists.{Each}
 use Rattle.pc_core.specs.Nodes.{inner_depth}
 use Rattle.pc_core.specs.Formed.{Formed}
 use Rattle.pc_rules.specs.Trees.{Tree, Forest, tree, empty, more, tree_le}

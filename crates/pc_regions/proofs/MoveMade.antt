@@ -3,9 +3,8 @@ use Rattle.std.specs.Prelude.{◌≡◌, ◌≢◌, ◌⊎◌, ℕ, suc, ◌+◌
 use Rattle.std.proofs.Common.{inl, inr, ap, sym, subst, ◌∙◌, arith, length-set, length-append, cond}
 use Rattle.std.proofs.lemmas.Bool.{ne_eqb, eq-eqb, cases_eq}
 use Rattle.std.proofs.lemmas.Option.{none-some, same_Some}
-use Rattle.pc_heap.specs.Objects.{ObjectMap, with_value}
+use Rattle.pc_heap.specs.Objects.{ObjectMap, with_value, Object}
 use Rattle.std.specs.FinMap.{insert}
-use Rattle.pc_heap.specs.Object.{Object}
 use Rattle.pc_lists.proofs.Gets.{get_within, get_below, get_push, get_set, get_set_same, get_set_other}
 use Rattle.pc_core.specs.CoreData.{CoreData}
 use Rattle.pc_ann.specs.declared.annotation.Ann.{Ann}

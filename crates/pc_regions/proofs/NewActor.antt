@@ -4,9 +4,8 @@ use Rattle.std.specs.FinMap.{get, insert}
 use Rattle.std.proofs.Common.{inl, inr, ap, sym, subst, ◌∙◌, arith}
 use Rattle.std.proofs.lemmas.Bool.{eq-eqb, ne_eqb, cases_eq}
 use Rattle.std.proofs.lemmas.Option.{same_Some, none-some}
-use Rattle.pc_heap.specs.Objects.{ObjectMap}
+use Rattle.pc_heap.specs.Objects.{ObjectMap, Object}
 use Rattle.pc_heap.specs.declared.value.Address.{Address}
-use Rattle.pc_heap.specs.Object.{Object}
 use Rattle.pc_semantics.specs.Configurations.{own_address}
 use Rattle.pc_regions.proofs.World.{InField, Standing, Unused, Opened, Held, Child, World, Over, WorldOk}
 use Rattle.pc_regions.proofs.Changes.{stand, with_number, with_role}

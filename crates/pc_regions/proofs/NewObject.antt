@@ -2,9 +2,8 @@
 use Rattle.std.specs.Prelude.{◌≡◌, ℕ, ◌<◌, Bool, cond, None, refl}
 use Rattle.std.specs.FinMap.{get, insert}
 use Rattle.std.proofs.Common.{inl, inr, ap, sym, ◌∙◌}
-use Rattle.pc_heap.specs.Objects.{ObjectMap}
+use Rattle.pc_heap.specs.Objects.{ObjectMap, Object}
 use Rattle.pc_heap.specs.declared.value.Address.{Address}
-use Rattle.pc_heap.specs.Object.{Object}
 use Rattle.pc_semantics.specs.Configurations.{own_address}
 use Rattle.pc_regions.proofs.World.{Unused, World, WorldOk}
 use Rattle.pc_types.proofs.Heaps.{address_cases, put_stays}

@@ -13,9 +13,8 @@ use Rattle.pc_types.proofs.Types.{ArgumentsOk}
 use Rattle.pc_heap.specs.declared.value.Value.{Value}
 use Rattle.pc_heap.specs.declared.value.Value.TheVariants.{At}
 use Rattle.pc_lists.proofs.Gets.{get_below}
-use Rattle.pc_core.specs.Lookup.{field_named}
+use Rattle.pc_core.specs.CoreData.{field_named, CoreData}
 use Rattle.pc_lists.proofs.Options.{bind_some}
-use Rattle.pc_core.specs.CoreData.{CoreData}
 use Rattle.pc_ann.specs.declared.annotation.Ann.{Ann}
 use Rattle.pc_semantics.specs.declared.access.Access.{Access}
 use Rattle.pc_semantics.specs.declared.actors.Actor.{Actor}

@@ -13,9 +13,7 @@ use Rattle.pc_semantics.specs.declared.outcome.Outcome.{Outcome}
 use Rattle.pc_semantics.specs.declared.outcome.Outcome.TheVariants.{Moved, Skipped, Lacks, TooLong}
 use Rattle.pc_semantics.specs.Configurations.{Configuration}
 use Rattle.pc_semantics.specs.Around.{Around}
-use Rattle.pc_semantics.specs.Tasks.{task_move}
-use Rattle.pc_semantics.specs.Step.{around, run_task, take, take_first, run_frames, step_of, step}
-use Rattle.pc_semantics.specs.Runs.{followed, run_from}
+use Rattle.pc_semantics.specs.Step.{task_move, around, run_task, take, take_first, run_frames, step_of, step, followed, run_from}
 use Rattle.pc_types.proofs.Tasks.{TasksOk}
 use Rattle.pc_types.proofs.Frames.{FramesOk}
 use Rattle.pc_types.proofs.Typed.{WellTyped, ActorOk}

@@ -10,13 +10,12 @@ use Rattle.pc_core.specs.declared.declarations.Method.{Method}
 use Rattle.pc_core.specs.declared.nodes.Node.{Node}
 use Rattle.pc_core.specs.declared.nodes.NodeKind.TheVariants as nodes
 use Rattle.pc_core.specs.declared.nodes.Slot.{Slot}
-use Rattle.pc_core.specs.CoreData.{CoreData}
+use Rattle.pc_core.specs.CoreData.{CoreData, own_slots}
 use Rattle.pc_core.specs.Formed.{Formed}
 use Rattle.pc_lists.proofs.Gets.{append_get, map_get, range_get}
-use Rattle.pc_core.specs.Lookup.{own_slots}
 use Rattle.pc_lists.proofs.Options.{bind_some, kept}
 use Rattle.pc_core.specs.Methods.{LocalFits, SlotsFit, is_local}
-use Rattle.pc_core.specs.MethodKinds.{this_slot, param_slot}
+use Rattle.pc_core.specs.Entities.{this_slot, param_slot}
 use Rattle.pc_core.specs.Nodes.{NamesFit, NamesLocal}
 use Rattle.pc_ann.specs.declared.annotation.Note.{Note}
 use Rattle.pc_ann.specs.declared.annotation.Ann.{Ann}

@@ -6,7 +6,8 @@ use Rattle.std.proofs.lemmas.Bool.Decides.{eqb_tells}
 use Rattle.std.proofs.lemmas.Option.{same_Some}
 use Rattle.pc_heap.specs.declared.value.Value.{Value}
 use Rattle.pc_lists.proofs.Gets.{get_set_same, get_set_other}
-use Rattle.pc_caps.specs.Tables.{unalias, fits}
+use Rattle.pc_caps.specs.Tables.{unalias}
+use Rattle.pc_caps.specs.Computed.{fits}
 use Rattle.pc_caps.specs.declared.capability.Cap.{Cap}
 use Rattle.pc_core.specs.declared.nodes.Slot.{Slot}
 use Rattle.pc_core.specs.CoreData.{CoreData}
@@ -17,7 +18,7 @@ use Rattle.pc_masks.specs.MaskLaws.{with_number_bits}
 use Rattle.pc_semantics.specs.declared.frames.Frame.{Frame}
 use Rattle.pc_semantics.specs.declared.frames.Task.TheVariants as task
 use Rattle.pc_semantics.specs.Around.{Around, value_or_none, with_stack}
-use Rattle.pc_semantics.specs.Fields.{held, store}
+use Rattle.pc_semantics.specs.Calls.{held, store}
 use Rattle.pc_valid.specs.Words.{Ty}
 use Rattle.pc_rules.proofs.ByNumber.{slot_of}
 use Rattle.pc_types.proofs.Types.{OfSome}

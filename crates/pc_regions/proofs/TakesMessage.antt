@@ -17,7 +17,7 @@ use Rattle.pc_core.specs.declared.declarations.MethodKind.{MethodKind}
 use Rattle.pc_core.specs.declared.declarations.MethodKind.TheVariants as method
 use Rattle.pc_core.specs.declared.declarations.ParamInfo.{ParamInfo}
 use Rattle.pc_core.specs.CoreData.{CoreData}
-use Rattle.pc_lists.specs.Places.{Each}
+use Rattle.pc_lists.specs.Lists.{Each}
 use Rattle.pc_core.specs.Entities.{print_method}
 use Rattle.pc_core.specs.Methods.{ResultFits}
 use Rattle.pc_ann.specs.declared.annotation.Ann.{Ann}

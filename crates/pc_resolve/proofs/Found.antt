@@ -1,4 +1,5 @@
 -- What is found by an index is what the lists define.
+use Rattle.pc_members.specs.MemberLists as memberlists
 use Rattle.std.proofs.Common.{◌≡◌, ℕ, suc, List, [], ◌∷◌, ◌++◌, Bool, true, false, ◌||◌, cond, map, length, take, drop, Option, Some, None, is_some, refl, sym, ap, ◌∙◌, arith, if◌then◌else◌}
 use Rattle.std.specs.Prelude.{nat_eq}
 use Rattle.std.specs.Map.{lookup}
@@ -11,12 +12,12 @@ use Rattle.std.proofs.lemmas.Slice.Eq.{bytes_eq-Decides}
 use Rattle.pc_lists.proofs.Gets.{get_behind}
 use Rattle.pc_caps.specs.declared.capability.Cap.{Cap}
 use Rattle.pc_tree.specs.declared.written_names.TypeRef.{TypeRef}
-use Rattle.pc_members.specs.Words as words
-use Rattle.pc_members.specs.Tables.{with_name, with_names}
-use Rattle.pc_body_spec.specs.Scopes.{Constructor, KnownEntity, PlacedLocal, Visible, TypeMeaning, no_value, is_among_names, slot_named, slot_at}
-use Rattle.pc_body_spec.specs.Scopes.{constructor_named, type_from, by_kind, is_own}
+use Rattle.pc_members.specs.Members as words
+use Rattle.pc_members.specs.MemberLists.{with_name, with_names}
+use Rattle.pc_body_spec.specs.Scopes.{Constructor, KnownEntity, PlacedLocal, Visible, TypeMeaning, no_value, is_among_names, slot_named, slot_at, constructor_named, type_from, by_kind, is_own}
 use Rattle.pc_body_spec.specs.Faults.{is_entity}
-use Rattle.pc_body_spec.specs.Slots.{type_of_name, cap_or}
+use Rattle.pc_body_spec.specs.Fold.{type_of_name}
+use Rattle.pc_body_spec.specs.Slots.{cap_or}
 use Rattle.pc_resolve.specs.Indexes.{firsts}
 use Rattle.pc_resolve.specs.Pairs.{constructor_pair, visible_pair, placed_pair, known_pairs, known_at, picked}
 use Rattle.pc_resolve.proofs.Indexes.{lookup_firsts, or_else}
@@ -90,36 +91,36 @@ slot_found ps start = slot_first ps start ∙ ap (λ o. unwrap_or o 0) (sym (loo
 
 -- ---- names in a table
 
-among_with : (names : List (List ℕ)) (x name : List ℕ) → words.is_among name (with_name names x) ≡ (words.is_among name names || bytes_eq name x)
-among_with names x name = by (words.is_among x names) refl
+among_with : (names : List (List ℕ)) (x name : List ℕ) → memberlists.is_among name (with_name names x) ≡ (memberlists.is_among name names || bytes_eq name x)
+among_with names x name = by (memberlists.is_among x names) refl
   where
     or_false : (b : Bool) → (b || false) ≡ b
     or_false true = refl
     or_false false = refl
 
-    there : (b : Bool) → bytes_eq name x ≡ b → words.is_among x names ≡ true → words.is_among name names ≡ (words.is_among name names || b)
-    there true e h = let g : words.is_among name names ≡ true = ap (λ n. words.is_among n names) (same_bytes name x e) ∙ h in g ∙ sym (ap (λ b. b || true) g)
-    there false e h = sym (or_false (words.is_among name names))
+    there : (b : Bool) → bytes_eq name x ≡ b → memberlists.is_among x names ≡ true → memberlists.is_among name names ≡ (memberlists.is_among name names || b)
+    there true e h = let g : memberlists.is_among name names ≡ true = ap (λ n. memberlists.is_among n names) (same_bytes name x e) ∙ h in g ∙ sym (ap (λ b. b || true) g)
+    there false e h = sym (or_false (memberlists.is_among name names))
 
-    by : (b : Bool) → words.is_among x names ≡ b → words.is_among name (if b then names else names ++ x ∷ []) ≡ (words.is_among name names || bytes_eq name x)
+    by : (b : Bool) → memberlists.is_among x names ≡ b → memberlists.is_among name (if b then names else names ++ x ∷ []) ≡ (memberlists.is_among name names || bytes_eq name x)
     by true h = there (bytes_eq name x) refl h
-    by false h = list_any-append (bytes_eq name) names (x ∷ []) ∙ ap (λ b. words.is_among name names || b) (or_false (bytes_eq name x))
+    by false h = list_any-append (bytes_eq name) names (x ∷ []) ∙ ap (λ b. memberlists.is_among name names || b) (or_false (bytes_eq name x))
 
 or_among : (names xs : List (List ℕ)) (name : List ℕ)
-    → words.is_among name (with_names names xs) ≡ (words.is_among name names || is_among_names xs name)
-or_among names [] name = by (words.is_among name names)
+    → memberlists.is_among name (with_names names xs) ≡ (memberlists.is_among name names || is_among_names xs name)
+or_among names [] name = by (memberlists.is_among name names)
   where
     by : (b : Bool) → b ≡ (b || false)
     by true = refl
     by false = refl
-or_among names (x ∷ xs) name = or_among (with_name names x) xs name ∙ rw (among_with names x name, bytes_eq_sym x name) (by (words.is_among name names) (bytes_eq name x) (is_among_names xs name))
+or_among names (x ∷ xs) name = or_among (with_name names x) xs name ∙ rw (among_with names x name, bytes_eq_sym x name) (by (memberlists.is_among name names) (bytes_eq name x) (is_among_names xs name))
   where
     by : (a b c : Bool) → ((a || b) || c) ≡ (a || (if b then true else c))
     by true b c = refl
     by false true c = refl
     by false false c = refl
 
-is_among_table : (names : List (List ℕ)) (name : List ℕ) → is_among_names names name ≡ words.is_among name (with_names [] names)
+is_among_table : (names : List (List ℕ)) (name : List ℕ) → is_among_names names name ≡ memberlists.is_among name (with_names [] names)
 is_among_table names name = sym (or_among [] names name)
 
 among_in_parts : (xs ys : List (List ℕ)) (name : List ℕ) → is_among_names (xs ++ ys) name ≡ (is_among_names xs name || is_among_names ys name)
@@ -132,19 +133,19 @@ among_in_parts (x ∷ xs) ys name = by (bytes_eq x name) (among_in_parts xs ys n
     by false rec = rec
 
 -- The first ones, and then the others.
-is_among_parts : (k : ℕ) (names : List (List ℕ)) (name : List ℕ) → is_among_names names name ≡ (is_among_names (take k names) name || words.is_among name (with_names [] (drop k names)))
+is_among_parts : (k : ℕ) (names : List (List ℕ)) (name : List ℕ) → is_among_names names name ≡ (is_among_names (take k names) name || memberlists.is_among name (with_names [] (drop k names)))
 is_among_parts k names name = ap (λ l. is_among_names l name) (sym (take-append-drop k names)) ∙ (among_in_parts (take k names) (drop k names) name ∙ ap (λ b. is_among_names (take k names) name || b) (is_among_table (drop k names) name))
 
 -- What is found among the first ones, and what is looked up if nothing is.
 pub found_near : (k : ℕ) (names near : List (List ℕ)) (name : List ℕ) (found : Bool) → found ≡ is_among_names near name → near ≡ take k names → found ≡ true → found ≡ is_among_names names name
 found_near k names near name found e n there =
     let first : is_among_names (take k names) name ≡ true = ap (λ l. is_among_names l name) (sym n) ∙ (sym e ∙ there) in
-    there ∙ sym (is_among_parts k names name ∙ ap (λ b. b || words.is_among name (with_names [] (drop k names))) first)
+    there ∙ sym (is_among_parts k names name ∙ ap (λ b. b || memberlists.is_among name (with_names [] (drop k names))) first)
 
-pub found_far : (k : ℕ) (names near table : List (List ℕ)) (name : List ℕ) (found later : Bool) → found ≡ is_among_names near name → near ≡ take k names → found ≡ false → later ≡ words.is_among name table → table ≡ with_names [] (drop k names) → later ≡ is_among_names names name
+pub found_far : (k : ℕ) (names near table : List (List ℕ)) (name : List ℕ) (found later : Bool) → found ≡ is_among_names near name → near ≡ take k names → found ≡ false → later ≡ memberlists.is_among name table → table ≡ with_names [] (drop k names) → later ≡ is_among_names names name
 found_far k names near table name found later e n missing is table_is =
     let first : is_among_names (take k names) name ≡ false = ap (λ l. is_among_names l name) (sym n) ∙ (sym e ∙ missing) in
-    (is ∙ ap (λ l. words.is_among name l) table_is) ∙ sym (is_among_parts k names name ∙ ap (λ b. b || words.is_among name (with_names [] (drop k names))) first)
+    (is ∙ ap (λ l. memberlists.is_among name l) table_is) ∙ sym (is_among_parts k names name ∙ ap (λ b. b || memberlists.is_among name (with_names [] (drop k names))) first)
 
 -- ---- entities
 

@@ -1,7 +1,6 @@
 -- The meanings of `pc_body_spec` that the meanings of the code represent.
-use Rattle.pc_resolve.specs.declared.meaning.Meaning.{Meaning}
+use Rattle.pc_resolve.specs.{declared.meaning.Meaning.Meaning, declared.meaning.TypeMeaning.TypeMeaning}
 use Rattle.pc_resolve.specs.declared.meaning.Meaning.TheVariants as m
-use Rattle.pc_resolve.specs.declared.meaning.TypeMeaning.{TypeMeaning}
 use Rattle.pc_resolve.specs.declared.meaning.TypeMeaning.TheVariants as t
 use Rattle.pc_body_spec.specs.Scopes as spec
 

@@ -2,7 +2,7 @@
 ghost use Rattle.std.specs.Prelude.{◌≡◌, [], IfOk, OnOk, map};
 ghost use Rattle.std.specs.Str.{bytes_eq};
 ghost use Rattle.pc_body_spec.specs.Scopes as spec;
-ghost use Rattle.pc_body_spec.specs.Expressions.{create_name};
+ghost use Rattle.pc_body_spec.specs.Bodies.{create_name};
 ghost use Rattle.pc_resolve.specs.Indexes.{firsts, with_firsts};
 ghost use Rattle.pc_resolve.specs.Pairs.{constructor_pair};
 
@@ -50,7 +50,7 @@ impl Model for Constructors {
     ghost use Rattle.std.specs.Prelude.{◌≡◌, List as Sequence, map, drop};
     ghost use Rattle.std.specs.Str.{bytes_eq};
     ghost use Rattle.pc_body_spec.specs.Scopes.{Constructor as Seen, constructor_named};
-    ghost use Rattle.pc_body_spec.specs.Expressions.{create_name};
+    ghost use Rattle.pc_body_spec.specs.Bodies.{create_name};
     ghost use Rattle.pc_resolve.specs.Indexes.{firsts};
     ghost use Rattle.pc_resolve.specs.Near.{near_count};
     ghost use Rattle.pc_resolve.specs.Pairs.{constructor_pair};

@@ -1,7 +1,8 @@
 //! What stays the same throughout the body of a method, and the meaning of names in it.
+ghost use Rattle.pc_body_spec.specs.Fold as fold;
 ghost use Rattle.std.specs.Prelude.{◌≡◌, ◌<◌, ◌^◌, length, Option, IfOk, OnOk, OnErr, if◌then◌else◌};
 ghost use Rattle.pc_body_spec.specs.Scopes as spec;
-ghost use Rattle.pc_body_spec.specs.Expressions.{apply_name};
+ghost use Rattle.pc_body_spec.specs.Bodies.{apply_name};
 ghost use Rattle.pc_body_spec.specs.Faults.{is_entity};
 ghost use Rattle.pc_body_spec.specs.Slots as slots;
 ghost use Rattle.pc_resolve.specs.Meanings.{meaning_view, type_view};
@@ -57,7 +58,7 @@ impl Members {
 impl Model for Context {
     ghost use Rattle.std.specs.Prelude.{◌≡◌, ◌<◌, ◌^◌, length, if◌then◌else◌};
     ghost use Rattle.pc_body_spec.specs.Scopes.{Context as Seen, text_from};
-    ghost use Rattle.pc_body_spec.specs.Expressions.{apply_name};
+    ghost use Rattle.pc_body_spec.specs.Bodies.{apply_name};
 
     ghost Value = { Seen };
 
@@ -185,7 +186,7 @@ impl Context {
     /// there is no such entity.
     #[tactic(auto, using(crate::proofs::Found::written_found))]
     pub fn type_of(&self, ty: &TypeRef) -> Option<(u32, Cap)>
-        ensures { result ≡ slots.type_of_name 0 self.now.entities ty.now }
+        ensures { result ≡ fold.type_of_name 0 self.now.entities ty.now }
     {
         match self.entities.find(ty.name.text.as_slice()) {
             Some((number, known)) => Some((number, cap_or(ty.cap, known.cap))),

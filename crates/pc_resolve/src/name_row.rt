@@ -1,7 +1,7 @@
 //! A list of names, and whether a name is in it.
 ghost use Rattle.std.specs.Prelude.{◌≡◌, [], IfOk, OnOk};
 ghost use Rattle.pc_body_spec.specs.Scopes as spec;
-ghost use Rattle.pc_members.specs.Tables.{with_names};
+ghost use Rattle.pc_members.specs.MemberLists.{with_names};
 
 use crate::near::{far, near};
 use pc_caps::{List, ShortBytes};
@@ -20,7 +20,7 @@ pub(crate) struct NameRow {
 
 impl Model for NameRow {
     ghost use Rattle.std.specs.Prelude.{◌≡◌, [], List as Sequence, ℕ, drop};
-    ghost use Rattle.pc_members.specs.Tables.{with_names};
+    ghost use Rattle.pc_members.specs.MemberLists.{with_names};
     ghost use Rattle.pc_resolve.specs.Near.{near_count};
 
     ghost Value = { Sequence (Sequence ℕ) };

@@ -12,11 +12,10 @@ use Rattle.pc_core.specs.declared.nodes.Slot.{Slot}
 use Rattle.pc_core.specs.declared.nodes.Node.{Node}
 use Rattle.pc_core.specs.declared.nodes.NodeKind.{NodeKind}
 use Rattle.pc_core.specs.declared.nodes.NodeKind.TheVariants as node
-use Rattle.pc_core.specs.CoreData.{CoreData}
-use Rattle.pc_lists.specs.Places.{Each}
-use Rattle.pc_core.specs.Lookup.{node_end}
+use Rattle.pc_core.specs.CoreData.{CoreData, node_end}
+use Rattle.pc_lists.specs.Lists.{Each}
 use Rattle.pc_core.specs.Methods.{LocalFits, BodyFits, UsesSlot}
-use Rattle.pc_core.specs.MethodKinds.{this_slot}
+use Rattle.pc_core.specs.Entities.{this_slot}
 use Rattle.pc_core.specs.Nodes.{NamesSlot, NamesFit}
 use Rattle.pc_core.specs.Formed.{Formed}
 use Rattle.pc_lists.proofs.Ranges.{run_within}

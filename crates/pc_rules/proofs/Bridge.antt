@@ -5,14 +5,15 @@ use Rattle.std.proofs.lemmas.Option.{same_Some}
 use Rattle.pc_caps.specs.declared.capability.Cap.{Cap}
 use Rattle.pc_caps.specs.declared.capability.Form.{Form}
 use Rattle.pc_caps.specs.declared.capability.Form.TheVariants as form
-use Rattle.pc_caps.specs.Tables.{view, fits}
+use Rattle.pc_caps.specs.Tables.{view}
+use Rattle.pc_caps.specs.Computed.{fits}
 use Rattle.pc_core.specs.declared.declarations.Method.{Method}
 use Rattle.pc_core.specs.declared.declarations.ParamInfo.{ParamInfo}
 use Rattle.pc_core.specs.declared.nodes.Node.{Node}
 use Rattle.pc_core.specs.declared.nodes.NodeKind.{NodeKind}
 use Rattle.pc_core.specs.declared.nodes.NodeKind.TheVariants as node
 use Rattle.pc_core.specs.CoreData.{CoreData}
-use Rattle.pc_lists.specs.Options.{◌>>=◌}
+use Rattle.pc_lists.specs.Lists.{◌>>=◌}
 use Rattle.pc_lists.proofs.Options.{bind_some}
 use Rattle.pc_core.specs.Nodes.{HasArity}
 use Rattle.pc_masks.specs.declared.mask.Mask.{Mask}

@@ -1,7 +1,8 @@
 -- As in `specs/`: the conclusion of each rule for a node of an annotation, computed by the numbers of its children.
 -- Proofs about whole annotations take a rule apart in this form; `Bridge` shows that both are the same.
 use Rattle.std.specs.Prelude.{◌≡◌, ℕ, ◌+◌, ◌-◌, Bool, true, false, ◌&&◌, cond, nat_eq, List, [], ◌∷◌, length, take, Option, Some, None, slice_get, if◌then◌else◌}
-use Rattle.pc_caps.specs.Tables.{view, fits, plain, unalias}
+use Rattle.pc_caps.specs.Tables.{view, plain, unalias}
+use Rattle.pc_caps.specs.Computed.{fits}
 use Rattle.pc_caps.specs.declared.capability.Cap.{Cap}
 use Rattle.pc_caps.specs.declared.capability.Form.{Form}
 use Rattle.pc_caps.specs.declared.capability.Form.TheVariants as form
@@ -13,9 +14,8 @@ use Rattle.pc_core.specs.declared.nodes.Slot.{Slot}
 use Rattle.pc_core.specs.declared.nodes.Node.{Node}
 use Rattle.pc_core.specs.declared.nodes.NodeKind.{NodeKind}
 use Rattle.pc_core.specs.declared.nodes.NodeKind.TheVariants as node
-use Rattle.pc_core.specs.CoreData.{CoreData}
-use Rattle.pc_core.specs.Lookup.{method_named}
-use Rattle.pc_lists.specs.Options.{◌>>=◌}
+use Rattle.pc_core.specs.CoreData.{CoreData, method_named}
+use Rattle.pc_lists.specs.Lists.{◌>>=◌}
 use Rattle.pc_masks.specs.declared.mask.Mask.{Mask}
 use Rattle.pc_ann.specs.declared.annotation.Note.{Note}
 use Rattle.pc_ann.specs.declared.annotation.Ann.{Ann}

@@ -6,7 +6,7 @@ use Rattle.std.proofs.lemmas.Bool.{and_parts}
 use Rattle.pc_core.specs.declared.nodes.Node.{Node}
 use Rattle.pc_core.specs.declared.nodes.NodeKind.{NodeKind}
 use Rattle.pc_core.specs.CoreData.{CoreData}
-use Rattle.pc_lists.specs.Options.{◌>>=◌}
+use Rattle.pc_lists.specs.Lists.{◌>>=◌}
 use Rattle.pc_lists.proofs.Gets.{get_below}
 use Rattle.pc_ann.specs.declared.annotation.Note.{Note}
 use Rattle.pc_ann.specs.declared.annotation.Ann.{Ann}

@@ -1,13 +1,14 @@
 -- A step between the computed rules and the records of `pc_valid`: the same records, in terms of what the rules
 -- compute.
 use Rattle.std.specs.Prelude.{◌≡◌, ◌⊎◌, ℕ, ◌+◌, true, false, List, [], ◌∷◌, ◌++◌, ◌-◌, length, codes, Option, Some, None, slice_get}
-use Rattle.pc_caps.specs.Tables.{view, fits, sendable, sendable_form, plain, unalias, taken, may_write}
+use Rattle.pc_caps.specs.Tables.{view, sendable, sendable_form, plain, unalias, taken}
+use Rattle.pc_caps.specs.Computed.{fits, may_write}
 use Rattle.pc_caps.specs.declared.capability.Cap.{Cap}
 use Rattle.pc_caps.specs.declared.capability.Cap.TheVariants as cap
 use Rattle.pc_caps.specs.declared.capability.Form.{Form}
 use Rattle.pc_caps.specs.declared.capability.Form.TheVariants as form
 use Rattle.pc_tree.specs.declared.kinds.Op.{Op}
-use Rattle.pc_tree.specs.BuiltIn.{none_entity, u64_entity, bool_entity, string_entity}
+use Rattle.pc_tree.specs.Kinds.{none_entity, u64_entity, bool_entity, string_entity}
 use Rattle.pc_core.specs.declared.declarations.FieldInfo.{FieldInfo}
 use Rattle.pc_core.specs.declared.declarations.Method.{Method}
 use Rattle.pc_core.specs.declared.declarations.MethodKind.TheVariants as method
@@ -17,8 +18,7 @@ use Rattle.pc_core.specs.declared.nodes.SlotKind.TheVariants as slot_kind
 use Rattle.pc_core.specs.declared.nodes.Node.{Node}
 use Rattle.pc_core.specs.declared.nodes.NodeKind.{NodeKind}
 use Rattle.pc_core.specs.declared.nodes.NodeKind.TheVariants as node
-use Rattle.pc_core.specs.CoreData.{CoreData}
-use Rattle.pc_core.specs.Lookup.{method_named}
+use Rattle.pc_core.specs.CoreData.{CoreData, method_named}
 use Rattle.pc_ann.specs.declared.annotation.Note.{Note}
 use Rattle.pc_ann.specs.declared.annotation.Rule.{Rule}
 use Rattle.pc_ann.specs.declared.annotation.Rule.TheVariants as rule

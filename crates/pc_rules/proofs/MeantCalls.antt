@@ -3,7 +3,8 @@ use Rattle.std.specs.Prelude.{◌≡◌, ◌↔◌, ◌⊎◌, ℕ, suc, ◌+◌
 use Rattle.std.proofs.Common.{inl, inr, ap, sym, subst, ◌∙◌, arith}
 use Rattle.std.proofs.lemmas.Option.{same_Some, none-some}
 use Rattle.std.proofs.lemmas.Bool.{and_parts, eqb-true, eq-eqb, and_from, or_cases, or_left, or_right}
-use Rattle.pc_caps.specs.Tables.{fits, sendable, sendable_form}
+use Rattle.pc_caps.specs.Computed.{fits}
+use Rattle.pc_caps.specs.Tables.{sendable, sendable_form}
 use Rattle.pc_caps.specs.declared.capability.Cap.{Cap}
 use Rattle.pc_caps.specs.declared.capability.Cap.TheVariants as cap
 use Rattle.pc_caps.specs.declared.capability.Form.{Form}
@@ -16,10 +17,9 @@ use Rattle.pc_core.specs.declared.declarations.ParamInfo.{ParamInfo}
 use Rattle.pc_core.specs.declared.nodes.Node.{Node}
 use Rattle.pc_core.specs.declared.nodes.NodeKind.{NodeKind}
 use Rattle.pc_core.specs.declared.nodes.NodeKind.TheVariants as node
-use Rattle.pc_core.specs.CoreData.{CoreData}
-use Rattle.pc_core.specs.Lookup.{method_named}
+use Rattle.pc_core.specs.CoreData.{CoreData, method_named}
 use Rattle.pc_lists.proofs.Options.{bind_some, kept, bind_is}
-use Rattle.pc_lists.specs.Options.{◌>>=◌}
+use Rattle.pc_lists.specs.Lists.{◌>>=◌}
 use Rattle.pc_ann.specs.declared.annotation.Note.{Note}
 use Rattle.pc_ann.specs.declared.annotation.Rule.{Rule}
 use Rattle.pc_ann.specs.declared.annotation.Rule.TheVariants as rule
@@ -28,8 +28,7 @@ use Rattle.pc_rules.specs.Parts.{says_of, starts, lower, reads_as, goes_to, thro
 use Rattle.pc_valid.specs.Words.{Ty, Slots, before, masks_after}
 use Rattle.pc_rules.specs.Calls.{argument_goes, arguments_go, arguments, called, is_function, is_behaviour, calls, call_says, new_says, spawn_says, is_isolated, is_lent, argument_sendable, arguments_sendable, lends, recovers, recovered_result, callrecover_says, sends, send_says, same_text, has_text, has_string, builtin_says}
 use Rattle.pc_rules.specs.Operators.{is_arithmetic, is_comparison, is_equality, is_add, is_xor, both_read_as, comparable, value_says, arith_says, compare_says, equal_says, join_says, xor_says, meet_masks}
-use Rattle.pc_rules.specs.Control.{without_items, seq_says, joined, is_condition, branch_masks, if_says, loop_masks, while_says, recovered, recover_says}
-use Rattle.pc_rules.specs.Control.{start_set, starts_method, gives_result, result_ok, body_says}
+use Rattle.pc_rules.specs.Control.{without_items, seq_says, joined, is_condition, branch_masks, if_says, loop_masks, while_says, recovered, recover_says, start_set, starts_method, gives_result, result_ok, body_says}
 use Rattle.pc_rules.specs.Rules.{said_by, rule_says}
 use Rattle.pc_rules.proofs.Meaning.{OneAfterOther, Reads, BothRead, Go, Sendable, Called, New, Spawn, Call, CallRecover, Send, Builtin, Arith, Compare, Equal, Join, Xor, Seq, If, While, Recover, Body, Means}
 use Rattle.pc_rules.proofs.Threads.{starts_so}

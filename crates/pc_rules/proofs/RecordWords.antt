@@ -5,9 +5,9 @@ use Rattle.std.proofs.lemmas.Option.{same_Some, none-some}
 use Rattle.std.proofs.lemmas.Bool.{and_parts, and_from, eqb-true}
 use Rattle.std.specs.Int.{bit_at}
 use Rattle.std.proofs.lemmas.Nat.Bits.{bit_at_and, same_from_bits}
-use Rattle.pc_caps.specs.Order.{is_below}
+use Rattle.pc_caps.specs.Computed.{is_below, fits}
 use Rattle.pc_caps.specs.Closure.{below_iff}
-use Rattle.pc_caps.specs.Tables.{unalias, lift, fits, taken, at}
+use Rattle.pc_caps.specs.Tables.{unalias, lift, taken, at}
 use Rattle.pc_caps.specs.declared.capability.Cap.{Cap}
 use Rattle.pc_caps.specs.declared.capability.Form.{Form}
 use Rattle.pc_caps.specs.declared.capability.Form.TheVariants as form
@@ -23,9 +23,9 @@ use Rattle.pc_core.specs.declared.nodes.NodeKind.{NodeKind}
 use Rattle.pc_core.specs.declared.nodes.NodeKind.TheVariants as node
 use Rattle.pc_tree.specs.declared.kinds.Op.{Op}
 use Rattle.pc_tree.specs.declared.kinds.Op.TheVariants as op
-use Rattle.pc_core.specs.CoreData.{CoreData}
+use Rattle.pc_core.specs.CoreData.{CoreData, own_methods, field_name, method_name, field_named, method_named, IsMethod}
 use Rattle.pc_core.specs.Formed.{Formed}
-use Rattle.pc_core.specs.Lookup.{own_methods, field_name, method_name, field_named, method_named, IsField, IsMethod}
+use Rattle.pc_core.specs.Further.{IsField}
 use Rattle.pc_core.specs.Members.{method_among, field_found, field_missed, method_found, method_missed}
 use Rattle.pc_lists.proofs.Gets.{get_below, get_front, get_append, get_map, range_get}
 use Rattle.pc_lists.proofs.Options.{bind_some, bind_is, kept}
@@ -45,9 +45,7 @@ use Rattle.pc_rules.specs.Control.{without_definition, without_item, without_ite
 use Rattle.pc_rules.proofs.Lawful.{items_bits}
 use Rattle.pc_rules.proofs.Meaning as mirror
 use Rattle.pc_valid.specs.Rules.{arithmetic, comparisons, equalities, IsOneOf}
-use Rattle.pc_valid.specs.Words.{Masks, masks_after, OneAfterOther, Sendable, Defines, Ty, Place, FormFits, IsLower, GoesTo, ReadsValue, Joined, to_second}
-use Rattle.pc_valid.specs.Words.{to_first, to_none, no_first, no_second, Recovers, as_lifted, as_written, IsConstructor, AllSet, StartsSet, Slots, SlotOf}
-use Rattle.pc_valid.specs.Words.{DefinedAs, FieldOf, Called, Go, Incomplete}
+use Rattle.pc_valid.specs.Words.{Masks, masks_after, OneAfterOther, Sendable, Defines, Ty, Place, FormFits, IsLower, GoesTo, ReadsValue, Joined, to_second, to_first, to_none, no_first, no_second, Recovers, as_lifted, as_written, IsConstructor, AllSet, StartsSet, Slots, SlotOf, DefinedAs, FieldOf, Called, Go, Incomplete}
 
 -- ---- types
 

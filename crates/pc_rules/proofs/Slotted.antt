@@ -6,10 +6,9 @@ use Rattle.std.proofs.lemmas.Option.{same_Some, none-some}
 use Rattle.pc_caps.specs.declared.capability.Cap.{Cap}
 use Rattle.pc_core.specs.declared.declarations.Method.{Method}
 use Rattle.pc_core.specs.declared.nodes.Slot.{Slot}
-use Rattle.pc_core.specs.CoreData.{CoreData}
-use Rattle.pc_core.specs.Lookup.{own_slots}
+use Rattle.pc_core.specs.CoreData.{CoreData, own_slots}
 use Rattle.pc_core.specs.Methods.{LocalFits, SlotsFit}
-use Rattle.pc_core.specs.MethodKinds.{this_slot, param_slot}
+use Rattle.pc_core.specs.Entities.{this_slot, param_slot}
 use Rattle.pc_lists.proofs.Gets.{map_get, get_range, range_get, append_get}
 use Rattle.pc_core.specs.Formed.{Formed}
 

@@ -11,7 +11,7 @@ use Rattle.pc_core.specs.declared.nodes.Node.{Node}
 use Rattle.pc_core.specs.declared.nodes.NodeKind.{NodeKind}
 use Rattle.pc_core.specs.declared.nodes.NodeKind.TheVariants as node
 use Rattle.pc_core.specs.CoreData.{CoreData}
-use Rattle.pc_lists.specs.Options.{◌>>=◌}
+use Rattle.pc_lists.specs.Lists.{◌>>=◌}
 use Rattle.pc_lists.proofs.Options.{bind_some, kept, kept_otherwise, bind_is}
 use Rattle.pc_core.specs.Nodes.{HasArity}
 use Rattle.pc_masks.specs.declared.mask.Mask.{Mask}

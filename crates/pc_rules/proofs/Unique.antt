@@ -7,10 +7,8 @@ use Rattle.pc_core.specs.declared.declarations.Method.{Method}
 use Rattle.pc_core.specs.declared.nodes.Node.{Node}
 use Rattle.pc_core.specs.declared.nodes.NodeKind.{NodeKind}
 use Rattle.pc_core.specs.declared.nodes.NodeKind.TheVariants as node
-use Rattle.pc_core.specs.CoreData.{CoreData}
-use Rattle.pc_lists.specs.Ranges.{Follow}
-use Rattle.pc_lists.specs.Places.{Each}
-use Rattle.pc_core.specs.Lookup.{node_end}
+use Rattle.pc_core.specs.CoreData.{CoreData, node_end}
+use Rattle.pc_lists.specs.Lists.{Follow, Each}
 use Rattle.pc_core.specs.Methods.{BodyFits}
 use Rattle.pc_core.specs.Nodes.{HasArity}
 use Rattle.pc_core.specs.Formed.{Formed}

@@ -1,23 +1,14 @@
 -- Valid annotations as computed, and what shows that there is none: the code is proved to compute this, and the laws of
 -- `specs/Statements.antt` state that it is what `pc_valid` defines by records.
 use Rattle.std.specs.Prelude.{◌≡◌, ℕ, zero, suc, ◌+◌, ◌<◌, ◌≤◌, Bool, true, false, length, Some, None, slice_get}
-use Rattle.pc_ann.specs.declared.annotation.Rule.{Rule}
+use Rattle.pc_ann.specs.{declared.annotation.Rule.Rule, declared.annotation.Note.Note, declared.annotation.Ann.Ann}
 use Rattle.pc_sub.specs.Declarations.{DeclOk}
-use Rattle.pc_rules.specs.Parts.{constructs, full}
-use Rattle.pc_valid.specs.Words.{Masks, Slots, before, masks_after}
-use Rattle.pc_valid.specs.Valid.{KeepsWritten}
-use Rattle.pc_valid.specs.NoRule.{DifferAt}
-use Rattle.pc_rules.specs.Control.{start_set}
-use Rattle.pc_rules.specs.Rules.{says, IsSaid, NoteIsSaid}
-use Rattle.pc_core.specs.declared.declarations.Method.{Method}
-use Rattle.pc_core.specs.declared.nodes.Node.{Node}
-use Rattle.pc_core.specs.declared.nodes.NodeKind.{NodeKind}
-use Rattle.pc_core.specs.declared.nodes.NodeKind.TheVariants as node
-use Rattle.pc_core.specs.CoreData.{CoreData}
-use Rattle.pc_lists.specs.Places.{Each}
-use Rattle.pc_ann.specs.declared.annotation.Note.{Note}
-use Rattle.pc_ann.specs.declared.annotation.Ann.{Ann}
+use Rattle.pc_rules.specs.{Parts.constructs, Parts.full, Control.start_set, Rules.says, Rules.IsSaid, Rules.NoteIsSaid}
+use Rattle.pc_valid.specs.{Words.Masks, Words.Slots, Words.before, Words.masks_after, Valid.KeepsWritten, NoRule.DifferAt}
+use Rattle.pc_core.specs.{declared.declarations.Method.Method, declared.nodes.Node.Node, declared.nodes.NodeKind.NodeKind, CoreData.CoreData}
+use Rattle.pc_lists.specs.Lists.{Each}
 use Rattle.pc_masks.specs.Masks.{first}
+use Rattle.pc_core.specs.declared.nodes.NodeKind.TheVariants as node
 
 -- If this method is a constructor, the mask after its body is full.
 abbrev pub FillsFields : CoreData → Ann → Method → Type 0

@@ -1,24 +1,13 @@
 -- Laws of the rules.
 use Rattle.std.specs.Prelude.{◌≡◌, ◌≢◌, ◌⊎◌, ◌↔◌, ℕ, ◌<◌, List, Some}
 use Rattle.pc_caps.specs.Limits.{slot_limit}
-use Rattle.pc_core.specs.declared.nodes.Node.{Node}
-use Rattle.pc_core.specs.declared.nodes.NodeKind.{NodeKind}
-use Rattle.pc_core.specs.declared.nodes.NodeKind.TheVariants as node
-use Rattle.pc_core.specs.CoreData.{CoreData}
-use Rattle.pc_ann.specs.declared.annotation.Note.{Note}
-use Rattle.pc_ann.specs.declared.annotation.Ann.{Ann}
-use Rattle.pc_ann.specs.declared.annotation.Rule.{Rule}
-use Rattle.pc_ann.specs.declared.annotation.Rule.TheVariants as rule
+use Rattle.pc_core.specs.{declared.nodes.Node.Node, declared.nodes.NodeKind.NodeKind, CoreData.CoreData, Formed.Formed}
+use Rattle.pc_ann.specs.{declared.annotation.Note.Note, declared.annotation.Ann.Ann, declared.annotation.Rule.Rule}
 use Rattle.pc_masks.specs.Masks.{IsInMask}
-use Rattle.pc_rules.specs.declared.said.Said.{Said}
-use Rattle.pc_rules.specs.Parts.{through}
-use Rattle.pc_valid.specs.Words.{Masks, Slots, before, Defines}
-use Rattle.pc_valid.specs.Rules.{Means}
-use Rattle.pc_valid.specs.Valid.{MeetsRule, Valid}
-use Rattle.pc_valid.specs.NoRule.{NoRule, Unset}
-use Rattle.pc_rules.specs.Rules.{says, said_by, IsSaid, NoteIsSaid, rule_says}
-use Rattle.pc_rules.specs.Checks.{Checks, SaysNothing, StaysUnset}
-use Rattle.pc_core.specs.Formed.{Formed}
+use Rattle.pc_rules.specs.{declared.said.Said.Said, Parts.through, Rules.says, Rules.said_by, Rules.IsSaid, Rules.NoteIsSaid, Rules.rule_says, Checks.Checks, Checks.SaysNothing, Checks.StaysUnset}
+use Rattle.pc_valid.specs.{Words.Masks, Words.Slots, Words.before, Words.Defines, Rules.Means, Valid.MeetsRule, Valid.Valid, NoRule.NoRule, NoRule.Unset}
+use Rattle.pc_core.specs.declared.nodes.NodeKind.TheVariants as node
+use Rattle.pc_ann.specs.declared.annotation.Rule.TheVariants as rule
 
 -- Two notes of one node that satisfy the same rule from the same masks have the same type and the same masks after it.
 abbrev pub RulesDetermine : Type 0

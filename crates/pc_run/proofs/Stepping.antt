@@ -10,15 +10,13 @@ use Rattle.pc_core.specs.CoreData.{CoreData}
 use Rattle.pc_heap.specs.Heaps.{object_limit}
 use Rattle.pc_machine.specs.Machines.{message_limit}
 use Rattle.pc_sched.specs.declared.turns.Turn.{Turn}
-use Rattle.pc_sched.specs.Limits.{turn_limit}
-use Rattle.pc_sched.specs.Schedules.{total}
+use Rattle.pc_sched.specs.Schedules.{turn_limit, total}
 use Rattle.pc_semantics.specs.declared.outcome.Lack.{Lack}
 use Rattle.pc_semantics.specs.declared.outcome.Outcome.{Outcome}
 use Rattle.pc_semantics.specs.declared.outcome.Outcome.TheVariants as outcome
 use Rattle.pc_semantics.specs.Configurations.{Configuration, start}
-use Rattle.pc_semantics.specs.Runs.{after, followed, outcomes, outcomes_from, run_from}
+use Rattle.pc_semantics.specs.Step.{after, followed, outcomes, outcomes_from, run_from, step}
 use Rattle.pc_semantics.specs.Safety.{LacksNothing}
-use Rattle.pc_semantics.specs.Step.{step}
 use Rattle.pc_semantics.specs.Text.{ended_at, end_of, is_moved, is_skipped, waiting}
 use Rattle.pc_run.specs.declared.counts.Counts.{Counts}
 use Rattle.pc_run.specs.declared.counts.Progress.{Progress}

@@ -6,9 +6,9 @@ use Rattle.std.specs.FinMap.{len}
 use Rattle.std.specs.Io.KnownBytes.{Appends}
 use Rattle.std.proofs.Math.Seq.{take-length}
 use Rattle.pc_core.specs.CoreData.{CoreData}
-use Rattle.pc_io.specs.Sink.{GrowsByPrefix}
+use Rattle.pc_io.specs.Sink.{GrowsByPrefix, Change, change}
 use Rattle.pc_semantics.specs.Configurations.{Configuration}
-use Rattle.pc_semantics.specs.Runs.{after, outcomes}
+use Rattle.pc_semantics.specs.Step.{after, outcomes}
 use Rattle.pc_semantics.specs.Text.{is_moved, is_skipped, lines, run_text, text_at_end, waiting}
 use Rattle.pc_run.specs.declared.counts.Counts.{Counts}
 use Rattle.pc_run.specs.declared.counts.Progress.{Progress}
@@ -20,7 +20,6 @@ use Rattle.std.proofs.KnownBytes.{Appends-trans}
 use Rattle.pc_run.specs.Ends.{IsAnswer, Leaves, WritesText}
 use Rattle.pc_run.specs.Reports.{report_of, summary_of}
 use Rattle.pc_run.specs.Underway.{Underway, ReachedSoFar}
-use Rattle.pc_io.specs.Change.{Change, change}
 use Rattle.pc_run.specs.Writing.{WriteStops}
 use Rattle.pc_run.proofs.Stepping.{behind_all}
 use Rattle.pc_run.proofs.Written.{stops_more, stops_on}

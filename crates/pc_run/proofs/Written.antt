@@ -6,13 +6,12 @@ use Rattle.std.proofs.lemmas.List.{take-append-drop, drop_more}
 use Rattle.std.proofs.lemmas.List.Concat.{flat_map-append}
 use Rattle.std.proofs.KnownBytes.{Appends-trans}
 use Rattle.std.specs.Io.KnownBytes.{Appends}
-use Rattle.pc_io.specs.Sink.{GrowsByPrefix}
+use Rattle.pc_io.specs.Sink.{GrowsByPrefix, Change, change}
 use Rattle.pc_io.proofs.Prefixes.{grows_more, grows_on, rose_before}
-use Rattle.pc_lists.specs.Texts.{line_end}
+use Rattle.pc_lists.specs.Lists.{line_end}
 use Rattle.pc_semantics.specs.Text.{lines}
 use Rattle.pc_run.specs.declared.report.RunFault.{RunFault}
 use Rattle.pc_run.specs.declared.report.RunFault.TheVariants.{Sink, TooLong, Memory}
-use Rattle.pc_io.specs.Change.{Change, change}
 use Rattle.pc_run.specs.Writing.{WriteStops, Wrote}
 
 -- ---- prefixes

@@ -3,15 +3,9 @@ use Rattle.std.specs.Prelude.{◌≡◌, ℕ, List, take, Option, Some, None, Re
 use Rattle.std.specs.Io.KnownBytes.{Appends}
 use Rattle.pc_core.specs.CoreData.{CoreData}
 use Rattle.pc_io.specs.Sink.{HasRisen, GrowsByPrefix}
+use Rattle.pc_semantics.specs.{Configurations.Configuration, Step.after, Step.outcomes, Safety.LacksNothing, Text.end_of, Text.run_text}
+use Rattle.pc_run.specs.{declared.report.Report.Report, declared.report.RunFault.RunFault, declared.report.RunFault.TheVariants.Sink, declared.report.RunFault.TheVariants.TooLong, declared.report.RunFault.TheVariants.Memory, Reports.report_of}
 use Rattle.pc_semantics.specs.declared.outcome.Outcome.TheVariants as outcome
-use Rattle.pc_semantics.specs.Configurations.{Configuration}
-use Rattle.pc_semantics.specs.Runs.{after, outcomes}
-use Rattle.pc_semantics.specs.Safety.{LacksNothing}
-use Rattle.pc_semantics.specs.Text.{end_of, run_text}
-use Rattle.pc_run.specs.declared.report.Report.{Report}
-use Rattle.pc_run.specs.declared.report.RunFault.{RunFault}
-use Rattle.pc_run.specs.declared.report.RunFault.TheVariants.{Sink, TooLong, Memory}
-use Rattle.pc_run.specs.Reports.{report_of}
 
 -- Over every list of actors, no step lacks anything.
 abbrev pub NeverLacks : CoreData → Type 0

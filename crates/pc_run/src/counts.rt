@@ -1,6 +1,6 @@
 //! How far a run came.
 ghost use Rattle.std.specs.Prelude.{◌≡◌, ◌≢◌, ◌+◌, ◌<◌};
-ghost use Rattle.pc_sched.specs.Limits.{turn_limit};
+ghost use Rattle.pc_sched.specs.Schedules.{turn_limit};
 ghost use Rattle.pc_semantics.specs.declared.outcome.Lack.{Lack};
 ghost use Rattle.pc_semantics.specs.declared.outcome.Outcome.TheVariants.{Lacks};
 ghost use Rattle.pc_run.specs.Counting.{counted};

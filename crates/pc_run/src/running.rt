@@ -1,8 +1,7 @@
 //! A run: all turns are taken, and then its text is written.
 ghost use Rattle.std.specs.Prelude.{◌≡◌, ◌≤◌, [], length, ℕ, List as Sequence};
 ghost use Rattle.std.specs.FinMap.{len};
-ghost use Rattle.pc_sched.specs.Limits.{turn_limit};
-ghost use Rattle.pc_sched.specs.Schedules.{total};
+ghost use Rattle.pc_sched.specs.Schedules.{turn_limit, total};
 ghost use Rattle.pc_semantics.specs.Configurations.{start};
 ghost use Rattle.pc_semantics.specs.Text.{waiting};
 ghost use Rattle.pc_run.specs.Ends.{NeverLacks, IsAnswer, Leaves, WritesText};

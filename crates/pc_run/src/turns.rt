@@ -1,7 +1,6 @@
 //! The turns of a schedule are taken.
 ghost use Rattle.std.specs.Prelude.{◌≡◌, ◌+◌, ◌<◌, ◌≤◌, [], length, drop, IfOk, OnErr};
-ghost use Rattle.pc_sched.specs.Limits.{turn_limit};
-ghost use Rattle.pc_sched.specs.Schedules.{total};
+ghost use Rattle.pc_sched.specs.Schedules.{turn_limit, total};
 ghost use Rattle.pc_semantics.specs.Configurations.{start};
 ghost use Rattle.pc_run.specs.Ends.{NeverLacks, IsBegun};
 ghost use Rattle.pc_run.specs.Spreading.{spread};

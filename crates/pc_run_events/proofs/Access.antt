@@ -2,23 +2,21 @@
 use Rattle.std.specs.Prelude.{◌≡◌, ℕ, Bool, List, [], ◌∷◌, Option, Some, None, slice_get, refl}
 use Rattle.std.specs.FinMap.{get}
 use Rattle.std.proofs.lemmas.Option.{none-some}
-use Rattle.pc_core.specs.CoreData.{CoreData}
-use Rattle.pc_core.specs.Lookup.{field_named}
+use Rattle.pc_core.specs.CoreData.{CoreData, field_named}
 use Rattle.pc_core.specs.declared.nodes.Node.{Node}
 use Rattle.pc_core.specs.declared.nodes.NodeKind.{NodeKind}
 use Rattle.pc_core.specs.declared.nodes.NodeKind.TheVariants as node
-use Rattle.pc_heap.specs.Object.{Object}
+use Rattle.pc_heap.specs.Objects.{Object}
 use Rattle.pc_heap.specs.declared.value.Address.{Address}
 use Rattle.pc_heap.specs.declared.value.Value.{Value}
 use Rattle.pc_heap.specs.declared.value.Value.TheVariants as value
-use Rattle.pc_lists.specs.Options.{◌>>=◌}
+use Rattle.pc_lists.specs.Lists.{◌>>=◌}
 use Rattle.pc_semantics.specs.Ahead.{ahead_of, by_move, of_actor, of_frames, of_tasks}
 use Rattle.pc_semantics.specs.Around.{Around, Move, Stuck, Overflows, Goes, Writes, Makes, Spawns, Enters, Sends, Leaves, pop, with_stack, with_tasks, with_top}
 use Rattle.pc_semantics.specs.Configurations.{Configuration}
-use Rattle.pc_semantics.specs.Fields.{get_field, get_from, get_of, get_task, get_value, put_field, put_into, put_of, put_task, put_value}
+use Rattle.pc_semantics.specs.Calls.{get_field, get_from, get_of, get_task, get_value, put_field, put_into, put_of, put_task, put_value}
 use Rattle.pc_semantics.specs.Safety.{access, access_of, touched_name}
-use Rattle.pc_semantics.specs.Step.{around}
-use Rattle.pc_semantics.specs.Tasks.{at_node, task_move}
+use Rattle.pc_semantics.specs.Step.{around, at_node, task_move}
 use Rattle.pc_semantics.specs.declared.access.Access.{Access}
 use Rattle.pc_semantics.specs.declared.actors.Actor.{Actor}
 use Rattle.pc_semantics.specs.declared.ahead.Ahead.{Ahead}

@@ -8,10 +8,10 @@ use Rattle.pc_core.specs.declared.declarations.Method.{Method}
 use Rattle.pc_events.specs.Before.{at_place, Event}
 use Rattle.pc_heap.specs.declared.value.Address.{Address}
 use Rattle.pc_lists.proofs.Gets.{get_within}
-use Rattle.pc_lists.specs.Options.{◌>>=◌}
+use Rattle.pc_lists.specs.Lists.{◌>>=◌}
 use Rattle.pc_run_events.proofs.Effects.{Effects, NoneMade, OneMade, effects_at}
 use Rattle.pc_run_events.specs.Events.{AllEvents, Does, MadeThere, method_waiting}
-use Rattle.pc_run_events.specs.Names.{AllNamed, MethodHasName, DeedHasNames}
+use Rattle.pc_run_events.specs.Lines.{AllNamed, MethodHasName, DeedHasNames}
 use Rattle.pc_run_events.specs.declared.events.Deed.{Deed}
 use Rattle.pc_run_events.specs.declared.events.Deed.TheVariants as deed
 use Rattle.pc_run_events.specs.declared.events.RunEvent.{RunEvent}

@@ -6,13 +6,13 @@ use Rattle.std.proofs.lemmas.Option.{same_Some, none-some}
 use Rattle.std.proofs.lemmas.Bool.Decides.{leb_tells}
 use Rattle.std.specs.FinMap.{len}
 use Rattle.pc_lists.proofs.Gets.{get_behind, get_below, get_front, get_push}
-use Rattle.pc_lists.specs.Options.{◌>>=◌}
+use Rattle.pc_lists.specs.Lists.{◌>>=◌}
 use Rattle.pc_core.specs.CoreData.{CoreData}
 use Rattle.pc_heap.specs.Objects.{class_at}
 use Rattle.pc_heap.specs.declared.value.Address.{Address}
 use Rattle.pc_semantics.specs.Ahead.{ahead_of}
 use Rattle.pc_semantics.specs.Configurations.{Configuration}
-use Rattle.pc_semantics.specs.Runs.{outcomes}
+use Rattle.pc_semantics.specs.Step.{outcomes}
 use Rattle.pc_semantics.specs.Safety.{access}
 use Rattle.pc_semantics.specs.declared.access.Access.{Access}
 use Rattle.pc_semantics.specs.declared.actors.Actor.{Actor}

@@ -3,8 +3,7 @@
 use Rattle.std.specs.Prelude.{◌≡◌, ◌&&◌, ℕ, ◌-◌, Bool, true, false, if◌then◌else◌, List, [], length, Option, Some, None, slice_get, nat_eq, nat_lt, refl}
 use Rattle.std.proofs.Common.{ap, sym, ◌∙◌}
 use Rattle.std.proofs.lemmas.Bool.{and_parts, eqb-true}
-use Rattle.pc_core.specs.CoreData.{CoreData}
-use Rattle.pc_core.specs.Lookup.{method_named}
+use Rattle.pc_core.specs.CoreData.{CoreData, method_named}
 use Rattle.pc_core.specs.declared.declarations.Method.{Method}
 use Rattle.pc_core.specs.declared.declarations.MethodKind.{MethodKind}
 use Rattle.pc_core.specs.declared.declarations.MethodKind.TheVariants as method
@@ -15,14 +14,14 @@ use Rattle.pc_events.proofs.Plain.{Plain as Local, arguments_all, blind_plain, n
 use Rattle.pc_heap.specs.Objects.{ObjectMap, class_at}
 use Rattle.pc_heap.specs.declared.value.Value.{Value}
 use Rattle.pc_heap.specs.declared.value.Value.TheVariants.{At}
-use Rattle.pc_lists.specs.Options.{◌>>=◌}
+use Rattle.pc_lists.specs.Lists.{◌>>=◌}
 use Rattle.pc_run_events.proofs.Access.{Plain, get_node, put_node}
 use Rattle.pc_run_events.specs.Sights.{method_called, name_called}
 use Rattle.pc_semantics.specs.Around.{Around, Move, Stuck, Overflows, Goes, Writes, Makes, Spawns, Enters, Sends, Leaves, value_entity, popped, with_stack}
 use Rattle.pc_semantics.specs.Calls.{begin_new, enter, invoke_found, invoke_kind, invoke_method, invoke_on, invoke_task, is_string, make_of, make_task, push_text, send, spawn_of, spawn_task, text_of}
 use Rattle.pc_semantics.specs.Configurations.{own_address}
 use Rattle.pc_semantics.specs.Safety.{touched_name}
-use Rattle.pc_semantics.specs.Tasks.{at_node, task_move}
+use Rattle.pc_semantics.specs.Step.{at_node, task_move}
 use Rattle.pc_semantics.specs.declared.frames.Frame.{Frame}
 use Rattle.pc_semantics.specs.declared.frames.Task.{Task}
 use Rattle.pc_semantics.specs.declared.frames.Task.TheVariants as task

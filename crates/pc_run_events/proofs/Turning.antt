@@ -6,9 +6,8 @@ use Rattle.pc_lists.proofs.Gets.{get_below}
 use Rattle.pc_core.specs.CoreData.{CoreData}
 use Rattle.pc_semantics.specs.Ahead.{ahead_of}
 use Rattle.pc_semantics.specs.Configurations.{Configuration, start}
-use Rattle.pc_semantics.specs.Runs.{outcomes}
+use Rattle.pc_semantics.specs.Step.{outcomes, step}
 use Rattle.pc_semantics.specs.Safety.{access}
-use Rattle.pc_semantics.specs.Step.{step}
 use Rattle.pc_semantics.specs.declared.access.Access.{Access}
 use Rattle.pc_semantics.specs.declared.ahead.Ahead.{Ahead}
 use Rattle.pc_semantics.specs.declared.ahead.Ahead.TheVariants as ahead

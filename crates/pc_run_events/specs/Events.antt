@@ -1,20 +1,14 @@
 -- The events of a run that are more than plain steps.
 use Rattle.std.specs.Prelude.{◌≡◌, ◌<◌, ℕ, zero, suc, List, [], ◌∷◌, length, Option, Some, None, slice_get}
 use Rattle.pc_core.specs.CoreData.{CoreData}
-use Rattle.pc_heap.specs.Objects.{class_at}
-use Rattle.pc_heap.specs.declared.value.Address.{Address}
-use Rattle.pc_lists.specs.Options.{◌>>=◌}
-use Rattle.pc_lists.specs.Places.{Each}
-use Rattle.pc_semantics.specs.Ahead.{ahead_of}
-use Rattle.pc_semantics.specs.Configurations.{Configuration}
-use Rattle.pc_semantics.specs.Safety.{access}
-use Rattle.pc_semantics.specs.declared.ahead.Ahead.TheVariants as ahead
-use Rattle.pc_events.specs.Before.{at_place, Event, Carries, waiting_for}
-use Rattle.pc_events.specs.Clock.{Clocks}
-use Rattle.pc_run_events.specs.declared.events.Deed.{Deed}
-use Rattle.pc_run_events.specs.declared.events.Deed.TheVariants as deed
-use Rattle.pc_run_events.specs.declared.events.RunEvent.{RunEvent}
+use Rattle.pc_heap.specs.{Objects.class_at, declared.value.Address.Address}
+use Rattle.pc_lists.specs.Lists.{◌>>=◌, Each}
+use Rattle.pc_semantics.specs.{Ahead.ahead_of, Configurations.Configuration, Safety.access}
+use Rattle.pc_events.specs.{Before.at_place, Before.Event, Before.Carries, Before.waiting_for, Clock.Clocks}
+use Rattle.pc_run_events.specs.{declared.events.Deed.Deed, declared.events.RunEvent.RunEvent}
 use Rattle.pc_trace.specs.declared.touch.Touch.{Touch}
+use Rattle.pc_semantics.specs.declared.ahead.Ahead.TheVariants as ahead
+use Rattle.pc_run_events.specs.declared.events.Deed.TheVariants as deed
 
 -- The message that the event at q takes was sent by the event at this place, counted from 1; or no event sent it.
 abbrev pub SentAt : CoreData → List ℕ → (taken place : ℕ) → Type 0

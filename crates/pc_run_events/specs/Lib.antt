@@ -3,6 +3,4 @@ pub mod Events
 pub mod Sights
 pub mod Turns
 pub mod Kept
-pub mod Names
 pub mod Lines
-pub mod TouchLines

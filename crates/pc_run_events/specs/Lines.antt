@@ -1,14 +1,47 @@
--- The events of a run, as lines.
-use Rattle.std.specs.Prelude.{ℕ, Bool, true, false, List, [], ◌∷◌, ◌++◌, length, slice_get, codes, decimal}
-use Rattle.pc_core.specs.CoreData.{CoreData}
+-- The events and the accesses of a run, as lines.
+use Rattle.std.specs.Prelude.{◌≡◌, ℕ, List, [], ◌++◌, Option, Some, None, IsSome, slice_get, codes, Bool, true, false, ◌∷◌, length, decimal}
+use Rattle.pc_core.specs.{CoreData.CoreData, declared.declarations.EntityDef.EntityDef, declared.declarations.Method.Method}
+use Rattle.pc_lists.specs.Lists.{Each, Text, line_end}
+use Rattle.pc_run_events.specs.{declared.events.Deed.Deed, declared.events.RunEvent.RunEvent, Events.touches_in}
 use Rattle.pc_heap.specs.declared.value.Address.{Address}
-use Rattle.pc_lists.specs.Texts.{Text, line_end}
-use Rattle.pc_run_events.specs.Events.{touches_in}
-use Rattle.pc_run_events.specs.Names.{name_of_entity, method_text}
-use Rattle.pc_run_events.specs.declared.events.Deed.{Deed}
-use Rattle.pc_run_events.specs.declared.events.Deed.TheVariants as deed
-use Rattle.pc_run_events.specs.declared.events.RunEvent.{RunEvent}
 use Rattle.pc_semantics.specs.declared.access.Access.{Access}
+use Rattle.pc_trace.specs.declared.touch.Touch.{Touch}
+use Rattle.pc_run_events.specs.declared.events.Deed.TheVariants as deed
+
+-- ---- the names of entities and methods
+
+-- What does not exist has no name.
+abbrev pub name_of_entity : Option EntityDef → Text
+name_of_entity None = []
+name_of_entity (Some x) = x.name
+
+abbrev pub name_or_nothing : Option Text → Text
+name_or_nothing None = []
+name_or_nothing (Some name) = name
+
+-- A method, by its entity's name and its own: `E.m`.
+abbrev pub method_text : CoreData → Option Method → Text
+method_text core None = []
+method_text core (Some m) = name_of_entity (slice_get core.entities m.entity) ++ (codes "." ++ name_or_nothing (slice_get core.names m.name))
+
+-- ---- what events name exists
+
+-- The method exists, with its entity and its name.
+abbrev pub MethodHasName : CoreData → (method : ℕ) → Type 0
+MethodHasName core m = (x : Method) × (slice_get core.methods m ≡ Some x) × IsSome (slice_get core.entities x.entity)
+    × IsSome (slice_get core.names x.name)
+
+abbrev pub DeedHasNames : CoreData → Deed → Type 0
+DeedHasNames core (deed.Take m sent) = MethodHasName core m
+DeedHasNames core (deed.Send r m) = MethodHasName core m
+DeedHasNames core (deed.Make a m) = MethodHasName core m
+DeedHasNames core (deed.New a e) = IsSome (slice_get core.entities e)
+DeedHasNames core (deed.Touch x) = Unit {0}
+
+abbrev pub AllNamed : CoreData → List RunEvent → Type 0
+AllNamed core events = Each (λ k t. DeedHasNames core t.deed) events
+
+-- ---- the events of a run, as lines
 
 abbrev pub access_word : Bool → Text
 access_word true = codes "write"
@@ -78,3 +111,27 @@ event_count_line n m = codes "events " ++ (decimal n ++ (codes " accesses " ++ (
 -- The events, a line each, followed by their number and the number of accesses among them.
 abbrev pub events_text_of_run : CoreData → List RunEvent → Text
 events_text_of_run core events = events_text core events ++ event_count_line (length events) (length (touches_in events))
+
+-- ---- the accesses of a run, as lines
+
+-- `PLACE ACTOR read M.S F clock `, or the same with `write`.
+abbrev pub touch_text : Touch → Text
+touch_text t =
+    decimal t.place ++ (codes " " ++ (decimal t.actor ++ (codes " " ++ (access_word t.write ++ (codes " " ++ (decimal t.address.maker ++ (codes "." ++ (decimal t.address.serial ++ (codes " " ++ (decimal t.field
+    ++ codes " clock "))))))))))
+
+-- An access and its clock.
+abbrev pub touch_line : Touch → Text
+touch_line t = touch_text t ++ (clock_text t.clock ++ line_end)
+
+abbrev pub touches_text : List Touch → Text
+touches_text [] = []
+touches_text (t ∷ ts) = touch_line t ++ touches_text ts
+
+-- `accesses N ordered`
+abbrev pub access_count_line : ℕ → Text
+access_count_line n = codes "accesses " ++ (decimal n ++ (codes " ordered" ++ line_end))
+
+-- The accesses, a line each, followed by their number.
+abbrev pub trace_text : List Touch → Text
+trace_text touches = touches_text touches ++ access_count_line (length touches)

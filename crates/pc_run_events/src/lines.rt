@@ -2,7 +2,7 @@
 ghost use Rattle.std.specs.Prelude.{◌≡◌, ◌++◌, IfOk, OnOk, decimal, length, slice_get};
 ghost use Rattle.pc_run_events.specs.Events.{touches_in};
 ghost use Rattle.pc_run_events.specs.Lines as spec;
-ghost use Rattle.pc_run_events.specs.Names.{method_text};
+ghost use Rattle.pc_run_events.specs.Lines.{method_text};
 
 use crate::events::{Deed, RunEvent};
 use crate::method_names::{push_entity, push_method};

@@ -1,6 +1,6 @@
 //! The names of entities and methods.
 ghost use Rattle.std.specs.Prelude.{◌≡◌, ◌++◌, Some, slice_get, OnOk};
-ghost use Rattle.pc_run_events.specs.Names as spec;
+ghost use Rattle.pc_run_events.specs.Lines as spec;
 
 use pc_core::{Core, Method};
 use std::alloc::AllocError;

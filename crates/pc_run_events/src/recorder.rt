@@ -6,7 +6,8 @@ ghost use Rattle.pc_run_events.specs.Kept.{Recorded, Under, first_posts as posts
 ghost use Rattle.pc_run_events.specs.Events.{touches_in};
 ghost use Rattle.pc_run_events.specs.Turns.{HasRow, Posted, noted_with, sent_by};
 ghost use Rattle.pc_trace.specs.Noted.{Noted};
-ghost use Rattle.pc_trace.specs.Traces.{RanOn, TraceStops};
+ghost use Rattle.pc_trace.specs.Traces.{RanOn};
+ghost use Rattle.pc_trace.specs.Stops.{TraceStops};
 
 use crate::deeds::deed_after;
 use crate::events::{Deed, RunEvent};

@@ -2,9 +2,10 @@
 ghost use Rattle.std.specs.Prelude.{◌≤◌, MatchResult, length};
 ghost use Rattle.pc_machine.specs.Limits.{list_limit};
 ghost use Rattle.pc_run_events.specs.Events.{AllEvents, touches_in};
-ghost use Rattle.pc_run_events.specs.Names.{AllNamed};
+ghost use Rattle.pc_run_events.specs.Lines.{AllNamed};
 ghost use Rattle.pc_semantics.specs.Safety.{Safe};
-ghost use Rattle.pc_trace.specs.Traces.{AcceptedStops, AllTouches, RanOn, VerdictIs};
+ghost use Rattle.pc_trace.specs.Stops.{AcceptedStops};
+ghost use Rattle.pc_trace.specs.Traces.{AllTouches, RanOn, VerdictIs};
 ghost use Rattle.pc_trace.specs.declared.touch.Verdict.TheVariants.{Ordered};
 
 use crate::events::RunEvent;

@@ -1,6 +1,6 @@
 //! The accesses of a run, as lines.
 ghost use Rattle.std.specs.Prelude.{◌≡◌, ◌++◌, IfOk, OnOk};
-ghost use Rattle.pc_run_events.specs.TouchLines as spec;
+ghost use Rattle.pc_run_events.specs.Lines as spec;
 
 use crate::lines::{kind_of, push_clock};
 use pc_caps::List;

@@ -1,7 +1,6 @@
 //! Programs from their texts, accepted and run.
 ghost use Rattle.std.specs.Prelude.{◌≤◌, IsTrue};
-ghost use Rattle.pc_sched.specs.Limits.{turn_limit};
-ghost use Rattle.pc_sched.specs.Schedules.{total};
+ghost use Rattle.pc_sched.specs.Schedules.{turn_limit, total};
 ghost use Rattle.pc_run.specs.Ends.{NeverLacks};
 
 use pc_check::check;

@@ -1,7 +1,7 @@
 //! The run of a list of actors, of a core that has a valid annotation.
 ghost use Rattle.std.specs.Prelude.{◌≤◌, length, List as Sequence, ℕ};
 ghost use Rattle.pc_valid.specs.Valid.{Valid};
-ghost use Rattle.pc_semantics.specs.Runs.{after};
+ghost use Rattle.pc_semantics.specs.Step.{after};
 ghost use Rattle.pc_semantics.specs.Safety.{LacksNothing};
 ghost use Rattle.pc_machine.specs.Limits.{list_limit};
 ghost use Rattle.pc_list_steps.specs.Ends.{RunEnds};

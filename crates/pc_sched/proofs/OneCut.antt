@@ -2,8 +2,7 @@
 use Rattle.std.proofs.Common.{◌≡◌, ℕ, ◌+◌, ◌<◌, ◌≤◌, List, [], ◌∷◌, ◌++◌, length, get_or, drop, refl, sym, ap, ap₂, ◌∙◌, subst, inl, inr, ◌⊎◌, arith, length-append}
 use Rattle.std.specs.List.{prefix_len}
 use Rattle.pc_sched.specs.declared.turns.Turn.{Turn}
-use Rattle.pc_sched.specs.Schedules.{no_blank, SchedulePiece, blank, word, piece_bytes, IsSchedulePiece, SchedulePieces, SpellsTurn, SpelledTurns, total, Turns}
-use Rattle.pc_sched.specs.Limits.{turn_limit}
+use Rattle.pc_sched.specs.Schedules.{no_blank, SchedulePiece, blank, word, piece_bytes, IsSchedulePiece, SchedulePieces, SpellsTurn, SpelledTurns, total, Turns, turn_limit}
 use Rattle.pc_sched.proofs.Runs.{end_none}
 use Rattle.pc_lists.proofs.Prefixes.{run_app}
 use Rattle.pc_sched.proofs.TurnReading.{turn_one}

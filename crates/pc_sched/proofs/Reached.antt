@@ -7,9 +7,7 @@ use Rattle.std.specs.List.{prefix_len}
 use Rattle.pc_sched.specs.declared.turns.Turn.{Turn}
 use Rattle.pc_sched.specs.declared.fault.SchedFault.{SchedFault}
 use Rattle.pc_sched.specs.declared.fault.SchedFault.TheVariants as fault
-use Rattle.pc_sched.specs.Limits.{turn_limit}
-use Rattle.pc_sched.specs.Schedules.{no_blank, SchedulePiece, blank, word, piece_bytes, IsSchedulePiece, SchedulePieces, SpellsTurn, SpelledTurns, total}
-use Rattle.pc_sched.specs.Schedules.{TurnList, WordAt}
+use Rattle.pc_sched.specs.Schedules.{turn_limit, no_blank, SchedulePiece, blank, word, piece_bytes, IsSchedulePiece, SchedulePieces, SpellsTurn, SpelledTurns, total, TurnList, WordAt}
 use Rattle.pc_sched.specs.Reading.{turn_of, word_at, Steps, Stuck}
 use Rattle.pc_sched.specs.Answers.{RefusesSchedule}
 use Rattle.pc_sched.proofs.Runs.{run_ends, first_blank}

@@ -6,8 +6,7 @@ use Rattle.std.specs.List.{prefix_len}
 use Rattle.pc_sched.specs.declared.turns.Turn.{Turn}
 use Rattle.pc_sched.specs.declared.fault.SchedFault.{SchedFault}
 use Rattle.pc_sched.specs.declared.fault.SchedFault.TheVariants as fault
-use Rattle.pc_sched.specs.Limits.{turn_limit}
-use Rattle.pc_sched.specs.Schedules.{no_blank, SpellsTurn, total, TurnList, WordAt, FirstScheduleFault}
+use Rattle.pc_sched.specs.Schedules.{turn_limit, no_blank, SpellsTurn, total, TurnList, WordAt, FirstScheduleFault}
 use Rattle.pc_sched.specs.Reading.{turn_of, word_at, Steps}
 use Rattle.pc_sched.specs.Answers.{RefusesSchedule, AnswersSchedule}
 use Rattle.pc_sched.proofs.TurnReading.{turn_one}

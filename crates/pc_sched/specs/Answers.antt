@@ -1,9 +1,7 @@
 -- What reading a schedule may return.
 use Rattle.std.specs.Prelude.{◌≡◌, ℕ, List, Result, Err, ◌⊎◌, ⊤}
-use Rattle.pc_sched.specs.declared.turns.Turn.{Turn}
-use Rattle.pc_sched.specs.declared.fault.SchedFault.{SchedFault}
+use Rattle.pc_sched.specs.{declared.turns.Turn.Turn, declared.fault.SchedFault.SchedFault, Schedules.FirstScheduleFault}
 use Rattle.pc_sched.specs.declared.fault.SchedFault.TheVariants as fault
-use Rattle.pc_sched.specs.Schedules.{FirstScheduleFault}
 
 -- The fault is the text's first, or memory ran out.
 abbrev pub RefusesSchedule : List ℕ → SchedFault → Type 0

@@ -1,4 +1,3 @@
-pub mod Limits
 pub mod Schedules
 pub mod Answers
 pub mod Laws

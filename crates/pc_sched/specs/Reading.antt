@@ -1,12 +1,8 @@
 -- How the first piece of a text is read.
 use Rattle.std.specs.Prelude.{◌≡◌, ℕ, ◌+◌, ◌^◌, ◌<◌, ◌≤◌, nat_lt, Bool, ◌||◌, ◌==◌, List, [], ◌∷◌, ◌++◌, length, take, drop, Option, Some, None, if◌then◌else◌, ⊤, ◌⊎◌}
-use Rattle.std.specs.List.{prefix_len}
-use Rattle.std.specs.Char.{is_ascii_digit}
-use Rattle.pc_sched.specs.declared.turns.Turn.{Turn}
-use Rattle.pc_sched.specs.declared.fault.SchedFault.{SchedFault}
+use Rattle.std.specs.{List.prefix_len, Char.is_ascii_digit}
+use Rattle.pc_sched.specs.{declared.turns.Turn.Turn, declared.fault.SchedFault.SchedFault, Schedules.turn_limit, Schedules.no_blank, Schedules.decimal_value}
 use Rattle.pc_sched.specs.declared.fault.SchedFault.TheVariants as fault
-use Rattle.pc_sched.specs.Limits.{turn_limit}
-use Rattle.pc_sched.specs.Schedules.{no_blank, decimal_value}
 
 abbrev pub below : ℕ → Option ℕ
 below v = if nat_lt v (2 ^ 32) then Some v else None

@@ -1,13 +1,22 @@
 -- The turns that a text spells, and its first fault if it spells none.
 --
 -- A text is cut into pieces, each a blank or a word. Each word spells a turn.
-use Rattle.std.specs.Prelude.{◌≡◌, ℕ, ◌+◌, ◌-◌, ◌*◌, ◌<◌, ◌≤◌, ◌^◌, Bool, true, not, ◌||◌, ◌==◌, List, [], ◌∷◌, ◌++◌, length, ◌⊎◌, ⊤}
-use Rattle.std.specs.List.{list_all}
-use Rattle.std.specs.Char.{is_ascii_digit}
-use Rattle.pc_sched.specs.declared.turns.Turn.{Turn}
-use Rattle.pc_sched.specs.declared.fault.SchedFault.{SchedFault}
+use Rattle.std.specs.Prelude.{ℕ, ◌≡◌, ◌+◌, ◌-◌, ◌*◌, ◌<◌, ◌≤◌, ◌^◌, Bool, true, not, ◌||◌, ◌==◌, List, [], ◌∷◌, ◌++◌, length, ◌⊎◌, ⊤}
+use Rattle.std.specs.{List.list_all, Char.is_ascii_digit}
+use Rattle.pc_sched.specs.{declared.turns.Turn.Turn, declared.fault.SchedFault.SchedFault}
 use Rattle.pc_sched.specs.declared.fault.SchedFault.TheVariants as fault
-use Rattle.pc_sched.specs.Limits.{turn_limit}
+
+-- ---- the limits of a schedule
+
+-- how many bytes its text may have
+abbrev pub schedule_limit : ℕ
+schedule_limit = 1048576
+
+-- how many turns it may have
+abbrev pub turn_limit : ℕ
+turn_limit = 1000000
+
+-- ---- the turns
 
 -- space, tab, CR, LF
 abbrev pub is_separator : ℕ → Bool

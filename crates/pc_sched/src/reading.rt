@@ -3,9 +3,8 @@ ghost use Rattle.std.specs.Prelude.{◌≡◌, ◌<◌, ◌≤◌, List as Seque
 ghost use Rattle.std.specs.List.{prefix_len};
 ghost use Rattle.pc_sched.specs.declared.turns.Turn.{Turn};
 ghost use Rattle.pc_sched.specs.declared.fault.SchedFault.{SchedFault};
-ghost use Rattle.pc_sched.specs.Limits.{schedule_limit, turn_limit};
+ghost use Rattle.pc_sched.specs.Schedules.{schedule_limit, turn_limit, TurnList, FirstScheduleFault};
 ghost use Rattle.pc_sched.specs.Schedules as schedules;
-ghost use Rattle.pc_sched.specs.Schedules.{TurnList, FirstScheduleFault};
 ghost use Rattle.pc_sched.specs.Reading.{Steps, Stuck};
 ghost use Rattle.pc_sched.specs.Answers.{RefusesSchedule, AnswersSchedule};
 

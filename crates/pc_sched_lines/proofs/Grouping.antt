@@ -3,8 +3,9 @@ use Rattle.std.proofs.Common.{◌≡◌, ◌≢◌, ◌<◌, ◌≤◌, ◌+◌,
 use Rattle.std.proofs.lemmas.List.{length-take-le, take_more}
 use Rattle.std.specs.List.{AllByRecursion}
 use Rattle.pc_sched.specs.declared.turns.Turn.{Turn}
-use Rattle.pc_sched.specs.Limits.{turn_limit}
-use Rattle.pc_sched_lines.specs.Rows.{AreRows, HasOtherActor, Fits, RowsOf}
+use Rattle.pc_sched.specs.Schedules.{turn_limit}
+use Rattle.pc_sched_lines.specs.Lines.{AreRows, HasOtherActor}
+use Rattle.pc_sched_lines.specs.Rows.{Fits, RowsOf}
 use Rattle.pc_sched_lines.proofs.Spreads.{last_within, spread_longer, spread_push}
 
 -- ---- the last row is longer

@@ -9,9 +9,7 @@ use Rattle.std.proofs.lemmas.Bool.Decides.{nat_tests}
 use Rattle.std.proofs.lemmas.List.Folds.{list_all-append}
 use Rattle.std.proofs.lemmas.Str.Parse.{IsNumeralModel, numerals_by_fold}
 use Rattle.pc_sched.specs.declared.turns.Turn.{Turn}
-use Rattle.pc_sched.specs.Limits.{turn_limit}
-use Rattle.pc_sched.specs.Schedules.{AtWordEnd, IsSchedulePiece, Number, SchedulePiece, SchedulePieces, SpelledTurns, SpellsTurn, TurnList, blank, no_blank}
-use Rattle.pc_sched.specs.Schedules.{total, decimal_value, word}
+use Rattle.pc_sched.specs.Schedules.{turn_limit, AtWordEnd, IsSchedulePiece, Number, SchedulePiece, SchedulePieces, SpelledTurns, SpellsTurn, TurnList, blank, no_blank, total, decimal_value, word}
 use Rattle.pc_sched_lines.specs.Lines.{IsLine, line_of, turn_word, more_words}
 use Rattle.pc_sched_lines.specs.Rows.{Fits, RowsOf}
 use Rattle.pc_sched_lines.proofs.Spreads.{length-spread}

@@ -1,9 +1,21 @@
 -- A list of steps as the text of a schedule.
-use Rattle.std.specs.Prelude.{◌≡◌, ◌==◌, ℕ, List, [], ◌∷◌, ◌++◌, if◌then◌else◌, decimal}
-use Rattle.pc_sched.specs.declared.turns.Turn.{Turn}
-use Rattle.pc_sched.specs.Schedules.{TurnList}
-use Rattle.pc_sched_lines.specs.Rows.{AreRows}
+use Rattle.std.specs.Prelude.{◌≡◌, ◌≢◌, ℕ, ◌<◌, List, [], ◌∷◌, ⊤, ◌==◌, ◌++◌, if◌then◌else◌, decimal}
+use Rattle.pc_sched.specs.{declared.turns.Turn.Turn, Schedules.TurnList}
 use Rattle.pc_run.specs.Spreading.{spread}
+
+-- ---- steps in rows: turns that are as long as they can be
+
+-- The turn is of a different actor than the first of these.
+abbrev pub HasOtherActor : Turn → List Turn → Type 0
+HasOtherActor turn [] = ⊤
+HasOtherActor turn (next ∷ more) = turn.actor ≢ next.actor
+
+-- Each turn has a step, and no two successive turns are of one actor. So none of them could be longer.
+abbrev pub AreRows : List Turn → Type 0
+AreRows [] = ⊤
+AreRows (turn ∷ turns) = (0 < turn.times) × HasOtherActor turn turns × AreRows turns
+
+-- ---- the text
 
 -- The word of a turn: its actor's number, followed by `*` and its times unless these are 1. No number has leading
 -- zeros.
@@ -27,7 +39,3 @@ pub record IsLine (list text : List ℕ) : Type 0 where
   pub steps : spread turns ≡ list
   pub rows : AreRows turns
   pub line : text ≡ line_of turns
-
--- A list of steps has at most one such line.
-abbrev pub LinesAreOne : Type 0
-LinesAreOne = (list one other : List ℕ) → IsLine list one → IsLine list other → one ≡ other

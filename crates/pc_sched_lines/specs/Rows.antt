@@ -1,18 +1,9 @@
--- Steps in rows: turns that are as long as they can be.
-use Rattle.std.specs.Prelude.{◌≡◌, ◌≢◌, ℕ, ◌<◌, ◌^◌, List, [], ◌∷◌, ⊤}
+-- Steps as rows of turns, which the code writes one by one.
+use Rattle.std.specs.Prelude.{◌≡◌, ℕ, ◌<◌, ◌^◌, List}
 use Rattle.std.specs.List.{AllByRecursion}
 use Rattle.pc_sched.specs.declared.turns.Turn.{Turn}
 use Rattle.pc_run.specs.Spreading.{spread}
-
--- The turn is of a different actor than the first of these.
-abbrev pub HasOtherActor : Turn → List Turn → Type 0
-HasOtherActor turn [] = ⊤
-HasOtherActor turn (next ∷ more) = turn.actor ≢ next.actor
-
--- Each turn has a step, and no two successive turns are of one actor. So none of them could be longer.
-abbrev pub AreRows : List Turn → Type 0
-AreRows [] = ⊤
-AreRows (turn ∷ turns) = (0 < turn.times) × HasOtherActor turn turns × AreRows turns
+use Rattle.pc_sched_lines.specs.Lines.{AreRows, IsLine}
 
 -- Its numbers are allowed in a schedule.
 abbrev pub Fits : Turn → Type 0
@@ -23,3 +14,7 @@ pub record RowsOf (list : List ℕ) (turns : List Turn) : Type 0 where
   pub steps : spread turns ≡ list
   pub rows : AreRows turns
   pub fit : AllByRecursion Fits turns
+
+-- A list of steps has at most one such line.
+abbrev pub LinesAreOne : Type 0
+LinesAreOne = (list one other : List ℕ) → IsLine list one → IsLine list other → one ≡ other

@@ -1,5 +1,5 @@
 //! The law on lines of schedules, as a call that does nothing.
-ghost use Rattle.pc_sched_lines.specs.Lines.{LinesAreOne};
+ghost use Rattle.pc_sched_lines.specs.Rows.{LinesAreOne};
 
 /// A list of steps has at most one line.
 pub fn lines_are_one()

@@ -2,7 +2,7 @@
 ghost use Rattle.std.specs.Prelude.{◌≡◌, ◌++◌, ◌≤◌, IfOk, OnOk, length, string_bytes};
 ghost use Rattle.pc_sched_lines.specs.Lines as line;
 ghost use Rattle.pc_sched_lines.specs.Lines.{IsLine};
-ghost use Rattle.pc_sched.specs.Limits.{turn_limit};
+ghost use Rattle.pc_sched.specs.Schedules.{turn_limit};
 
 use crate::rows::rows_of;
 use pc_caps::List;

@@ -1,7 +1,7 @@
 //! A list of steps as turns that are as long as they can be.
 ghost use Rattle.std.specs.Prelude.{◌≡◌, ◌++◌, ◌∷◌, [], ◌+◌, ◌<◌, ◌≤◌, ℕ, IfOk, length, List as Sequence};
 ghost use Rattle.pc_sched_lines.specs.Rows.{RowsOf};
-ghost use Rattle.pc_sched.specs.Limits.{turn_limit};
+ghost use Rattle.pc_sched.specs.Schedules.{turn_limit};
 
 use pc_caps::List;
 use pc_sched::Turn;

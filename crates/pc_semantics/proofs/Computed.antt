@@ -6,9 +6,8 @@ use Rattle.std.specs.Fmt.{digits}
 use Rattle.std.specs.FinMap.{get, insert, len}
 use Rattle.std.proofs.Common.{inl, inr, ap, sym, ◌∙◌, arith}
 use Rattle.std.proofs.lemmas.Option.{same_Some, none-some}
-use Rattle.pc_heap.specs.Objects.{ObjectMap, with_field, made_by}
+use Rattle.pc_heap.specs.Objects.{ObjectMap, with_field, made_by, Object}
 use Rattle.pc_heap.specs.declared.value.Address.{Address}
-use Rattle.pc_heap.specs.Object.{Object}
 use Rattle.pc_heap.specs.declared.value.Value.TheVariants.{At, Text, Num}
 use Rattle.pc_heap.specs.declared.value.Value.{Value}
 use Rattle.pc_semantics.specs.declared.frames.Frame.{Frame}
@@ -18,7 +17,7 @@ use Rattle.pc_semantics.specs.declared.mailbox.Message.{Message}
 use Rattle.pc_semantics.specs.declared.outcome.Outcome.TheVariants.{Moved, Skipped}
 use Rattle.pc_semantics.specs.Configurations.{Configuration, start, own_address, environment_address, environment, blank_object}
 use Rattle.pc_semantics.specs.Around.{none}
-use Rattle.pc_semantics.specs.Runs.{after, outcomes, run_from, outcomes_from}
+use Rattle.pc_semantics.specs.Step.{after, outcomes, run_from, outcomes_from}
 use Rattle.pc_semantics.specs.Text.{steps_of, waiting}
 use Rattle.pc_semantics.specs.Programs.{hello, two_messages, making, touching}
 use Rattle.pc_semantics.specs.Examples.{HelloRuns, NoActorNoStep, TakenInOrder, SpawnedHasItsMessage, ConstructorSets, LazyRight, BranchTaken, WhileTwice, Wraps, EachLackComes, TextTooLong, RacesAreSeen, both_about_to}

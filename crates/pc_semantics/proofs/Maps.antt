@@ -4,9 +4,8 @@ use Rattle.std.specs.FinMap.{empty, get, insert, len, contains_key, entries, put
 use Rattle.std.specs.Ordering.{eq_by_cmp}
 use Rattle.std.proofs.Common.{sym, ◌∙◌}
 use Rattle.pc_heap.specs.Addresses.{addresses_total}
-use Rattle.pc_heap.specs.Objects.{address_cmp, ObjectMap}
+use Rattle.pc_heap.specs.Objects.{address_cmp, ObjectMap, Object}
 use Rattle.pc_heap.specs.declared.value.Address.{Address}
-use Rattle.pc_heap.specs.Object.{Object}
 use Rattle.pc_lists.proofs.Cuts.{without_length}
 
 pub get_inserted : (m : ObjectMap) (a : Address) (o : Object) (b : Address) → get (insert m a o) b ≡ cond (eq_by_cmp address_cmp b a) (Some o) (get m b)

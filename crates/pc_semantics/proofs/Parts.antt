@@ -7,8 +7,7 @@ use Rattle.pc_core.specs.CoreData.{CoreData}
 use Rattle.pc_semantics.specs.declared.outcome.Outcome.{Outcome}
 use Rattle.pc_semantics.specs.declared.outcome.Outcome.TheVariants.{Moved, Skipped, Lacks, TooLong}
 use Rattle.pc_semantics.specs.Configurations.{Configuration}
-use Rattle.pc_semantics.specs.Step.{step}
-use Rattle.pc_semantics.specs.Runs.{followed, run_from, outcomes_from}
+use Rattle.pc_semantics.specs.Step.{step, followed, run_from, outcomes_from}
 use Rattle.pc_semantics.specs.Text.{is_moved, is_skipped, waiting, lines, summary, end_of, text_at_end}
 
 -- The text of a run by its parts.

@@ -1,18 +1,11 @@
 -- The state of the machine, and the configuration in which a program begins.
 use Rattle.std.specs.Prelude.{ℕ, List, [], ◌∷◌, Option, Some, None, slice_get, slice_set, length, map, codes, position}
-use Rattle.std.specs.Str.{bytes_eq}
-use Rattle.std.specs.FinMap.{empty, insert}
-use Rattle.pc_tree.specs.BuiltIn.{env_entity, out_stream_entity}
-use Rattle.pc_heap.specs.Objects.{ObjectMap, new_object, with_field}
-use Rattle.pc_heap.specs.declared.value.Address.{Address}
-use Rattle.pc_heap.specs.Object.{Object}
-use Rattle.pc_heap.specs.declared.value.Value.TheVariants.{At}
-use Rattle.pc_core.specs.CoreData.{CoreData}
-use Rattle.pc_lists.specs.Options.{◌>>=◌}
-use Rattle.pc_core.specs.Lookup.{method_named}
-use Rattle.pc_core.specs.declared.declarations.EntityDef.{EntityDef}
-use Rattle.pc_semantics.specs.declared.actors.Actor.{Actor}
-use Rattle.pc_semantics.specs.declared.frames.Frame.{Frame}
+use Rattle.std.specs.{Str.bytes_eq, FinMap.empty, FinMap.insert}
+use Rattle.pc_tree.specs.Kinds.{env_entity, out_stream_entity}
+use Rattle.pc_heap.specs.{Objects.ObjectMap, Objects.new_object, Objects.with_field, Objects.Object, declared.value.Address.Address, declared.value.Value.TheVariants.At}
+use Rattle.pc_core.specs.{CoreData.CoreData, CoreData.method_named, declared.declarations.EntityDef.EntityDef}
+use Rattle.pc_lists.specs.Lists.{◌>>=◌}
+use Rattle.pc_semantics.specs.{declared.actors.Actor.Actor, declared.frames.Frame.Frame}
 
 -- The objects by their addresses, the actors in the order in which they were made, and the texts that were printed. The
 -- number of objects that an actor has made is the number of addresses with that actor as maker.

@@ -1,15 +1,10 @@
 pub mod Configurations
 pub mod Around
 pub mod Operators
-pub mod Children
 pub mod Evaluation
-pub mod Fields
 pub mod Calls
-pub mod Choices
-pub mod Tasks
 pub mod Step
 pub mod Ahead
-pub mod Runs
 pub mod Text
 pub mod Safety
 pub mod Programs
@@ -17,3 +12,4 @@ pub mod Examples
 pub mod Laws
 pub mod Lending
 pub mod Pending
+pub mod Children

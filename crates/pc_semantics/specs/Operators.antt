@@ -2,14 +2,11 @@
 use Rattle.std.specs.Prelude.{ℕ, ◌+◌, ◌-◌, ◌*◌, ◌/◌, ◌%◌, ◌^◌, Bool, false, not, List, ◌++◌, length, Option, Some, None, nat_eq, nat_lt, cond, if◌then◌else◌}
 use Rattle.std.specs.Str.{bytes_eq}
 use Rattle.pc_caps.specs.Limits.{text_limit}
-use Rattle.pc_heap.specs.declared.value.Address.{Address}
-use Rattle.pc_heap.specs.declared.value.Value.{Value}
-use Rattle.pc_heap.specs.declared.value.Value.TheVariants.{Num, Truth, Text, Prim, At}
+use Rattle.pc_heap.specs.{declared.value.Address.Address, declared.value.Value.Value, declared.value.Value.TheVariants.Num, declared.value.Value.TheVariants.Truth, declared.value.Value.TheVariants.Text, declared.value.Value.TheVariants.Prim, declared.value.Value.TheVariants.At}
 use Rattle.pc_tree.specs.declared.kinds.Op.{Op}
+use Rattle.pc_semantics.specs.{declared.frames.Frame.Frame, Around.Move, Around.Stuck, Around.Overflows, Around.Goes, Around.pushed}
 use Rattle.pc_tree.specs.declared.kinds.Op.TheVariants as op
-use Rattle.pc_semantics.specs.declared.frames.Frame.{Frame}
 use Rattle.pc_semantics.specs.declared.outcome.Lack.TheVariants as lack
-use Rattle.pc_semantics.specs.Around.{Move, Stuck, Overflows, Goes, pushed}
 
 -- The value is pushed; without one, a value of the right kind is lacking.
 abbrev pub push_or_lack : Frame → Option Value → Move

@@ -1,12 +1,9 @@
 -- The tasks that the entries of a frame represent.
 use Rattle.std.specs.Prelude.{ℕ, List, [], ◌∷◌, drop}
 use Rattle.std.specs.List.{flat_map}
-use Rattle.pc_semantics.specs.declared.frames.Task.{Task}
+use Rattle.pc_semantics.specs.{declared.frames.Task.Task, Children.evaluations, declared.tasks.After.After, declared.tasks.Entry.Entry}
 use Rattle.pc_semantics.specs.declared.frames.Task.TheVariants as task
-use Rattle.pc_semantics.specs.Children.{evaluations}
-use Rattle.pc_semantics.specs.declared.tasks.After.{After}
 use Rattle.pc_semantics.specs.declared.tasks.After.TheVariants as after
-use Rattle.pc_semantics.specs.declared.tasks.Entry.{Entry}
 
 -- Before each child is evaluated, a value is dropped.
 abbrev pub as_items : List ℕ → List Task

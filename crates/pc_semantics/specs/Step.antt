@@ -1,22 +1,34 @@
--- One step of an actor: its first task, or its first message if it is idle.
-use Rattle.std.specs.Prelude.{ℕ, zero, List, [], ◌∷◌, ◌++◌, length, Option, Some, None, slice_get}
+-- One step of an actor, and runs: the steps of a list of actors.
+use Rattle.std.specs.Prelude.{Option, Some, None, slice_get, ℕ, zero, List, [], ◌∷◌, ◌++◌, length}
 use Rattle.std.specs.FinMap.{insert}
-use Rattle.pc_heap.specs.Objects.{with_value}
-use Rattle.pc_heap.specs.Object.{Object}
-use Rattle.pc_heap.specs.declared.value.Value.{Value}
-use Rattle.pc_heap.specs.declared.value.Value.TheVariants.{Text, At}
-use Rattle.pc_core.specs.CoreData.{CoreData}
-use Rattle.pc_core.specs.declared.declarations.Method.{Method}
-use Rattle.pc_semantics.specs.declared.actors.Actor.{Actor}
-use Rattle.pc_semantics.specs.declared.frames.Frame.{Frame}
-use Rattle.pc_semantics.specs.declared.frames.Task.{Task}
-use Rattle.pc_semantics.specs.declared.mailbox.Message.{Message}
+use Rattle.pc_core.specs.{CoreData.CoreData, declared.nodes.Node.Node, declared.declarations.Method.Method}
+use Rattle.pc_semantics.specs.{declared.frames.Frame.Frame, declared.frames.Task.Task, Around.Around, Around.Move, Around.Stuck, Around.Goes, Around.pop, Around.Overflows, Around.Writes, Around.Makes, Around.Spawns, Around.Enters, Around.Sends, Around.Leaves, Around.pushed, Around.first_frame, Evaluation.evaluate_node, Evaluation.apply_task, Evaluation.test_task, Evaluation.branch_task, Evaluation.loop_task, Calls.get_task, Calls.put_task, Calls.store_task, Calls.make_task, Calls.spawn_task, Calls.invoke_task, Calls.return_task, declared.actors.Actor.Actor, declared.mailbox.Message.Message, declared.outcome.Outcome.Outcome, declared.outcome.Outcome.TheVariants.Moved, declared.outcome.Outcome.TheVariants.Skipped, declared.outcome.Outcome.TheVariants.Lacks, declared.outcome.Outcome.TheVariants.TooLong, Configurations.Configuration, Configurations.with_objects, Configurations.with_actor, Configurations.with_frames, Configurations.own_address, Configurations.start}
+use Rattle.pc_heap.specs.{Objects.with_value, Objects.Object, declared.value.Value.Value, declared.value.Value.TheVariants.Text, declared.value.Value.TheVariants.At}
+use Rattle.pc_semantics.specs.declared.frames.Task.TheVariants as task
 use Rattle.pc_semantics.specs.declared.outcome.Lack.TheVariants as lack
-use Rattle.pc_semantics.specs.declared.outcome.Outcome.{Outcome}
-use Rattle.pc_semantics.specs.declared.outcome.Outcome.TheVariants.{Moved, Skipped, Lacks, TooLong}
-use Rattle.pc_semantics.specs.Configurations.{Configuration, with_objects, with_actor, with_frames, own_address}
-use Rattle.pc_semantics.specs.Around.{Around, Move, Stuck, Overflows, Goes, Writes, Makes, Spawns, Enters, Sends, Leaves, pushed, first_frame}
-use Rattle.pc_semantics.specs.Tasks.{task_move}
+
+-- ---- what each task does
+
+-- A task goes on with its node, if there is one.
+abbrev pub at_node : Option Node → (Node → Move) → Move
+at_node None next = Stuck lack.Value
+at_node (Some x) next = next x
+
+-- The move of a frame's task, which has been removed from the frame's tasks.
+abbrev pub task_move : CoreData → Around → Frame → Task → Move
+task_move core around f (task.Eval n) = evaluate_node f n (slice_get core.nodes n)
+task_move core around f (task.Get n) = at_node (slice_get core.nodes n) (λ x. get_task core around f x.kind)
+task_move core around f (task.Put n) = at_node (slice_get core.nodes n) (λ x. put_task core around f x.kind)
+task_move core around f (task.Store n) = at_node (slice_get core.nodes n) (λ x. store_task f x.kind)
+task_move core around f (task.Make n) = at_node (slice_get core.nodes n) (λ x. make_task core around f x.children x.kind)
+task_move core around f (task.Spawn n) = at_node (slice_get core.nodes n) (λ x. spawn_task core around f x.children x.kind)
+task_move core around f (task.Invoke n) = at_node (slice_get core.nodes n) (λ x. invoke_task core around f x.children x.kind)
+task_move core around f (task.Apply n) = at_node (slice_get core.nodes n) (λ x. apply_task f x.kind)
+task_move core around f (task.Test n) = at_node (slice_get core.nodes n) (λ x. test_task f x.children x.kind)
+task_move core around f (task.Branch n) = at_node (slice_get core.nodes n) (λ x. branch_task f x.children)
+task_move core around f (task.Loop n) = at_node (slice_get core.nodes n) (λ x. loop_task f n x.children)
+task_move core around f task.Discard = pop f (λ v g. Goes g)
+task_move core around f task.Return = return_task f (slice_get core.methods f.method)
 
 -- ---- a move is carried out
 
@@ -100,3 +112,31 @@ step_of core c i (Some a) = run_frames core c i a a.frames
 -- A step of actor i: how it ends, and the configuration after it, which is the same unless it moved.
 abbrev pub step : CoreData → Configuration → ℕ → Outcome × Configuration
 step core c i = step_of core c i (slice_get c.actors i)
+
+-- ---- runs: the steps of a list of actors, one after another
+
+-- What comes after a step at c with this result: the rest, from the next configuration, or from c if the step was
+-- skipped; or the end of the run.
+abbrev pub followed : {A : Type 0} → (Configuration → A) → A → Configuration → Outcome × Configuration → A
+followed rest end c (Moved, next) = rest next
+followed rest end c (Skipped, next) = rest c
+followed rest end c (Lacks l, next) = end
+followed rest end c (TooLong, next) = end
+
+-- The configuration after the steps of these actors, from c on. A step that lacks something, or that would make too
+-- long a text, ends the run, and the actors after it change nothing.
+abbrev pub run_from : CoreData → Configuration → List ℕ → Configuration
+run_from core c [] = c
+run_from core c (i ∷ is) = followed (λ next. run_from core next is) c c (step core c i)
+
+-- The configuration after the steps of these actors, from the start.
+abbrev pub after : CoreData → List ℕ → Configuration
+after core list = run_from core (start core) list
+
+-- How the steps end, up to the one that ends the run.
+abbrev pub outcomes_from : CoreData → Configuration → List ℕ → List Outcome
+outcomes_from core c [] = []
+outcomes_from core c (i ∷ is) = (step core c i).0 ∷ followed (λ next. outcomes_from core next is) [] c (step core c i)
+
+abbrev pub outcomes : CoreData → List ℕ → List Outcome
+outcomes core list = outcomes_from core (start core) list

@@ -1,14 +1,9 @@
 -- The output of a run.
 use Rattle.std.specs.Prelude.{ℕ, ◌+◌, Bool, true, false, List, [], ◌∷◌, ◌++◌, length, map, replicate, flat_map, Option, Some, None, codes, decimal, sum}
-use Rattle.std.specs.List.{count_by}
-use Rattle.std.specs.FinMap.{len}
-use Rattle.pc_lists.specs.Texts.{line_end}
+use Rattle.std.specs.{List.count_by, FinMap.len}
+use Rattle.pc_lists.specs.Lists.{line_end}
 use Rattle.pc_core.specs.CoreData.{CoreData}
-use Rattle.pc_semantics.specs.declared.actors.Actor.{Actor}
-use Rattle.pc_semantics.specs.declared.outcome.Outcome.{Outcome}
-use Rattle.pc_semantics.specs.declared.outcome.Outcome.TheVariants.{Moved, Skipped, Lacks, TooLong}
-use Rattle.pc_semantics.specs.Configurations.{Configuration}
-use Rattle.pc_semantics.specs.Runs.{after, outcomes}
+use Rattle.pc_semantics.specs.{declared.actors.Actor.Actor, declared.outcome.Outcome.Outcome, declared.outcome.Outcome.TheVariants.Moved, declared.outcome.Outcome.TheVariants.Skipped, declared.outcome.Outcome.TheVariants.Lacks, declared.outcome.Outcome.TheVariants.TooLong, Configurations.Configuration, Step.after, Step.outcomes}
 
 -- ---- schedules
 

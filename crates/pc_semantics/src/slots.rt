@@ -1,6 +1,6 @@
 //! The slots of a frame.
 ghost use Rattle.std.specs.Prelude.{◌≡◌, ◌++◌, ◌⊎◌, ◌<◌, ◌≤◌, None, Some, length, replicate, slice_get, slice_set, MatchOption, IfOk, OnErr, IfErr, OnOk};
-ghost use Rattle.pc_semantics.specs.Fields.{held as value_of};
+ghost use Rattle.pc_semantics.specs.Calls.{held as value_of};
 
 use pc_heap::Value;
 use std::alloc::{AllocError, AllocFailed};

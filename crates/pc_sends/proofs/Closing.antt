@@ -7,11 +7,10 @@ use Rattle.pc_lists.proofs.Gets.{get_below, get_within, get_front}
 use Rattle.pc_lists.proofs.Elements.{differ_none}
 use Rattle.pc_core.specs.CoreData.{CoreData}
 use Rattle.pc_core.specs.Formed.{Formed}
-use Rattle.pc_lists.specs.Places.{Has}
+use Rattle.pc_lists.specs.Lists.{Has}
 use Rattle.pc_semantics.specs.Configurations.{main_create}
 use Rattle.pc_sends.specs.Growth.{Grown}
-use Rattle.pc_sends.specs.Uses.{UsesMethod}
-use Rattle.pc_sends.specs.Reach.{Reach, first, next}
+use Rattle.pc_sends.specs.Tables.{UsesMethod, Reach, first, next}
 use Rattle.pc_sends.specs.Reached.{Found, IsReach}
 use Rattle.pc_sends.proofs.Grows.{grown_kept}
 use Rattle.pc_sends.proofs.There.{reach_below}

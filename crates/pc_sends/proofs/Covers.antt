@@ -7,7 +7,7 @@ use Rattle.pc_heap.specs.declared.value.Value.{Value}
 use Rattle.pc_heap.specs.declared.value.Value.TheVariants.{Num, Truth, Text, Prim, At}
 use Rattle.pc_core.specs.declared.declarations.Method.{Method}
 use Rattle.pc_core.specs.CoreData.{CoreData}
-use Rattle.pc_lists.specs.Places.{Each}
+use Rattle.pc_lists.specs.Lists.{Each}
 use Rattle.pc_lists.proofs.Options.{bind_some}
 use Rattle.pc_core.specs.Formed.{Formed}
 use Rattle.pc_semantics.specs.declared.actors.Actor.{Actor}
@@ -18,13 +18,10 @@ use Rattle.pc_semantics.specs.declared.outcome.Outcome.{Outcome}
 use Rattle.pc_semantics.specs.declared.outcome.Outcome.TheVariants.{Moved, Skipped, Lacks, TooLong}
 use Rattle.pc_semantics.specs.Configurations.{Configuration, main_create, start_of, start}
 use Rattle.pc_semantics.specs.Around.{Move, Stuck, Overflows, Goes, Writes, Makes, Spawns, Enters, Sends as Sending, Leaves}
-use Rattle.pc_semantics.specs.Tasks.{task_move}
-use Rattle.pc_semantics.specs.Step.{delivered, left, made, around, run_task, printed_text, begun, begin_method, take_first, run_frames, step_of, step}
-use Rattle.pc_semantics.specs.Runs.{followed, run_from, after}
+use Rattle.pc_semantics.specs.Step.{task_move, delivered, left, made, around, run_task, printed_text, begun, begin_method, take_first, run_frames, step_of, step, followed, run_from, after}
 use Rattle.pc_sends.specs.Held.{HeldAt, HeldFrom}
-use Rattle.pc_sends.specs.Running.{running}
-use Rattle.pc_sends.specs.Reach.{Reach, first, next, Posts, Sends, MayWait}
-use Rattle.pc_sends.specs.Laws.{message_of, next_move}
+use Rattle.pc_sends.specs.Tables.{running, Reach, first, next, Posts, Sends, message_of, next_move}
+use Rattle.pc_sends.specs.Found.{MayWait}
 use Rattle.pc_sends.specs.Covering.{ReachCovers, HeldCovers}
 use Rattle.pc_sends.proofs.Homes.{body_in}
 use Rattle.pc_sends.proofs.Moves.{TasksIn, FrameOf, IsThere, Begun, MoveIn}

@@ -5,9 +5,9 @@ use Rattle.std.proofs.lemmas.Option.{same_Some, none-some}
 use Rattle.pc_lists.proofs.Gets.{get_below, get_front, get_push, get_append, get_map, get_range, range_get}
 use Rattle.pc_core.specs.declared.declarations.Method.{Method}
 use Rattle.pc_core.specs.declared.nodes.Node.{Node}
-use Rattle.pc_core.specs.CoreData.{CoreData}
-use Rattle.pc_lists.specs.Places.{Each}
-use Rattle.pc_core.specs.Lookup.{own_nodes, node_end}
+use Rattle.pc_core.specs.CoreData.{CoreData, node_end}
+use Rattle.pc_lists.specs.Lists.{Each}
+use Rattle.pc_core.specs.Further.{own_nodes}
 use Rattle.pc_core.specs.Methods.{PostOrder}
 use Rattle.pc_core.specs.Growing.{children_before}
 use Rattle.pc_lists.proofs.Ranges.{run_within}

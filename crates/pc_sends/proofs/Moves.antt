@@ -3,15 +3,14 @@ use Rattle.std.specs.Prelude.{◌≡◌, ℕ, suc, Bool, true, false, cond, List
 use Rattle.pc_heap.specs.declared.value.Value.{Value}
 use Rattle.pc_core.specs.declared.declarations.Method.{Method}
 use Rattle.pc_core.specs.CoreData.{CoreData}
-use Rattle.pc_lists.specs.Places.{Each}
+use Rattle.pc_lists.specs.Lists.{Each}
 use Rattle.pc_semantics.specs.declared.frames.Frame.{Frame}
 use Rattle.pc_semantics.specs.declared.frames.Task.{Task}
 use Rattle.pc_semantics.specs.declared.frames.Task.TheVariants as task
 use Rattle.pc_semantics.specs.Around.{Move, Stuck, Overflows, Goes, Writes, Makes, Spawns, Enters, Sends, Leaves, with_top, with_stack, with_popped}
 use Rattle.pc_semantics.specs.Children.{evaluations}
 use Rattle.pc_semantics.specs.Evaluation.{item_tasks}
-use Rattle.pc_sends.specs.Uses.{UsesMethod}
-use Rattle.pc_sends.specs.Reach.{Posts}
+use Rattle.pc_sends.specs.Tables.{UsesMethod, Posts}
 use Rattle.pc_sends.proofs.Homes.{NodeIn}
 
 -- ---- frames

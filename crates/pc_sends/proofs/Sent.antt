@@ -12,14 +12,13 @@ use Rattle.pc_core.specs.CoreData.{CoreData}
 use Rattle.pc_core.specs.Formed.{Formed}
 use Rattle.pc_core.specs.Members.{methods_within, method_among}
 use Rattle.pc_core.specs.Nodes.{NamesFit}
-use Rattle.pc_core.specs.Lookup.{NamesMethod}
-use Rattle.pc_lists.specs.Places.{Has}
+use Rattle.pc_core.specs.Further.{NamesMethod}
+use Rattle.pc_lists.specs.Lists.{Has}
 use Rattle.pc_lists.proofs.Bools.{false_true, no_both}
 use Rattle.pc_lists.proofs.Elements.{differ_none}
 use Rattle.pc_lists.proofs.Gets.{get_below, get_within, range_get}
 use Rattle.pc_sends.specs.Growth.{Grown, TurnsBelow, OfSome, Sorts}
-use Rattle.pc_sends.specs.Uses.{is_called, Aims, UsesMethod}
-use Rattle.pc_sends.specs.Reach.{Reach, IsSent, Sends, is_message}
+use Rattle.pc_sends.specs.Tables.{is_called, Aims, UsesMethod, Reach, IsSent, Sends, is_message}
 use Rattle.pc_sends.specs.Reached.{IsMessage, ReachedUses, EntityUses, IsUsed, AreSent}
 use Rattle.pc_sends.proofs.Grows.{grown_same}
 

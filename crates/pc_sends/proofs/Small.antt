@@ -5,12 +5,10 @@ use Rattle.std.proofs.lemmas.Option.{same_Some, none-some}
 use Rattle.pc_tree.specs.Kinds.{is_abstract}
 use Rattle.pc_core.specs.declared.declarations.EntityDef.{EntityDef}
 use Rattle.pc_core.specs.declared.nodes.Node.{Node}
-use Rattle.pc_core.specs.Entities.{IsAbstract}
-use Rattle.pc_core.specs.Lookup.{method_named}
+use Rattle.pc_core.specs.Further.{IsAbstract}
+use Rattle.pc_core.specs.CoreData.{method_named}
 use Rattle.pc_lists.proofs.Bools.{false_true}
-use Rattle.pc_sends.specs.Entities.{MayBe, IsOrConformsTo}
-use Rattle.pc_sends.specs.Uses.{MayCall, Aims, UsesMethod}
-use Rattle.pc_sends.specs.Reach.{Reach, first, Sends}
+use Rattle.pc_sends.specs.Tables.{MayBe, IsOrConformsTo, MayCall, Aims, UsesMethod, Reach, first, Sends}
 use Rattle.pc_sends.specs.Example.{go, never_stops, its_entities, NeverStops}
 
 -- Nothing conforms to an actor.

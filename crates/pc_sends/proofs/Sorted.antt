@@ -8,7 +8,7 @@ use Rattle.std.proofs.lemmas.Option.{slice_get-get_or, get_or_from_slice_get}
 use Rattle.std.proofs.lemmas.List.Sorted.{Contains-permutation, IsPermutation-sym, IsNonDecreasingBy-from_sort}
 use Rattle.std.proofs.lemmas.Map.Keys.{IsDistinct-from_apart, IsDistinct-IsPermutation, IsStrictlyIncreasing-from_distinct, sorted_from_strictly_increasing, below_from_sorted}
 use Rattle.std.proofs.lemmas.Map.Steps.{length-le_from_distinct_below}
-use Rattle.pc_lists.specs.Places.{Each, Has, Differ}
+use Rattle.pc_lists.specs.Lists.{Each, Has, Differ}
 use Rattle.pc_lists.proofs.Gets.{get_below}
 use Rattle.pc_sends.specs.Growth.{Sorts}
 use Rattle.pc_sends.proofs.Grows.{any_iff}

@@ -5,17 +5,17 @@ use Rattle.std.proofs.lemmas.Option.{none-some}
 use Rattle.std.proofs.lemmas.Bool.{cases_lt}
 use Rattle.pc_core.specs.CoreData.{CoreData}
 use Rattle.pc_core.specs.Formed.{Formed}
-use Rattle.pc_lists.specs.Places.{Each, Has, Ascends}
+use Rattle.pc_lists.specs.Lists.{Each, Has, Ascends}
 use Rattle.pc_lists.proofs.Elements.{has_front, has_behind, has_either}
 use Rattle.pc_lists.proofs.Gets.{get_below, get_map, map_get, append_get}
 use Rattle.pc_sends.specs.declared.table.Row.{Row}
 use Rattle.pc_semantics.specs.Configurations.{Configuration, main_create}
 use Rattle.pc_sends.specs.declared.table.Table.{Table}
 use Rattle.pc_sends.specs.Growth.{Grown, OfSome, Sorts}
-use Rattle.pc_sends.specs.Reach.{Sends, MayWait}
+use Rattle.pc_sends.specs.Tables.{Sends, row, RowBefore, InOrder, IsOfActor, IsLater, IsUnsent, IsNever, IsTable, TableTells}
+use Rattle.pc_sends.specs.Found.{MayWait}
 use Rattle.pc_sends.specs.Covering.{ReachCovers}
 use Rattle.pc_sends.specs.Reached.{IsReach, AreSent}
-use Rattle.pc_sends.specs.Tables.{row, RowBefore, InOrder, IsOfActor, IsLater, IsUnsent, IsNever, IsTable, TableTells}
 
 -- ---- rows
 

@@ -4,9 +4,8 @@ use Rattle.std.proofs.Common.{ap, sym, subst, ◌∙◌, arith}
 use Rattle.std.specs.FinMap.{get}
 use Rattle.pc_lists.proofs.Gets.{get_within}
 use Rattle.pc_lists.proofs.Options.{bind_is}
-use Rattle.pc_heap.specs.Objects.{ObjectMap}
+use Rattle.pc_heap.specs.Objects.{ObjectMap, Object}
 use Rattle.pc_heap.specs.declared.value.Address.{Address}
-use Rattle.pc_heap.specs.Object.{Object}
 use Rattle.pc_heap.specs.declared.value.Value.{Value}
 use Rattle.pc_heap.specs.declared.value.Value.TheVariants.{Num, Truth, Text, Prim, At}
 use Rattle.pc_tree.specs.declared.kinds.Op.{Op}
@@ -17,9 +16,8 @@ use Rattle.pc_core.specs.declared.declarations.MethodKind.TheVariants as method
 use Rattle.pc_core.specs.declared.nodes.Node.{Node}
 use Rattle.pc_core.specs.declared.nodes.NodeKind.{NodeKind}
 use Rattle.pc_core.specs.declared.nodes.NodeKind.TheVariants as node
-use Rattle.pc_core.specs.CoreData.{CoreData}
-use Rattle.pc_lists.specs.Places.{Each}
-use Rattle.pc_core.specs.Lookup.{method_named}
+use Rattle.pc_core.specs.CoreData.{CoreData, method_named}
+use Rattle.pc_lists.specs.Lists.{Each}
 use Rattle.pc_core.specs.Nodes.{HasArity}
 use Rattle.pc_core.specs.Formed.{Formed}
 use Rattle.pc_semantics.specs.declared.frames.Frame.{Frame}
@@ -30,16 +28,13 @@ use Rattle.pc_semantics.specs.declared.outcome.Lack.TheVariants as lack
 use Rattle.pc_semantics.specs.Configurations.{own_address, blank_object}
 use Rattle.pc_semantics.specs.Around.{Around, Move, Stuck, Overflows, Goes, Spawns, Sends, with_stack, pushed, none, popped}
 use Rattle.pc_semantics.specs.Children.{evaluations}
-use Rattle.pc_semantics.specs.Evaluation.{push_slot, take_slot, item_tasks, first_then, evaluate, evaluate_node}
-use Rattle.pc_semantics.specs.Fields.{get_value, get_field, get_of, get_from, get_task, put_value, put_field, put_of, put_into, put_task, store, store_task}
+use Rattle.pc_semantics.specs.Evaluation.{push_slot, take_slot, item_tasks, first_then, evaluate, evaluate_node, truth, apply_task, right_side, test_and, test_or, test_task, branch, loop_turn}
+use Rattle.pc_semantics.specs.Calls.{get_value, get_field, get_of, get_from, get_task, put_value, put_field, put_of, put_into, put_task, store, store_task, counted, is_string, text_of, begin_new, make_of, make_task, spawn_of, spawn_task, enter, send, invoke_kind, push_text, invoke_found, invoke_method, invoke_on, invoke_task, leave_object, leave, return_task}
 use Rattle.pc_semantics.specs.Operators.{push_or_lack, of_numbers, of_truths, of_texts, binary, negated}
 use Rattle.pc_caps.specs.Limits.{text_limit}
-use Rattle.pc_semantics.specs.Choices.{truth, apply_task, right_side, test_and, test_or, test_task, branch, loop_turn}
-use Rattle.pc_semantics.specs.Calls.{counted, is_string, text_of, begin_new, make_of, make_task, spawn_of, spawn_task, enter, send, invoke_kind, push_text, invoke_found, invoke_method, invoke_on, invoke_task, leave_object, leave, return_task}
-use Rattle.pc_semantics.specs.Tasks.{at_node, task_move}
+use Rattle.pc_semantics.specs.Step.{at_node, task_move}
 use Rattle.pc_sends.specs.Held.{receiver_child, call_in, IsNoted}
-use Rattle.pc_sends.specs.Uses.{is_called, last_child_of, noted_at, Aims, UsesMethod}
-use Rattle.pc_sends.specs.Reach.{IsSent, Posts}
+use Rattle.pc_sends.specs.Tables.{is_called, last_child_of, noted_at, Aims, UsesMethod, IsSent, Posts}
 use Rattle.pc_sends.proofs.Homes.{NodeIn, children_in, body_in}
 use Rattle.pc_sends.proofs.Moves.{TaskIn, TasksIn, FrameOf, MoveIn, tasks_in, evaluations_in, items_in, cond_in, top_in, popped_in}
 

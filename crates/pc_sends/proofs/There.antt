@@ -6,15 +6,13 @@ use Rattle.std.specs.Str.{bytes_eq}
 use Rattle.pc_lists.proofs.Gets.{get_below}
 use Rattle.pc_core.specs.declared.nodes.NodeKind.{NodeKind}
 use Rattle.pc_core.specs.declared.nodes.NodeKind.TheVariants as nodes
-use Rattle.pc_core.specs.CoreData.{CoreData}
-use Rattle.pc_core.specs.Lookup.{method_named}
+use Rattle.pc_core.specs.CoreData.{CoreData, method_named}
 use Rattle.pc_lists.proofs.Options.{bind_some}
 use Rattle.pc_core.specs.Members.{method_found}
 use Rattle.pc_core.specs.Nodes.{NamesFit}
 use Rattle.pc_core.specs.Formed.{Formed}
 use Rattle.pc_semantics.specs.Configurations.{main_create, number_of_entity}
-use Rattle.pc_sends.specs.Uses.{Aims}
-use Rattle.pc_sends.specs.Reach.{Reach, first, next}
+use Rattle.pc_sends.specs.Tables.{Aims, Reach, first, next}
 use Rattle.pc_sends.proofs.Moves.{IsThere}
 
 module _ (core : CoreData) (ents : List (Option ℕ)) (formed : Formed core) where

@@ -6,16 +6,15 @@ use Rattle.pc_core.specs.declared.declarations.Method.{Method}
 use Rattle.pc_core.specs.declared.nodes.Node.{Node}
 use Rattle.pc_core.specs.declared.nodes.NodeKind.{NodeKind}
 use Rattle.pc_core.specs.declared.nodes.NodeKind.TheVariants as nodes
-use Rattle.pc_core.specs.CoreData.{CoreData}
+use Rattle.pc_core.specs.CoreData.{CoreData, method_named, node_end}
 use Rattle.pc_core.specs.Formed.{Formed}
-use Rattle.pc_core.specs.Lookup.{method_named, own_nodes, node_end}
-use Rattle.pc_lists.specs.Options.{◌>>=◌}
-use Rattle.pc_lists.specs.Places.{Has}
+use Rattle.pc_core.specs.Further.{own_nodes}
+use Rattle.pc_lists.specs.Lists.{◌>>=◌, Has}
 use Rattle.pc_lists.proofs.Options.{bind_some, bind_is, kept}
 use Rattle.pc_lists.proofs.Gets.{get_within, get_range, range_get}
-use Rattle.pc_sends.specs.Entities.{MayBe, ListsMayBe}
+use Rattle.pc_sends.specs.Tables.{MayBe, is_called, MayCall, noted_receiver, Aims, UsesMethod}
+use Rattle.pc_sends.specs.Found.{ListsMayBe, called_in, CallsAreFound}
 use Rattle.pc_sends.specs.Growth.{Grown, OfSome}
-use Rattle.pc_sends.specs.Uses.{is_called, MayCall, called_in, CallsAreFound, noted_receiver, Aims, UsesMethod}
 use Rattle.pc_sends.proofs.Grows.{grown_same, grown_there, grown_kept}
 use Rattle.pc_sends.proofs.Homes.{node_range, own_node, method_there}
 use Rattle.pc_sends.proofs.Listed.{known_below}

@@ -1,15 +1,9 @@
 -- What entities that are noted truthfully promise of every run.
 use Rattle.std.specs.Prelude.{ℕ, List, Option}
-use Rattle.pc_core.specs.CoreData.{CoreData}
-use Rattle.pc_core.specs.Formed.{Formed}
-use Rattle.pc_semantics.specs.Runs.{after}
-use Rattle.pc_sends.specs.Held.{Held}
-use Rattle.pc_core.specs.declared.declarations.Method.{Method}
-use Rattle.pc_lists.specs.Places.{Each}
-use Rattle.pc_semantics.specs.declared.mailbox.Message.{Message}
-use Rattle.pc_semantics.specs.Configurations.{Configuration}
-use Rattle.pc_sends.specs.Reach.{Reach, Sends, MayWait}
-use Rattle.pc_sends.specs.Laws.{IsSending}
+use Rattle.pc_core.specs.{CoreData.CoreData, Formed.Formed, declared.declarations.Method.Method}
+use Rattle.pc_semantics.specs.{Step.after, declared.mailbox.Message.Message, Configurations.Configuration}
+use Rattle.pc_sends.specs.{Held.Held, Tables.Reach, Tables.Sends, Tables.IsSending, Found.MayWait}
+use Rattle.pc_lists.specs.Lists.{Each}
 
 -- What holds at a configuration.
 pub record ReachCovers (core : CoreData) (ents : List (Option ℕ)) (c : Configuration) : Type 0 where

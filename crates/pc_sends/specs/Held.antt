@@ -2,21 +2,13 @@
 -- entity that is noted at the receiver's node.
 -- ---- the call that comes next
 use Rattle.std.specs.Prelude.{◌≡◌, ℕ, List, Option, Some, None, slice_get}
-use Rattle.pc_heap.specs.Objects.{ObjectMap}
-use Rattle.pc_heap.specs.declared.value.Value.{Value}
-use Rattle.pc_core.specs.declared.nodes.NodeKind.{NodeKind}
+use Rattle.pc_heap.specs.{Objects.ObjectMap, declared.value.Value.Value}
+use Rattle.pc_core.specs.{declared.nodes.NodeKind.NodeKind, CoreData.CoreData}
+use Rattle.pc_lists.specs.Lists.{◌>>=◌}
+use Rattle.pc_semantics.specs.{declared.frames.Frame.Frame, declared.frames.Task.Task, Configurations.Configuration, Around.value_entity, Step.run_from, Step.after}
+use Rattle.pc_sends.specs.Tables.{MayBe, last_child_of, noted_at, running}
 use Rattle.pc_core.specs.declared.nodes.NodeKind.TheVariants as node
-use Rattle.pc_core.specs.CoreData.{CoreData}
-use Rattle.pc_lists.specs.Options.{◌>>=◌}
-use Rattle.pc_semantics.specs.declared.frames.Frame.{Frame}
-use Rattle.pc_semantics.specs.declared.frames.Task.{Task}
 use Rattle.pc_semantics.specs.declared.frames.Task.TheVariants as task
-use Rattle.pc_semantics.specs.Configurations.{Configuration}
-use Rattle.pc_semantics.specs.Around.{value_entity}
-use Rattle.pc_semantics.specs.Runs.{run_from, after}
-use Rattle.pc_sends.specs.Entities.{MayBe}
-use Rattle.pc_sends.specs.Uses.{last_child_of, noted_at}
-use Rattle.pc_sends.specs.Running.{running}
 
 abbrev pub invoked : Task → Option ℕ
 invoked (task.Invoke n) = Some n

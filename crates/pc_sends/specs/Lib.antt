@@ -1,11 +1,7 @@
-pub mod Entities
-pub mod Uses
-pub mod Running
 pub mod Held
-pub mod Reach
 pub mod Covering
-pub mod Laws
 pub mod Tables
 pub mod Growth
 pub mod Reached
 pub mod Example
+pub mod Found

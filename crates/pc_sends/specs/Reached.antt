@@ -1,13 +1,11 @@
 -- What has been found of the methods in Reach, and which methods are messages.
 -- ---- Reach
 use Rattle.std.specs.Prelude.{◌≡◌, ◌↔◌, ℕ, ◌<◌, true, List, Option, Some, slice_get}
-use Rattle.pc_core.specs.declared.declarations.Method.{Method}
-use Rattle.pc_core.specs.declared.declarations.MethodKind.TheVariants as method
-use Rattle.pc_core.specs.CoreData.{CoreData}
-use Rattle.pc_lists.specs.Places.{Each, Has, Differ, Ascends}
+use Rattle.pc_core.specs.{declared.declarations.Method.Method, CoreData.CoreData}
+use Rattle.pc_lists.specs.Lists.{Each, Has, Differ, Ascends}
 use Rattle.pc_semantics.specs.Configurations.{main_create}
-use Rattle.pc_sends.specs.Uses.{UsesMethod}
-use Rattle.pc_sends.specs.Reach.{Reach, Sends, is_message}
+use Rattle.pc_sends.specs.Tables.{UsesMethod, Reach, Sends, is_message}
+use Rattle.pc_core.specs.declared.declarations.MethodKind.TheVariants as method
 
 -- Everything found is in Reach, and everything that the first k of the found methods use has been found.
 pub record Found (core : CoreData) (ents : List (Option ℕ)) (k : ℕ) (found : List ℕ) : Type 0 where

@@ -1,8 +1,9 @@
 //! The entities that a value may have.
 ghost use Rattle.std.specs.Prelude.{◌≡◌, ◌↔◌, ◌<◌, ℕ, length, IsTrue, IfOk};
-ghost use Rattle.pc_core.specs.Entities.{IsAbstract};
-ghost use Rattle.pc_lists.specs.Places.{Has};
-ghost use Rattle.pc_sends.specs.Entities as spec;
+ghost use Rattle.pc_core.specs.Further.{IsAbstract};
+ghost use Rattle.pc_lists.specs.Lists.{Has};
+ghost use Rattle.pc_sends.specs.Tables as spec;
+ghost use Rattle.pc_sends.specs.Found as finding;
 
 use pc_caps::List;
 use pc_core::Core;
@@ -76,7 +77,7 @@ fn all_of(alloc: Global, core: &Core, known: u32) -> Result<List<u32>, AllocErro
 
 /// For each entity of the core, the entities that a value may have if it is known to be of it.
 pub(crate) fn list_all(alloc: Global, core: &Core) -> Result<List<List<u32>>, AllocError>
-    ensures { IfOk result (λ lists. spec.ListsMayBe core.now lists) }
+    ensures { IfOk result (λ lists. finding.ListsMayBe core.now lists) }
 {
     core.formed();
     let mut lists = List::new(alloc);

@@ -1,10 +1,9 @@
 //! What an entity's methods send.
 ghost use Rattle.std.specs.Prelude.{◌≡◌, ◌↔◌, ◌≤◌, ℕ, [], length, IsTrue, IfOk, OnOk};
-ghost use Rattle.pc_lists.specs.Places.{Differ, Has};
-ghost use Rattle.pc_sends.specs.Entities.{ListsMayBe};
+ghost use Rattle.pc_lists.specs.Lists.{Differ, Has};
+ghost use Rattle.pc_sends.specs.Found.{ListsMayBe, CallsAreFound};
+ghost use Rattle.pc_sends.specs.Tables.{is_message};
 ghost use Rattle.pc_sends.specs.Growth.{Grown, OfSome, TurnsBelow};
-ghost use Rattle.pc_sends.specs.Uses.{CallsAreFound};
-ghost use Rattle.pc_sends.specs.Reach.{is_message};
 ghost use Rattle.pc_sends.specs.Reached as spec;
 
 use crate::found::Found;

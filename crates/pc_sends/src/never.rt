@@ -1,8 +1,8 @@
 //! What is never sent.
 ghost use Rattle.std.specs.Prelude.{◌≡◌, ◌↔◌, ℕ, Some, IsTrue, IfOk, OnOk, List as Sequence, Option as Choice};
-ghost use Rattle.pc_lists.specs.Places.{Ascends, Has};
+ghost use Rattle.pc_lists.specs.Lists.{Ascends, Has};
 ghost use Rattle.pc_semantics.specs.Configurations as beginning;
-ghost use Rattle.pc_sends.specs.Reach.{Sends};
+ghost use Rattle.pc_sends.specs.Tables.{Sends};
 ghost use Rattle.pc_sends.specs.Tables as spec;
 
 use crate::found::Found;

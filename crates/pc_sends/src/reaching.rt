@@ -1,7 +1,7 @@
 //! Which methods may ever begin or be sent.
 ghost use Rattle.std.specs.Prelude.{◌≡◌, ℕ, [], Some, IfOk, OnOk};
 ghost use Rattle.pc_semantics.specs.Configurations as beginning;
-ghost use Rattle.pc_sends.specs.Entities.{ListsMayBe};
+ghost use Rattle.pc_sends.specs.Found.{ListsMayBe};
 ghost use Rattle.pc_sends.specs.Growth.{Grown};
 ghost use Rattle.pc_sends.specs.Reached as spec;
 

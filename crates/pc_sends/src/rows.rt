@@ -1,8 +1,8 @@
 //! The rows of the table.
 ghost use Rattle.std.specs.Prelude.{◌≡◌, ◌↔◌, ◌++◌, ℕ, map, IfOk, OnOk};
-ghost use Rattle.pc_lists.specs.Places.{Has};
-ghost use Rattle.pc_sends.specs.Entities.{ListsMayBe};
-ghost use Rattle.pc_sends.specs.Reach.{Sends};
+ghost use Rattle.pc_lists.specs.Lists.{Has};
+ghost use Rattle.pc_sends.specs.Found.{ListsMayBe};
+ghost use Rattle.pc_sends.specs.Tables.{Sends};
 ghost use Rattle.pc_sends.specs.Reached.{IsReach};
 ghost use Rattle.pc_sends.specs.Tables as spec;
 

@@ -1,7 +1,7 @@
 //! The table of who sends what.
 ghost use Rattle.std.specs.Prelude.{◌≡◌, ℕ, length, IfOk, List as Sequence};
-ghost use Rattle.pc_semantics.specs.Runs.{after};
-ghost use Rattle.pc_sends.specs.Entities.{ListsMayBe};
+ghost use Rattle.pc_semantics.specs.Step.{after};
+ghost use Rattle.pc_sends.specs.Found.{ListsMayBe};
 ghost use Rattle.pc_sends.specs.Held.{Held};
 ghost use Rattle.pc_sends.specs.Reached.{IsReach};
 ghost use Rattle.pc_sends.specs.Tables as spec;

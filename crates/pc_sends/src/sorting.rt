@@ -1,6 +1,6 @@
 //! Numbers in ascending order.
 ghost use Rattle.std.specs.Prelude.{IfOk};
-ghost use Rattle.pc_lists.specs.Places.{Differ};
+ghost use Rattle.pc_lists.specs.Lists.{Differ};
 ghost use Rattle.pc_sends.specs.Growth.{Sorts};
 
 use crate::found::Found;

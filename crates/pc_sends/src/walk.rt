@@ -1,11 +1,13 @@
 //! A walk over methods, which finds what their nodes may make, spawn or call.
 ghost use Rattle.std.specs.Prelude.{◌≡◌, ◌↔◌, ◌⊎◌, ◌≤◌, ℕ, [], length, slice_get, IsTrue, OnOk};
 ghost use Rattle.std.specs.Option.{option_copied};
-ghost use Rattle.pc_core.specs.Lookup.{node_end, own_nodes};
-ghost use Rattle.pc_lists.specs.Places.{Has};
-ghost use Rattle.pc_sends.specs.Entities.{ListsMayBe};
+ghost use Rattle.pc_core.specs.CoreData.{node_end};
+ghost use Rattle.pc_core.specs.Further.{own_nodes};
+ghost use Rattle.pc_lists.specs.Lists.{Has};
+ghost use Rattle.pc_sends.specs.Found.{ListsMayBe};
 ghost use Rattle.pc_sends.specs.Growth.{Grown, OfSome};
-ghost use Rattle.pc_sends.specs.Uses as spec;
+ghost use Rattle.pc_sends.specs.Tables as spec;
+ghost use Rattle.pc_sends.specs.Found as finding;
 
 use crate::calls::Calls;
 use crate::found::Found;
@@ -43,7 +45,7 @@ fn is_called(kind: MethodKind) -> bool
 
 // The function or behaviour with this name of an entity.
 fn called_in(core: &Core, name: u32, entity: u32) -> Option<u32>
-    ensures { result ≡ spec.called_in core.now name entity }
+    ensures { result ≡ finding.called_in core.now name entity }
 {
     let number = core.method(entity, name)?;
     let method = core.method_at(number)?;
@@ -56,7 +58,7 @@ fn called_in(core: &Core, name: u32, entity: u32) -> Option<u32>
 
 // Finds that function or behaviour.
 fn find_called(core: &Core, name: u32, entity: u32, found: &mut Found) -> Result<(), AllocError>
-    ensures { OnOk result (Grown (λ t. spec.called_in core.now name entity ≡ Some t) found.old found.new) }
+    ensures { OnOk result (Grown (λ t. finding.called_in core.now name entity ≡ Some t) found.old found.new) }
 {
     match called_in(core, name, entity) {
         Some(number) => found.add(number),
@@ -66,7 +68,7 @@ fn find_called(core: &Core, name: u32, entity: u32, found: &mut Found) -> Result
 
 // Finds those of all these entities.
 fn find_all(core: &Core, name: u32, entities: &[u32], found: &mut Found) -> Result<(), AllocError>
-    ensures { OnOk result (Grown (OfSome (λ d t. spec.called_in core.now name d ≡ Some t) entities.now) found.old found.new) }
+    ensures { OnOk result (Grown (OfSome (λ d t. finding.called_in core.now name d ≡ Some t) entities.now) found.old found.new) }
 {
     for entity in entities {
         find_called(core, name, *entity, found)?;
@@ -95,9 +97,9 @@ fn find_targets(noted: &Noted, name: u32, known: u32, found: &mut Found) -> Resu
 // The same, unless such a call has been looked at already.
 fn see_call(noted: &Noted, name: u32, known: u32, walk: &mut Walk) -> Result<(), AllocError>
     requires lists { ListsMayBe noted.now.core.now noted.now.lists.now }
-    requires known { spec.CallsAreFound noted.now.core.now walk.old.calls walk.old.found }
+    requires known { finding.CallsAreFound noted.now.core.now walk.old.calls walk.old.found }
     ensures grown { OnOk result (Grown (spec.MayCall noted.now.core.now name known) walk.old.found walk.new.found) }
-    ensures known { OnOk result (spec.CallsAreFound noted.now.core.now walk.new.calls walk.new.found) }
+    ensures known { OnOk result (finding.CallsAreFound noted.now.core.now walk.new.calls walk.new.found) }
 {
     if walk.calls.has(name, known) {
         return Ok(());
@@ -132,9 +134,9 @@ fn noted_receiver(entities: &[Option<u32>], children: &[u32]) -> Option<u32>
 // Finds what a node may make, spawn or call.
 fn see_node(noted: &Noted, node: &Node, walk: &mut Walk) -> Result<(), AllocError>
     requires lists { ListsMayBe noted.now.core.now noted.now.lists.now }
-    requires known { spec.CallsAreFound noted.now.core.now walk.old.calls walk.old.found }
+    requires known { finding.CallsAreFound noted.now.core.now walk.old.calls walk.old.found }
     ensures grown { OnOk result (Grown (spec.Aims noted.now.core.now noted.now.entities.now node.now.kind node.now.children) walk.old.found walk.new.found) }
-    ensures known { OnOk result (spec.CallsAreFound noted.now.core.now walk.new.calls walk.new.found) }
+    ensures known { OnOk result (finding.CallsAreFound noted.now.core.now walk.new.calls walk.new.found) }
 {
     match node.kind {
         NodeKind::New(number) => walk.found.add(number),
@@ -170,9 +172,9 @@ fn see_node(noted: &Noted, node: &Node, walk: &mut Walk) -> Result<(), AllocErro
 // Finds what these nodes may make, spawn or call.
 fn see_nodes(noted: &Noted, nodes: &[Node], walk: &mut Walk) -> Result<(), AllocError>
     requires lists { ListsMayBe noted.now.core.now noted.now.lists.now }
-    requires known { spec.CallsAreFound noted.now.core.now walk.old.calls walk.old.found }
+    requires known { finding.CallsAreFound noted.now.core.now walk.old.calls walk.old.found }
     ensures grown { OnOk result (Grown (OfSome (λ x t. spec.Aims noted.now.core.now noted.now.entities.now x.kind x.children t) nodes.now) walk.old.found walk.new.found) }
-    ensures known { OnOk result (spec.CallsAreFound noted.now.core.now walk.new.calls walk.new.found) }
+    ensures known { OnOk result (finding.CallsAreFound noted.now.core.now walk.new.calls walk.new.found) }
 {
     for node in nodes {
         see_node(noted, node, walk)?;
@@ -215,9 +217,9 @@ impl Walk {
     /// Finds what a method's nodes may make, spawn or call.
     pub(crate) fn see_method(&mut self, noted: &Noted, number: u32) -> Result<(), AllocError>
         requires lists { ListsMayBe noted.now.core.now noted.now.lists.now }
-        requires known { spec.CallsAreFound noted.now.core.now self.old.calls self.old.found }
+        requires known { finding.CallsAreFound noted.now.core.now self.old.calls self.old.found }
         ensures grown { OnOk result (Grown (spec.UsesMethod noted.now.core.now noted.now.entities.now number) self.old.found self.new.found) }
-        ensures known { OnOk result (spec.CallsAreFound noted.now.core.now self.new.calls self.new.found) }
+        ensures known { OnOk result (finding.CallsAreFound noted.now.core.now self.new.calls self.new.found) }
     {
         noted.core.formed();
         match noted.core.method_at(number) {

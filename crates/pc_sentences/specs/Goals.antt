@@ -1,22 +1,15 @@
 -- Where a child's value goes, and the forms of children in words.
 use Rattle.std.specs.Prelude.{ℕ, Bool, true, false, ◌&&◌, not, [], ◌∷◌, ◌++◌, Option, Some, None, slice_get, if◌then◌else◌, codes}
-use Rattle.pc_caps.specs.Tables.{sendable_form}
-use Rattle.pc_caps.specs.declared.capability.Cap.{Cap}
-use Rattle.pc_caps.specs.declared.capability.Form.{Form}
-use Rattle.pc_caps.specs.declared.capability.Form.TheVariants as form
-use Rattle.pc_core.specs.declared.declarations.Method.{Method}
-use Rattle.pc_core.specs.declared.declarations.ParamInfo.{ParamInfo}
-use Rattle.pc_core.specs.declared.nodes.NodeKind.{NodeKind}
-use Rattle.pc_core.specs.declared.nodes.NodeKind.TheVariants as node
-use Rattle.pc_lists.specs.Texts.{Text}
+use Rattle.pc_caps.specs.{Tables.sendable_form, declared.capability.Cap.Cap, declared.capability.Form.Form}
+use Rattle.pc_core.specs.{declared.declarations.Method.Method, declared.declarations.ParamInfo.ParamInfo, declared.nodes.NodeKind.NodeKind}
+use Rattle.pc_lists.specs.Lists.{Text}
 use Rattle.pc_parts.specs.Parts.{child_role, role_words}
 use Rattle.pc_rules.specs.Calls.{is_behaviour}
-use Rattle.pc_window.specs.Places.{piece_of}
-use Rattle.pc_window.specs.Quoting.{quoted}
-use Rattle.pc_words.specs.Caps.{cap_word, fitting, form_word, form_words, takes_words}
-use Rattle.pc_words.specs.Forms.{name_text, with_article}
-use Rattle.pc_words.specs.Scene.{SceneData}
+use Rattle.pc_window.specs.{Places.piece_of, Quoting.quoted}
+use Rattle.pc_words.specs.{Caps.cap_word, Caps.fitting, Caps.form_word, Caps.form_words, Caps.takes_words, Forms.name_text, Forms.with_article, Scene.SceneData}
 use Rattle.pc_sentences.specs.Stop.{StopData, child_form, node_method, named_member, own_slot}
+use Rattle.pc_caps.specs.declared.capability.Form.TheVariants as form
+use Rattle.pc_core.specs.declared.nodes.NodeKind.TheVariants as node
 
 -- The words for the child with this index.
 unfoldable pub part : StopData → ℕ → Text

@@ -1,34 +1,19 @@
 -- The sentence of a condition that does not hold.
 use Rattle.std.specs.Prelude.{ℕ, Bool, true, false, ◌==◌, [], ◌++◌, Option, Some, None, if◌then◌else◌, codes, decimal}
 use Rattle.pc_ann.specs.declared.annotation.Rule.{Rule}
+use Rattle.pc_caps.specs.{Tables.lift, declared.capability.Cap.Cap, declared.capability.Form.Form}
+use Rattle.pc_conditions.specs.{declared.condition.Condition.Condition, declared.reason.Reason.Reason}
+use Rattle.pc_core.specs.{CoreData.CoreData, declared.declarations.Method.Method, declared.nodes.NodeKind.NodeKind}
+use Rattle.pc_lists.specs.Lists.{Text}
+use Rattle.pc_parts.specs.{Parts.child_role, Parts.shown_node, declared.parts.Role.Role}
+use Rattle.pc_window.specs.{Places.line_and_column, Quoting.piece, Quoting.quoted}
+use Rattle.pc_words.specs.{Caps.cap_word, Caps.form_word, Forms.entity_words, Forms.entity_name, Forms.name_text, Forms.with_article, Lacks.why_not_below, Methods.full_method_name, Scene.child, Scene.is_param, Scene.noted_slot_type}
+use Rattle.pc_sentences.specs.{Goals.goal, Goals.has_form, Goals.part, Goals.part_unfit, Goals.receiver_unfit, Slots.consumed_at, Slots.looped_field, Slots.lost_slot, Stop.StopData, Stop.child_entity, Stop.child_form, Stop.child_type, Stop.node_method, Stop.named_member, Stop.own_entity, Stop.own_field_name, Stop.own_slot, Stop.receiver_child_index, Untyped.reason}
 use Rattle.pc_ann.specs.declared.annotation.Rule.TheVariants as rule
-use Rattle.pc_caps.specs.Tables.{lift}
-use Rattle.pc_caps.specs.declared.capability.Cap.{Cap}
-use Rattle.pc_caps.specs.declared.capability.Form.{Form}
 use Rattle.pc_caps.specs.declared.capability.Form.TheVariants as form
-use Rattle.pc_conditions.specs.declared.condition.Condition.{Condition}
 use Rattle.pc_conditions.specs.declared.condition.Condition.TheVariants as asks
-use Rattle.pc_conditions.specs.declared.reason.Reason.{Reason}
-use Rattle.pc_core.specs.CoreData.{CoreData}
-use Rattle.pc_core.specs.declared.declarations.Method.{Method}
-use Rattle.pc_core.specs.declared.nodes.NodeKind.{NodeKind}
 use Rattle.pc_core.specs.declared.nodes.NodeKind.TheVariants as node
-use Rattle.pc_lists.specs.Texts.{Text}
-use Rattle.pc_parts.specs.Parts.{child_role, shown_node}
-use Rattle.pc_parts.specs.declared.parts.Role.{Role}
 use Rattle.pc_parts.specs.declared.parts.Role.TheVariants as role
-use Rattle.pc_window.specs.Places.{line_and_column}
-use Rattle.pc_window.specs.Quoting.{piece, quoted}
-use Rattle.pc_words.specs.Caps.{cap_word, form_word}
-use Rattle.pc_words.specs.Forms.{entity_words, entity_name, name_text, with_article}
-use Rattle.pc_words.specs.Lacks.{why_not_below}
-use Rattle.pc_words.specs.Methods.{full_method_name}
-use Rattle.pc_words.specs.Scene.{child, is_param, noted_slot_type}
-use Rattle.pc_sentences.specs.Goals.{goal, has_form, part, part_unfit, receiver_unfit}
-use Rattle.pc_sentences.specs.Slots.{consumed_at, looped_field, lost_slot}
-use Rattle.pc_sentences.specs.Stop.{StopData, child_entity, child_form, child_type, node_method, named_member, own_entity, own_field_name, own_slot}
-use Rattle.pc_sentences.specs.Stop.{receiver_child_index}
-use Rattle.pc_sentences.specs.Untyped.{reason}
 
 -- ---- about a child
 

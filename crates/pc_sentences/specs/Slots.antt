@@ -2,13 +2,11 @@
 use Rattle.std.specs.Prelude.{ℕ, zero, suc, ◌+◌, Bool, false, ◌&&◌, not, nat_eq, List, [], ◌∷◌, take, Option, Some, None, slice_get, if◌then◌else◌}
 use Rattle.pc_ann.specs.declared.annotation.Note.{Note}
 use Rattle.pc_caps.specs.Limits.{field_limit, slot_limit}
-use Rattle.pc_core.specs.declared.nodes.Node.{Node}
-use Rattle.pc_core.specs.declared.nodes.NodeKind.{NodeKind}
-use Rattle.pc_core.specs.declared.nodes.NodeKind.TheVariants as node
-use Rattle.pc_masks.specs.Masks.{has}
-use Rattle.pc_masks.specs.declared.mask.Mask.{Mask}
+use Rattle.pc_core.specs.{declared.nodes.Node.Node, declared.nodes.NodeKind.NodeKind}
+use Rattle.pc_masks.specs.{Masks.has, declared.mask.Mask.Mask}
 use Rattle.pc_words.specs.Scene.{child}
 use Rattle.pc_sentences.specs.Stop.{StopData}
+use Rattle.pc_core.specs.declared.nodes.NodeKind.TheVariants as node
 
 -- ---- where a slot is consumed
 

@@ -1,20 +1,13 @@
 -- A node at which no rule holds, and what can be read from it.
 use Rattle.std.specs.Prelude.{ℕ, ◌-◌, [], length, Option, Some, None, slice_get}
 use Rattle.pc_caps.specs.declared.capability.Form.{Form}
-use Rattle.pc_caps.specs.declared.capability.Form.TheVariants as form
-use Rattle.pc_core.specs.CoreData.{CoreData}
-use Rattle.pc_core.specs.declared.declarations.EntityDef.{EntityDef}
-use Rattle.pc_core.specs.declared.declarations.FieldInfo.{FieldInfo}
-use Rattle.pc_core.specs.declared.declarations.Method.{Method}
-use Rattle.pc_core.specs.declared.nodes.Node.{Node}
-use Rattle.pc_core.specs.declared.nodes.NodeKind.{NodeKind}
-use Rattle.pc_core.specs.declared.nodes.NodeKind.TheVariants as node
-use Rattle.pc_lists.specs.Options.{◌>>=◌}
-use Rattle.pc_lists.specs.Texts.{Text}
+use Rattle.pc_core.specs.{CoreData.CoreData, declared.declarations.EntityDef.EntityDef, declared.declarations.FieldInfo.FieldInfo, declared.declarations.Method.Method, declared.nodes.Node.Node, declared.nodes.NodeKind.NodeKind}
+use Rattle.pc_lists.specs.Lists.{◌>>=◌, Text}
 use Rattle.pc_masks.specs.declared.mask.Mask.{Mask}
 use Rattle.pc_parts.specs.Members.{node_callee}
-use Rattle.pc_words.specs.Forms.{entity_name, name_text}
-use Rattle.pc_words.specs.Scene.{SceneData, child, slot_name, noted_type}
+use Rattle.pc_words.specs.{Forms.entity_name, Forms.name_text, Scene.SceneData, Scene.child, Scene.slot_name, Scene.noted_type}
+use Rattle.pc_caps.specs.declared.capability.Form.TheVariants as form
+use Rattle.pc_core.specs.declared.nodes.NodeKind.TheVariants as node
 
 -- The node, its number, and the masks before it.
 pub record StopData : Type 0 where

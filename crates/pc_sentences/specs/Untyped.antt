@@ -2,18 +2,14 @@
 use Rattle.std.specs.Prelude.{ℕ, zero, suc, [], ◌++◌, length, Option, Some, None, slice_get, if◌then◌else◌, codes}
 use Rattle.std.specs.Option.{is_none}
 use Rattle.pc_caps.specs.declared.capability.Form.{Form}
-use Rattle.pc_core.specs.CoreData.{CoreData}
-use Rattle.pc_core.specs.declared.declarations.Method.{Method}
-use Rattle.pc_core.specs.declared.nodes.Node.{Node}
-use Rattle.pc_core.specs.declared.nodes.NodeKind.{NodeKind}
-use Rattle.pc_core.specs.declared.nodes.NodeKind.TheVariants as node
-use Rattle.pc_lists.specs.Texts.{Text}
+use Rattle.pc_core.specs.{CoreData.CoreData, declared.declarations.Method.Method, declared.nodes.Node.Node, declared.nodes.NodeKind.NodeKind}
+use Rattle.pc_lists.specs.Lists.{Text}
 use Rattle.pc_rules.specs.Parts.{last_child}
 use Rattle.pc_window.specs.Quoting.{quoted}
-use Rattle.pc_words.specs.Forms.{name_text, type_words}
-use Rattle.pc_words.specs.Scene.{SceneData, child, slot_name, noted_type}
+use Rattle.pc_words.specs.{Forms.name_text, Forms.type_words, Scene.SceneData, Scene.child, Scene.slot_name, Scene.noted_type}
 use Rattle.pc_parts.specs.Members.{node_callee}
 use Rattle.pc_sentences.specs.declared.untyped.Step.{Step}
+use Rattle.pc_core.specs.declared.nodes.NodeKind.TheVariants as node
 use Rattle.pc_sentences.specs.declared.untyped.Step.TheVariants as step
 
 -- ---- a step to the part because of which a node has no type

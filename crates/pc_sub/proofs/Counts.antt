@@ -6,10 +6,9 @@ use Rattle.std.proofs.lemmas.Option.{same_Some, slice_get_read}
 use Rattle.pc_lists.proofs.Gets.{get_within, get_range}
 use Rattle.pc_core.specs.declared.declarations.Method.{Method}
 use Rattle.pc_core.specs.declared.nodes.Slot.{Slot}
-use Rattle.pc_core.specs.CoreData.{CoreData}
-use Rattle.pc_core.specs.Lookup.{own_slots}
+use Rattle.pc_core.specs.CoreData.{CoreData, own_slots}
 use Rattle.pc_core.specs.Methods.{SlotsFit}
-use Rattle.pc_core.specs.MethodKinds.{this_slot, param_slot}
+use Rattle.pc_core.specs.Entities.{this_slot, param_slot}
 use Rattle.pc_core.specs.Formed.{Formed}
 
 -- The last parameter has a slot.

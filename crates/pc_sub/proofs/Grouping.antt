@@ -4,8 +4,7 @@ use Rattle.std.proofs.Common.{inl, inr, sym, ap, subst, ◌∙◌, arith}
 use Rattle.std.proofs.lemmas.Bool.{cases_eq}
 use Rattle.std.proofs.lemmas.List.{length-set, length_push, set-set}
 use Rattle.std.proofs.lemmas.Option.{same_Some, none-some, slice_get-get_or, get_or_from_slice_get}
-use Rattle.pc_lists.specs.Options.{◌>>=◌}
-use Rattle.pc_lists.specs.Places.{Each, Has}
+use Rattle.pc_lists.specs.Lists.{◌>>=◌, Each, Has}
 use Rattle.pc_lists.proofs.Gets.{get_below, get_behind, get_front, get_push, get_set, get_set_same, get_set_other}
 use Rattle.pc_lists.proofs.Options.{bind_some}
 use Rattle.pc_core.specs.declared.declarations.Method.{Method}

@@ -2,7 +2,7 @@
 use Rattle.std.specs.Prelude.{◌≡◌, ◌⊎◌, ◌↔◌, ℕ, ◌+◌, ◌<◌, ◌≤◌, List, length, Some, slice_get}
 use Rattle.std.proofs.Common.{inl, inr, sym, ap, ◌∙◌, arith}
 use Rattle.std.proofs.lemmas.Option.{same_Some}
-use Rattle.pc_lists.specs.Places.{Has}
+use Rattle.pc_lists.specs.Lists.{Has}
 use Rattle.pc_lists.proofs.Gets.{get_below}
 use Rattle.pc_sub.proofs.Grouping.{split}
 

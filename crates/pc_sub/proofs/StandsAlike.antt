@@ -2,15 +2,13 @@
 use Rattle.std.specs.Prelude.{◌≡◌, ℕ, List, map, length, Some, slice_get}
 use Rattle.std.proofs.Common.{sym, ap, subst, ◌∙◌}
 use Rattle.std.proofs.lemmas.List.{length-map}
-use Rattle.pc_caps.specs.Order.{IsBelow}
-use Rattle.pc_caps.specs.Tables.{unalias}
+use Rattle.pc_caps.specs.Tables.{IsBelow, unalias}
 use Rattle.pc_caps.specs.declared.capability.Cap.{Cap}
 use Rattle.pc_caps.specs.declared.capability.Form.{Form}
 use Rattle.pc_core.specs.declared.declarations.Method.{Method}
 use Rattle.pc_core.specs.declared.declarations.ParamInfo.{ParamInfo}
 use Rattle.pc_core.specs.CoreData.{CoreData}
-use Rattle.pc_core.specs.Chain.{Chain}
-use Rattle.pc_core.specs.Conforms.{StandsFor, HasFor}
+use Rattle.pc_core.specs.Conforms.{Chain, StandsFor, HasFor}
 use Rattle.pc_lists.proofs.Gets.{get_map, map_get}
 use Rattle.pc_sub.specs.Alike.{Alike, param_type}
 

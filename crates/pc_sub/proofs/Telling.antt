@@ -5,14 +5,14 @@ use Rattle.std.proofs.lemmas.Bool.{cases_eq}
 use Rattle.std.proofs.lemmas.List.{length-set}
 use Rattle.std.proofs.lemmas.Option.{same_Some, none-some}
 use Rattle.pc_masks.specs.declared.mask.Mask.{Mask}
-use Rattle.pc_lists.specs.Places.{Each, Has}
+use Rattle.pc_lists.specs.Lists.{Each, Has}
 use Rattle.pc_lists.proofs.Gets.{get_below, get_range, get_set_same, get_set_other, range_get}
 use Rattle.pc_core.specs.declared.declarations.EntityDef.{EntityDef}
 use Rattle.pc_core.specs.declared.declarations.Method.{Method}
 use Rattle.pc_core.specs.CoreData.{CoreData}
 use Rattle.pc_core.specs.Conforming.{TellsConforming}
 use Rattle.pc_core.specs.Conforms.{Conforms, HasFor}
-use Rattle.pc_core.specs.Entities.{IsAbstract}
+use Rattle.pc_core.specs.Further.{IsAbstract}
 use Rattle.pc_core.specs.EntitySets.{Holds, IsSetOf}
 use Rattle.pc_core.specs.Formed.{Formed}
 use Rattle.pc_core.specs.Members.{method_among}

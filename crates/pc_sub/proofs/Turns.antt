@@ -8,7 +8,6 @@ use Rattle.pc_core.specs.declared.declarations.Method.{Method}
 use Rattle.pc_core.specs.declared.declarations.ParamInfo.{ParamInfo}
 use Rattle.pc_core.specs.CoreData.{CoreData}
 use Rattle.pc_sub.specs.declared.faults.DeclFault.{DeclFault}
-use Rattle.pc_sub.specs.Conforms as conform
 use Rattle.pc_sub.specs.DeclarationFaults as spec
 use Rattle.pc_sub.specs.Faults.{passed, stopped}
 use Rattle.pc_lists.proofs.Cuts.{drop_item, item_first}
@@ -28,13 +27,13 @@ parameters_pass xs ys n i x same l e h = sym (ap (λ zs. slice_get (spec.paramet
 -- ---- the methods of a trait or an interface
 
 abbrev pub method_faults : CoreData → ℕ → ℕ → Method → List DeclFault
-method_faults core e n t = conform.conformance_faults core e n t (conform.method_like core e t)
+method_faults core e n t = spec.conformance_faults core e n t (spec.method_like core e t)
 
-pub methods_stop : (core : CoreData) (e : ℕ) (xs : List Method) (n i : ℕ) (x : Method) (f : DeclFault) → i < length xs → x ≡ get_or xs i x → slice_get (method_faults core e n x) 0 ≡ Some f → slice_get (conform.trait_faults core e n (drop i xs)) 0 ≡ Some f
-methods_stop core e xs n i x f l g h = ap (λ ys. slice_get (conform.trait_faults core e n ys) 0) (item_first xs i x l g) ∙ stopped (method_faults core e n x) _ f h
+pub methods_stop : (core : CoreData) (e : ℕ) (xs : List Method) (n i : ℕ) (x : Method) (f : DeclFault) → i < length xs → x ≡ get_or xs i x → slice_get (method_faults core e n x) 0 ≡ Some f → slice_get (spec.trait_faults core e n (drop i xs)) 0 ≡ Some f
+methods_stop core e xs n i x f l g h = ap (λ ys. slice_get (spec.trait_faults core e n ys) 0) (item_first xs i x l g) ∙ stopped (method_faults core e n x) _ f h
 
-pub methods_pass : (core : CoreData) (e : ℕ) (xs : List Method) (n i : ℕ) (x : Method) → i < length xs → x ≡ get_or xs i x → slice_get (method_faults core e n x) 0 ≡ None → slice_get (conform.trait_faults core e (n + 1) (drop (i + 1) xs)) 0 ≡ slice_get (conform.trait_faults core e n (drop i xs)) 0
-methods_pass core e xs n i x l g h = sym (ap (λ ys. slice_get (conform.trait_faults core e n ys) 0) (item_first xs i x l g) ∙ passed (method_faults core e n x) _ h)
+pub methods_pass : (core : CoreData) (e : ℕ) (xs : List Method) (n i : ℕ) (x : Method) → i < length xs → x ≡ get_or xs i x → slice_get (method_faults core e n x) 0 ≡ None → slice_get (spec.trait_faults core e (n + 1) (drop (i + 1) xs)) 0 ≡ slice_get (spec.trait_faults core e n (drop i xs)) 0
+methods_pass core e xs n i x l g h = sym (ap (λ ys. slice_get (spec.trait_faults core e n ys) 0) (item_first xs i x l g) ∙ passed (method_faults core e n x) _ h)
 
 -- ---- the traits and interfaces of an `is` list
 
@@ -43,7 +42,7 @@ number_item : (xs : List ℕ) (i b : ℕ) → i < length xs → b ≡ get_or xs 
 number_item xs i b l g = slice_get-get_or xs i 0 l ∙ ap Some (sym g)
 
 abbrev pub trait_faults : CoreData → ℕ → ℕ → List DeclFault
-trait_faults core e b = conform.conform_faults core e (slice_get core.entities b)
+trait_faults core e b = spec.conform_faults core e (slice_get core.entities b)
 
 pub traits_stop : (core : CoreData) (e : ℕ) (xs : List ℕ) (i b : ℕ) (f : DeclFault) → i < length xs → b ≡ get_or xs i 0 → slice_get (trait_faults core e b) 0 ≡ Some f → slice_get (spec.list_faults core e (drop i xs)) 0 ≡ Some f
 traits_stop core e xs i b f l g h = ap (λ ys. slice_get (spec.list_faults core e ys) 0) (drop_item xs i b (number_item xs i b l g)) ∙ stopped (trait_faults core e b) _ f h
@@ -65,7 +64,7 @@ entities_pass core xs ys n i x bs same l g own h =
 
 -- ---- fewer parameters than the declared method
 
-pub too_few : (core : CoreData) (ps qs : List ParamInfo) → 0 < length ps → length qs < 1 → conform.params_fit core ps qs ≡ false
+pub too_few : (core : CoreData) (ps qs : List ParamInfo) → 0 < length ps → length qs < 1 → spec.params_fit core ps qs ≡ false
 too_few core [] qs l m = absurd (omega (arith, l))
 too_few core (p ∷ ps) [] l m = refl
 too_few core (p ∷ ps) (q ∷ qs) l m = absurd (omega (arith, m))

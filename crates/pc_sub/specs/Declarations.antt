@@ -1,14 +1,31 @@
--- When the declarations of a core fit each other.
-use Rattle.std.specs.Prelude.{◌≡◌, Bool, true, false}
-use Rattle.pc_caps.specs.Tables.{sendable}
-use Rattle.pc_caps.specs.declared.capability.Form.{Form}
+-- When an entity is below another, and when the declarations of a core fit each other.
+use Rattle.std.specs.Prelude.{◌≡◌, ◌⊎◌, ℕ, Bool, true, false, Some, slice_get}
+use Rattle.pc_tree.specs.declared.kinds.EntityKind.{EntityKind}
+use Rattle.pc_core.specs.{declared.declarations.EntityDef.EntityDef, CoreData.CoreData, Conforms.Chain, Conforms.Conforms, declared.declarations.Method.Method, declared.declarations.MethodKind.MethodKind}
+use Rattle.pc_caps.specs.{Tables.sendable, declared.capability.Form.Form}
+use Rattle.pc_lists.specs.Lists.{Each}
+use Rattle.pc_tree.specs.declared.kinds.EntityKind.TheVariants as kind
 use Rattle.pc_caps.specs.declared.capability.Form.TheVariants as form
-use Rattle.pc_core.specs.declared.declarations.Method.{Method}
-use Rattle.pc_core.specs.declared.declarations.MethodKind.{MethodKind}
 use Rattle.pc_core.specs.declared.declarations.MethodKind.TheVariants as method
-use Rattle.pc_core.specs.CoreData.{CoreData}
-use Rattle.pc_lists.specs.Places.{Each}
-use Rattle.pc_core.specs.Conforms.{Conforms}
+
+-- For these kinds, an entity is below another that it does not name if it has the methods.
+abbrev pub is_structural : EntityKind → Bool
+is_structural kind.Class = false
+is_structural kind.Actor = false
+is_structural kind.Primitive = false
+is_structural kind.Trait = false
+is_structural kind.Interface = true
+
+abbrev pub IsInterface : CoreData → ℕ → Type 0
+IsInterface core e = (x : EntityDef) × (slice_get core.entities e ≡ Some x) × (is_structural x.kind ≡ true)
+
+-- The entities are the same, a chain of `is` leads from the first to the second, or the second is an interface to which
+-- the first conforms (nominal and structural subtyping, in the Pony tutorial). It need not be transitive, since
+-- conformance compares entities by chains alone.
+abbrev pub Sub : CoreData → (entity above : ℕ) → Type 0
+Sub core a b = Chain core a b ⊎ (IsInterface core b × Conforms core a b)
+
+-- ---- when the declarations of a core fit each other
 
 -- The results of a class's constructor for which its parameters must be sendable.
 abbrev pub isolates : Form → Bool

@@ -2,20 +2,14 @@
 -- interface. Only the lists that are used are filled in.
 use Rattle.std.specs.Prelude.{◌≡◌, ℕ, true, false, List, [], ◌∷◌, None, Some}
 use Rattle.pc_caps.specs.declared.capability.Cap.{Cap}
+use Rattle.pc_tree.specs.declared.kinds.EntityKind.{EntityKind}
+use Rattle.pc_core.specs.{declared.declarations.EntityDef.EntityDef, declared.declarations.Method.Method, declared.declarations.MethodKind.MethodKind, declared.declarations.ParamInfo.ParamInfo, CoreData.CoreData, Entities.nowhere}
+use Rattle.pc_sub.specs.{DeclarationFaults.first_fault, Computed.is_sub}
 use Rattle.pc_caps.specs.declared.capability.Cap.TheVariants as cap
 use Rattle.pc_caps.specs.declared.capability.Form.TheVariants as form
-use Rattle.pc_tree.specs.declared.kinds.EntityKind.{EntityKind}
 use Rattle.pc_tree.specs.declared.kinds.EntityKind.TheVariants as kind
-use Rattle.pc_core.specs.declared.declarations.EntityDef.{EntityDef}
-use Rattle.pc_core.specs.declared.declarations.Method.{Method}
-use Rattle.pc_core.specs.declared.declarations.MethodKind.{MethodKind}
 use Rattle.pc_core.specs.declared.declarations.MethodKind.TheVariants as method
-use Rattle.pc_core.specs.declared.declarations.ParamInfo.{ParamInfo}
-use Rattle.pc_core.specs.CoreData.{CoreData}
-use Rattle.pc_core.specs.Entities.{nowhere}
 use Rattle.pc_sub.specs.declared.faults.DeclFault.TheVariants as fault
-use Rattle.pc_sub.specs.DeclarationFaults.{first_fault}
-use Rattle.pc_sub.specs.Computed.{is_sub}
 
 -- An entity with these traits, and this number of methods from a number on.
 abbrev pub entity : EntityKind → List ℕ → (first count : ℕ) → EntityDef

@@ -1,32 +1,19 @@
 -- There is no fault iff the declarations fit.
-use Rattle.std.specs.Prelude.{◌≡◌, ℕ, zero, suc, ◌+◌, ◌-◌, ◌<◌, ◌≤◌, Bool, true, false, cond, List, [], ◌∷◌, ◌++◌, map, length, Option, Some, None, slice_get, refl}
 use Rattle.std.proofs.Common.{ap, sym, subst, ◌∙◌, arith}
 use Rattle.std.proofs.lemmas.Bool.{and_parts, and_from}
 use Rattle.std.proofs.lemmas.List.{length-map}
 use Rattle.std.proofs.lemmas.Option.{same_Some, none-some, cond_some}
-use Rattle.pc_caps.specs.Closure.{below_iff}
 use Rattle.pc_lists.proofs.Gets.{get_below, get_append, get_map, range_get}
-use Rattle.pc_caps.specs.Tables.{unalias, sendable}
-use Rattle.pc_core.specs.declared.declarations.EntityDef.{EntityDef}
-use Rattle.pc_core.specs.declared.declarations.Method.{Method}
-use Rattle.pc_core.specs.declared.declarations.MethodKind.{MethodKind}
-use Rattle.pc_core.specs.declared.declarations.MethodKind.TheVariants as method
-use Rattle.pc_core.specs.declared.declarations.ParamInfo.{ParamInfo}
-use Rattle.pc_core.specs.CoreData.{CoreData}
-use Rattle.pc_lists.specs.Places.{Each}
-use Rattle.pc_lists.specs.Options.{◌>>=◌}
-use Rattle.pc_core.specs.Lookup.{own_methods, field_name, method_name, method_named, IsMethod}
-use Rattle.pc_core.specs.Formed.{Formed}
-use Rattle.pc_core.specs.Members.{method_among, method_found, method_missed}
 use Rattle.pc_lists.proofs.Options.{bind_some}
-use Rattle.pc_sub.specs.declared.faults.DeclFault.{DeclFault}
+use Rattle.std.specs.Prelude.{◌≡◌, ℕ, zero, suc, ◌+◌, ◌-◌, ◌<◌, ◌≤◌, Bool, true, false, cond, List, [], ◌∷◌, ◌++◌, map, length, Option, Some, None, slice_get, refl}
+use Rattle.pc_caps.specs.{Closure.below_iff, Tables.unalias, Tables.sendable}
+use Rattle.pc_core.specs.{declared.declarations.EntityDef.EntityDef, declared.declarations.Method.Method, declared.declarations.MethodKind.MethodKind, declared.declarations.ParamInfo.ParamInfo, CoreData.CoreData, CoreData.own_methods, CoreData.field_name, CoreData.method_name, CoreData.method_named, CoreData.IsMethod, Formed.Formed, Members.method_among, Members.method_found, Members.method_missed, Conforms.ParamFits, Conforms.StandsFor, Conforms.HasFor, Conforms.Conforms}
+use Rattle.pc_lists.specs.Lists.{Each, ◌>>=◌}
+use Rattle.pc_sub.specs.{declared.faults.DeclFault.DeclFault, Above.is_chain_iff, DeclarationLaws.NoFaultWhereFit}
+use Rattle.pc_core.specs.declared.declarations.MethodKind.TheVariants as method
 use Rattle.pc_sub.specs.declared.faults.DeclFault.TheVariants as fault
-use Rattle.pc_sub.specs.Above.{is_chain_iff}
-use Rattle.pc_core.specs.Conforms.{ParamFits, StandsFor, HasFor, Conforms}
-use Rattle.pc_sub.specs.Conforms as conform
+use Rattle.pc_sub.specs.DeclarationFaults as conform
 use Rattle.pc_sub.specs.Declarations as spec
-use Rattle.pc_sub.specs.DeclarationFaults as faults
-use Rattle.pc_sub.specs.DeclarationLaws.{NoFaultWhereFit}
 
 -- ---- lists of faults
 
@@ -69,24 +56,24 @@ unlooked false xs e = refl
 
 -- ---- what must be sendable
 
-sent_all : (m i : ℕ) (ps : List ParamInfo) → Clean (faults.not_sendable m i ps) → Each (λ j p. sendable p.cap ≡ true) ps
+sent_all : (m i : ℕ) (ps : List ParamInfo) → Clean (conform.not_sendable m i ps) → Each (λ j p. sendable p.cap ≡ true) ps
 sent_all m i [] e j p g = absurd (none-some p g)
 sent_all m i (q ∷ ps) e zero p g = subst (λ (r : ParamInfo). sendable r.cap ≡ true) (same_Some q p g) (unless (sendable q.cap) _ (both _ _ e).0)
 sent_all m i (q ∷ ps) e (suc j) p g = sent_all m (i + 1) ps (both _ _ e).1 j p g
 
-all_sent : (m i : ℕ) (ps : List ParamInfo) → Each (λ j p. sendable p.cap ≡ true) ps → Clean (faults.not_sendable m i ps)
+all_sent : (m i : ℕ) (ps : List ParamInfo) → Each (λ j p. sendable p.cap ≡ true) ps → Clean (conform.not_sendable m i ps)
 all_sent m i [] h = refl
 all_sent m i (q ∷ ps) h = together _ _ (held (sendable q.cap) _ (h 0 q refl)) (all_sent m (i + 1) ps (λ j p g. h (suc j) p g))
 
-takes_all : (m : ℕ) (xs : List Method) → Clean (faults.parameter_faults m xs) → Each (λ k x. spec.TakesSendable x) xs
+takes_all : (m : ℕ) (xs : List Method) → Clean (conform.parameter_faults m xs) → Each (λ k x. spec.TakesSendable x) xs
 takes_all m [] e k x g = absurd (none-some x g)
 takes_all m (y ∷ ys) e zero x g = subst spec.TakesSendable (same_Some y x g) (λ h. sent_all m 0 y.params (looked (spec.takes_sendable y.kind y.result.1) _ (both _ _ e).0 h))
 takes_all m (y ∷ ys) e (suc k) x g = takes_all (m + 1) ys (both _ _ e).1 k x g
 
-all_take : (m : ℕ) (xs : List Method) → Each (λ k x. spec.TakesSendable x) xs → Clean (faults.parameter_faults m xs)
+all_take : (m : ℕ) (xs : List Method) → Each (λ k x. spec.TakesSendable x) xs → Clean (conform.parameter_faults m xs)
 all_take m [] h = refl
 all_take m (y ∷ ys) h =
-    together _ _ (unlooked (spec.takes_sendable y.kind y.result.1) (faults.not_sendable m 0 y.params) (λ t. all_sent m 0 y.params (h 0 y refl t)))
+    together _ _ (unlooked (spec.takes_sendable y.kind y.result.1) (conform.not_sendable m 0 y.params) (λ t. all_sent m 0 y.params (h 0 y refl t)))
     (all_take (m + 1) ys (λ k x g. h (suc k) x g))
 
 -- ---- a method that replaces another
@@ -231,17 +218,17 @@ pub conformed : (core : CoreData) (e b : ℕ) (o : Option EntityDef) → Formed 
 conformed core e b None f g h = refl
 conformed core e b (Some y) f g h = has_trait core e y.first_method (own_methods core y) f (h y g)
 
-list_conforms : (core : CoreData) (e : ℕ) (bs : List ℕ) → Formed core → Clean (faults.list_faults core e bs) → Each (λ i b. Conforms core e b) bs
+list_conforms : (core : CoreData) (e : ℕ) (bs : List ℕ) → Formed core → Clean (conform.list_faults core e bs) → Each (λ i b. Conforms core e b) bs
 list_conforms core e [] f c i b g = absurd (none-some b g)
 list_conforms core e (a ∷ bs) f c zero b g = subst (Conforms core e) (same_Some a b g) (conforms core e a (slice_get core.entities a) f refl (both _ _ c).0)
 list_conforms core e (a ∷ bs) f c (suc i) b g = list_conforms core e bs f (both _ _ c).1 i b g
 
-list_conformed : (core : CoreData) (e : ℕ) (bs : List ℕ) → Formed core → Each (λ i b. Conforms core e b) bs → Clean (faults.list_faults core e bs)
+list_conformed : (core : CoreData) (e : ℕ) (bs : List ℕ) → Formed core → Each (λ i b. Conforms core e b) bs → Clean (conform.list_faults core e bs)
 list_conformed core e [] f h = refl
 list_conformed core e (a ∷ bs) f h = together _ _ (conformed core e a (slice_get core.entities a) f refl (h 0 a refl)) (list_conformed core e bs f (λ i b g. h (suc i) b g))
 
 -- Entities, from number n on.
-all_conform : (core : CoreData) (n : ℕ) (xs : List EntityDef) → Formed core → Clean (faults.core_entity_faults core n xs) → Each (λ e x. Each (λ i b. Conforms core (n + e) b) x.provides) xs
+all_conform : (core : CoreData) (n : ℕ) (xs : List EntityDef) → Formed core → Clean (conform.core_entity_faults core n xs) → Each (λ e x. Each (λ i b. Conforms core (n + e) b) x.provides) xs
 all_conform core n [] f c e x g = absurd (none-some x g)
 all_conform core n (y ∷ ys) f c zero x g =
     let at : n ≡ n + 0 = omega arith in
@@ -251,7 +238,7 @@ all_conform core n (y ∷ ys) f c (suc e) x g =
     let at : n + 1 + e ≡ n + suc e = omega arith in
     subst (λ k. Each (λ i b. Conforms core k b) x.provides) at (all_conform core (n + 1) ys f (both _ _ c).1 e x g)
 
-conform_all : (core : CoreData) (n : ℕ) (xs : List EntityDef) → Formed core → Each (λ e x. Each (λ i b. Conforms core (n + e) b) x.provides) xs → Clean (faults.core_entity_faults core n xs)
+conform_all : (core : CoreData) (n : ℕ) (xs : List EntityDef) → Formed core → Each (λ e x. Each (λ i b. Conforms core (n + e) b) x.provides) xs → Clean (conform.core_entity_faults core n xs)
 conform_all core n [] f h = refl
 conform_all core n (y ∷ ys) f h =
     let at : n + 0 ≡ n = omega arith in
@@ -262,11 +249,11 @@ conform_all core n (y ∷ ys) f h =
 
 pub fits_without_fault : NoFaultWhereFit
 fits_without_fault core f = (
-  λ c. let k = both (faults.parameter_faults 0 core.methods) (faults.core_entity_faults core 0 core.entities) c in
+  λ c. let k = both (conform.parameter_faults 0 core.methods) (conform.core_entity_faults core 0 core.entities) c in
       record { sendable = takes_all 0 core.methods k.0; conform = λ e x g. let at : 0 + e ≡ e = omega arith in subst (λ n. Each (λ i b. Conforms core n b) x.provides) at (all_conform core 0 core.entities f k.1 e x g) },
-  λ d. together (faults.parameter_faults 0 core.methods) (faults.core_entity_faults core 0 core.entities) (all_take 0 core.methods d.sendable) (conform_all core 0 core.entities f (λ e x g. let at : e ≡ 0 + e = omega arith in subst (λ n. Each (λ i b. Conforms core n b) x.provides) at (d.conform e x g))),
+  λ d. together (conform.parameter_faults 0 core.methods) (conform.core_entity_faults core 0 core.entities) (all_take 0 core.methods d.sendable) (conform_all core 0 core.entities f (λ e x g. let at : e ≡ 0 + e = omega arith in subst (λ n. Each (λ i b. Conforms core n b) x.provides) at (d.conform e x g))),
 )
 
 -- If a declaration fails, the declarations do not fit.
-pub faulted : (core : CoreData) (x : DeclFault) → Formed core → faults.first_fault core ≡ Some x → spec.DeclOk core → ⊥
+pub faulted : (core : CoreData) (x : DeclFault) → Formed core → conform.first_fault core ≡ Some x → spec.DeclOk core → ⊥
 faulted core x f e d = none-some x (sym ((fits_without_fault core f).1 d) ∙ e)

@@ -1,12 +1,8 @@
 -- The methods of a core in groups of those that are alike.
 use Rattle.std.specs.Prelude.{◌≡◌, ℕ, ◌<◌, ◌≤◌, List, length, Option, Some, slice_get}
-use Rattle.pc_lists.specs.Options.{◌>>=◌}
-use Rattle.pc_lists.specs.Places.{Each, Has}
-use Rattle.pc_core.specs.declared.declarations.Method.{Method}
-use Rattle.pc_core.specs.CoreData.{CoreData}
-use Rattle.pc_core.specs.Conforms.{StandsFor}
-use Rattle.pc_sub.specs.declared.groups.Groups.{Groups}
-use Rattle.pc_sub.specs.Alike.{Alike}
+use Rattle.pc_lists.specs.Lists.{◌>>=◌, Each, Has}
+use Rattle.pc_core.specs.{declared.declarations.Method.Method, CoreData.CoreData, Conforms.StandsFor}
+use Rattle.pc_sub.specs.{declared.groups.Groups.Groups, Alike.Alike}
 
 -- ---- groups
 

@@ -1,6 +1,3 @@
-pub mod Chain
-pub mod Conforms
-pub mod Sub
 pub mod DeclarationLaws
 pub mod Declarations
 pub mod Above

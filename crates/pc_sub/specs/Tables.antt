@@ -1,14 +1,9 @@
 -- How a table of what conforms to what is computed, group by group.
 use Rattle.std.specs.Prelude.{◌≡◌, ◌↔◌, ℕ, ◌<◌, List, length, Some, slice_get}
 use Rattle.pc_masks.specs.declared.mask.Mask.{Mask}
-use Rattle.pc_lists.specs.Places.{Each, Has}
-use Rattle.pc_core.specs.declared.declarations.Method.{Method}
-use Rattle.pc_core.specs.CoreData.{CoreData}
-use Rattle.pc_core.specs.Entities.{IsAbstract}
-use Rattle.pc_core.specs.Conforms.{HasFor}
-use Rattle.pc_core.specs.EntitySets.{Holds, IsSetOf}
-use Rattle.pc_sub.specs.declared.groups.Groups.{Groups}
-use Rattle.pc_sub.specs.Groups.{IsGroup}
+use Rattle.pc_lists.specs.Lists.{Each, Has}
+use Rattle.pc_core.specs.{declared.declarations.Method.Method, CoreData.CoreData, Further.IsAbstract, Conforms.HasFor, EntitySets.Holds, EntitySets.IsSetOf}
+use Rattle.pc_sub.specs.{declared.groups.Groups.Groups, Groups.IsGroup}
 
 -- If a place has this property, its set keeps what another set has too.
 pub record Kept (R : ℕ → Type 0) (other : List Mask) (old new : List (List Mask)) : Type 0 where

@@ -1,8 +1,8 @@
 //! Whether an entity has what a trait or an interface declares.
 ghost use Rattle.std.specs.Prelude.{◌≡◌, ◌↔◌, IsTrue, ◌+◌, ◌<◌, ◌≤◌, ◌^◌, length, slice_get};
 ghost use Rattle.pc_core.specs.Conforms.{Conforms};
-ghost use Rattle.pc_core.specs.Lookup.{own_methods};
-ghost use Rattle.pc_sub.specs.Conforms as spec;
+ghost use Rattle.pc_core.specs.CoreData.{own_methods};
+ghost use Rattle.pc_sub.specs.DeclarationFaults as spec;
 
 use crate::faults::DeclFault;
 use crate::stands::stands_for;

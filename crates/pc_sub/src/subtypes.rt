@@ -1,6 +1,6 @@
 //! The order on entities.
 ghost use Rattle.std.specs.Prelude.{◌≡◌, IsTrue, ◌↔◌, slice_get};
-ghost use Rattle.pc_sub.specs.Sub as spec;
+ghost use Rattle.pc_sub.specs.Declarations as spec;
 ghost use Rattle.pc_sub.specs.Computed as computed;
 
 use crate::chains::is_chain;

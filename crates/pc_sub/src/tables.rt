@@ -1,9 +1,9 @@
 //! The tables used by later calls.
 ghost use Rattle.std.specs.Prelude.{◌≡◌, ◌↔◌, ℕ, ◌+◌, ◌<◌, IfOk, IsTrue, OnOk, length};
 ghost use Rattle.pc_core.specs.Conforming.{TellsConforming};
-ghost use Rattle.pc_core.specs.Entities.{IsAbstract};
+ghost use Rattle.pc_core.specs.Further.{IsAbstract};
 ghost use Rattle.pc_core.specs.EntitySets.{Holds};
-ghost use Rattle.pc_lists.specs.Places.{Each, Has};
+ghost use Rattle.pc_lists.specs.Lists.{Each, Has};
 ghost use Rattle.pc_sub.specs.Groups.{Grouped};
 ghost use Rattle.pc_sub.specs.Tables as spec;
 

@@ -3,21 +3,19 @@ use Rattle.std.specs.Prelude.{◌≡◌, ◌≢◌, ◌<◌, ℕ, Bool, true, fa
 use Rattle.std.proofs.Common.{inl, inr, ap, sym, ◌∙◌, arith}
 use Rattle.std.proofs.lemmas.Option.{none-some}
 use Rattle.std.specs.FinMap.{get}
-use Rattle.pc_heap.specs.Objects.{ObjectMap}
+use Rattle.pc_heap.specs.Objects.{ObjectMap, Object}
 use Rattle.pc_heap.specs.declared.value.Address.{Address}
-use Rattle.pc_heap.specs.Object.{Object}
 use Rattle.pc_core.specs.CoreData.{CoreData}
 use Rattle.pc_semantics.specs.declared.actors.Actor.{Actor}
 use Rattle.pc_semantics.specs.declared.mailbox.Message.{Message}
 use Rattle.pc_semantics.specs.declared.outcome.Outcome.{Outcome}
 use Rattle.pc_semantics.specs.declared.outcome.Outcome.TheVariants.{Moved}
 use Rattle.pc_semantics.specs.Configurations.{Configuration, start}
-use Rattle.pc_semantics.specs.Step.{step}
-use Rattle.pc_semantics.specs.Runs.{followed, run_from, after}
+use Rattle.pc_semantics.specs.Step.{step, followed, run_from, after}
 use Rattle.pc_semantics.specs.Safety.{Race}
 use Rattle.pc_semantics.specs.declared.ahead.Ahead.TheVariants as ahead
-use Rattle.pc_swap.specs.Apart.{Apart}
-use Rattle.pc_swap.specs.Laws.{Swapped, StepsSwap, ListsSwap}
+use Rattle.pc_swap.specs.Apart.{Apart, Swapped}
+use Rattle.pc_swap.specs.Laws.{StepsSwap, ListsSwap}
 use Rattle.pc_events.proofs.Changes.{Heaping, Same, Sets, New, Change, applied, plan}
 use Rattle.pc_events.proofs.Maps.{Fit, Different, heaps_pass}
 use Rattle.pc_events.proofs.Plans.{plans, step_is}

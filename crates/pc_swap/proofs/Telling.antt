@@ -12,8 +12,8 @@ use Rattle.pc_semantics.specs.declared.ahead.Ahead.TheVariants as ahead
 use Rattle.pc_semantics.specs.Ahead.{ahead_of}
 use Rattle.pc_events.specs.AheadLaws.{Agrees}
 use Rattle.pc_events.proofs.Agrees.{ahead_agrees}
-use Rattle.pc_swap.specs.Apart.{Apart}
-use Rattle.pc_swap.specs.Kept.{IsKept, is_moving, one_receiver, two_spawns}
+use Rattle.pc_swap.specs.Apart.{Apart, IsKept}
+use Rattle.pc_swap.specs.Ends.{is_moving, one_receiver, two_spawns}
 use Rattle.pc_swap.specs.declared.kept.Kept.{Kept}
 use Rattle.pc_swap.specs.declared.kept.Kept.TheVariants as kept
 

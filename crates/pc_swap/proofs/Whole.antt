@@ -4,13 +4,12 @@ use Rattle.std.specs.Prelude.{Err, Ok, None, slice_set}
 use Rattle.pc_core.specs.CoreData.{CoreData}
 use Rattle.pc_machine.specs.Machines.{MachineData}
 use Rattle.pc_semantics.specs.Configurations.{Configuration}
-use Rattle.pc_semantics.specs.Runs.{after, outcomes}
+use Rattle.pc_semantics.specs.Step.{after, outcomes}
 use Rattle.pc_semantics.specs.Safety.{Safe}
 use Rattle.pc_semantics.specs.Text.{end_of}
 use Rattle.pc_list_steps.specs.Ends.{IsMachineAfter}
-use Rattle.pc_swap.specs.Apart.{Apart}
-use Rattle.pc_swap.specs.Kept.{IsKept}
-use Rattle.pc_swap.specs.Swapping.{SwapEnds}
+use Rattle.pc_swap.specs.Apart.{Apart, IsKept}
+use Rattle.pc_swap.specs.Ends.{SwapEnds}
 use Rattle.pc_swap.specs.declared.kept.Kept.{Kept}
 use Rattle.pc_swap.specs.declared.kept.SwapFault.TheVariants as fault
 use Rattle.pc_swap.proofs.Places.{taken, first_turn, second_turn, turns_exchanged}

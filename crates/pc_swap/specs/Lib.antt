@@ -1,4 +1,4 @@
 pub mod Apart
-pub mod Kept
-pub mod Laws
 pub mod Swapping
+pub mod Laws
+pub mod Ends

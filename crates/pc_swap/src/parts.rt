@@ -1,7 +1,7 @@
 //! Whether the next steps of two actors are apart.
 ghost use Rattle.std.specs.Prelude.{◌≡◌, ◌≢◌, ◌↔◌, IsOk, MatchResult};
-ghost use Rattle.pc_swap.specs.Apart.{Apart};
-ghost use Rattle.pc_swap.specs.Kept.{IsKept, is_moving, one_receiver, two_spawns};
+ghost use Rattle.pc_swap.specs.Apart.{Apart, IsKept};
+ghost use Rattle.pc_swap.specs.Ends.{is_moving, one_receiver, two_spawns};
 
 use crate::kept::Kept;
 use pc_machine::Machine;

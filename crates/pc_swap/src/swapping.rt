@@ -1,11 +1,11 @@
 //! Two turns of a list are exchanged.
 ghost use Rattle.std.specs.Prelude.{◌≡◌, ◌+◌, ◌-◌, ◌<◌, ◌≤◌, ◌∷◌, ◌++◌, ℕ, length, slice_set, get_or, IfOk, MatchResult, None, List as Sequence};
-ghost use Rattle.pc_semantics.specs.Runs.{outcomes};
+ghost use Rattle.pc_semantics.specs.Step.{outcomes};
 ghost use Rattle.pc_semantics.specs.Safety.{Safe};
 ghost use Rattle.pc_semantics.specs.Text.{end_of};
 ghost use Rattle.pc_machine.specs.Limits.{list_limit};
 ghost use Rattle.pc_list_steps.specs.Ends.{IsMachineAfter};
-ghost use Rattle.pc_swap.specs.Swapping.{FrontStops, SwapEnds};
+ghost use Rattle.pc_swap.specs.Ends.{FrontStops, SwapEnds};
 
 use crate::kept::SwapFault;
 use crate::parts::apart;

@@ -12,8 +12,8 @@ use Rattle.pc_semantics.specs.declared.frames.Frame.{Frame}
 use Rattle.pc_semantics.specs.declared.frames.Task.{Task}
 use Rattle.pc_semantics.specs.declared.frames.Task.TheVariants as task
 use Rattle.pc_semantics.specs.Around.{Move, with_top, with_stack, pop}
-use Rattle.pc_semantics.specs.Fields.{get_from, get_task, put_into, put_task}
-use Rattle.pc_semantics.specs.Tasks.{at_node}
+use Rattle.pc_semantics.specs.Calls.{get_from, get_task, put_into, put_task}
+use Rattle.pc_semantics.specs.Step.{at_node}
 use Rattle.pc_tasks.specs.Inside.{IsInside, amid, seeing, first_move, relieved}
 
 module _ (core : CoreData) (objects : ObjectMap) (i k : ℕ) where

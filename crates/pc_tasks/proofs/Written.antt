@@ -5,20 +5,17 @@ use Rattle.std.specs.FinMap.{get}
 use Rattle.std.proofs.lemmas.Option.{same_Some, none-some}
 use Rattle.pc_lists.proofs.Gets.{get_below, get_within}
 use Rattle.pc_lists.proofs.Lookup.{place_found}
-use Rattle.pc_lists.specs.Lookup.{place_of}
-use Rattle.pc_lists.specs.Options.{◌>>=◌}
-use Rattle.pc_heap.specs.Object.{Object}
-use Rattle.pc_heap.specs.Objects.{ObjectMap, class_in, class_at}
+use Rattle.pc_lists.specs.Lists.{place_of, ◌>>=◌}
+use Rattle.pc_heap.specs.Objects.{Object, ObjectMap, class_in, class_at}
 use Rattle.pc_heap.specs.declared.value.Address.{Address}
 use Rattle.pc_heap.specs.declared.value.Value.{Value}
 use Rattle.pc_heap.specs.declared.value.Value.TheVariants.{At}
-use Rattle.pc_core.specs.CoreData.{CoreData}
-use Rattle.pc_core.specs.Lookup.{field_name, field_named}
+use Rattle.pc_core.specs.CoreData.{CoreData, field_name, field_named}
 use Rattle.pc_core.specs.declared.declarations.EntityDef.{EntityDef}
 use Rattle.pc_semantics.specs.declared.frames.Frame.{Frame}
 use Rattle.pc_semantics.specs.Around.{with_stack, with_top, pop}
 use Rattle.pc_semantics.specs.Configurations.{number_of_fields}
-use Rattle.pc_semantics.specs.Fields.{put_value, put_field, put_of, put_into}
+use Rattle.pc_semantics.specs.Calls.{put_value, put_field, put_of, put_into}
 use Rattle.pc_semantics.specs.declared.ahead.Ahead.TheVariants as ahead
 use Rattle.pc_semantics.specs.Ahead.{by_move}
 use Rattle.pc_tasks.specs.Fielded.{HasFields, Fielded}

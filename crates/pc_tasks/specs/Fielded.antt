@@ -1,9 +1,7 @@
 -- Objects that have exactly the fields of their entities.
 use Rattle.std.specs.Prelude.{◌≡◌, Some, length, slice_get}
 use Rattle.std.specs.FinMap.{get}
-use Rattle.pc_heap.specs.Object.{Object}
-use Rattle.pc_heap.specs.Objects.{ObjectMap}
-use Rattle.pc_heap.specs.declared.value.Address.{Address}
+use Rattle.pc_heap.specs.{Objects.Object, Objects.ObjectMap, declared.value.Address.Address}
 use Rattle.pc_core.specs.CoreData.{CoreData}
 use Rattle.pc_semantics.specs.Configurations.{number_of_fields}
 

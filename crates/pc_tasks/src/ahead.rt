@@ -1,17 +1,14 @@
 //! What the first task of a frame is, before it is done, if it concerns the frame and the objects alone. The functions
 //! only read, and do not allocate.
-ghost use Rattle.std.specs.Prelude.{◌≡◌, ℕ, Bool, slice_get};
+ghost use Rattle.std.specs.Prelude.{◌≡◌, ℕ, Bool, slice_get, List as Sequence};
 ghost use Rattle.pc_semantics.specs.Ahead.{by_move};
-ghost use Rattle.pc_semantics.specs.Around.{pop};
-ghost use Rattle.pc_semantics.specs.Choices as choices;
+ghost use Rattle.pc_semantics.specs.Around.{pop, Goes};
 ghost use Rattle.pc_semantics.specs.Evaluation as evaluation;
-ghost use Rattle.pc_semantics.specs.Fields as fields;
+ghost use Rattle.pc_semantics.specs.Calls as fields;
 ghost use Rattle.pc_semantics.specs.Operators as operators;
-ghost use Rattle.pc_semantics.specs.Tasks.{at_node};
+ghost use Rattle.pc_semantics.specs.Step.{at_node};
 ghost use Rattle.pc_semantics.specs.declared.frames.Frame.{Frame};
 ghost use Rattle.pc_semantics.specs.declared.frames.Task.{Task};
-ghost use Rattle.pc_semantics.specs.Around.{Goes};
-ghost use Rattle.std.specs.Prelude.{List as Sequence};
 ghost use Rattle.pc_tasks.specs.Fielded.{Fielded};
 ghost use Rattle.pc_tasks.specs.Inside.{IsInside, amid, first_move, relieved, seeing};
 
@@ -327,7 +324,7 @@ fn apply_not(frame: &Frame) -> Ahead
 
 // The task Apply of this node.
 fn apply(core: &Core, frame: &Frame, number: u32) -> Ahead
-    ensures { result ≡ by_move (at_node (slice_get core.now.nodes number) (λ x. choices.apply_task (relieved frame.now) x.kind)) }
+    ensures { result ≡ by_move (at_node (slice_get core.now.nodes number) (λ x. evaluation.apply_task (relieved frame.now) x.kind)) }
 {
     let Some(node) = core.node_at(number) else {
         return Ahead::Lacks;
@@ -362,7 +359,7 @@ fn apply(core: &Core, frame: &Frame, number: u32) -> Ahead
 
 // The right side of an `and` or `or` is evaluated.
 fn right_side(children: &[u32]) -> Ahead
-    ensures { (f : Frame) → result ≡ by_move (choices.right_side f children.now) }
+    ensures { (f : Frame) → result ≡ by_move (evaluation.right_side f children.now) }
 {
     match children {
         [_, _] => Ahead::Task,
@@ -372,7 +369,7 @@ fn right_side(children: &[u32]) -> Ahead
 
 // The left side of an `and`.
 fn test_and(frame: &Frame, children: &[u32]) -> Ahead
-    ensures { result ≡ by_move (pop (relieved frame.now) (choices.truth (choices.test_and children.now))) }
+    ensures { result ≡ by_move (pop (relieved frame.now) (evaluation.truth (evaluation.test_and children.now))) }
 {
     let Some(Value::Truth(truth)) = frame.stack.top() else {
         return Ahead::Lacks;
@@ -386,7 +383,7 @@ fn test_and(frame: &Frame, children: &[u32]) -> Ahead
 
 // The left side of an `or`.
 fn test_or(frame: &Frame, children: &[u32]) -> Ahead
-    ensures { result ≡ by_move (pop (relieved frame.now) (choices.truth (choices.test_or children.now))) }
+    ensures { result ≡ by_move (pop (relieved frame.now) (evaluation.truth (evaluation.test_or children.now))) }
 {
     let Some(Value::Truth(truth)) = frame.stack.top() else {
         return Ahead::Lacks;
@@ -400,7 +397,7 @@ fn test_or(frame: &Frame, children: &[u32]) -> Ahead
 
 // The task Test of this node.
 fn test(core: &Core, frame: &Frame, number: u32) -> Ahead
-    ensures { result ≡ by_move (at_node (slice_get core.now.nodes number) (λ x. choices.test_task (relieved frame.now) x.children x.kind)) }
+    ensures { result ≡ by_move (at_node (slice_get core.now.nodes number) (λ x. evaluation.test_task (relieved frame.now) x.children x.kind)) }
 {
     let Some(node) = core.node_at(number) else {
         return Ahead::Lacks;
@@ -435,7 +432,7 @@ fn test(core: &Core, frame: &Frame, number: u32) -> Ahead
 
 // One of two branches is evaluated.
 fn take_branch(frame: &Frame, children: &[u32]) -> Ahead
-    ensures { result ≡ by_move (choices.branch_task (relieved frame.now) children.now) }
+    ensures { result ≡ by_move (evaluation.branch_task (relieved frame.now) children.now) }
 {
     let Some(Value::Truth(_)) = frame.stack.top() else {
         return Ahead::Lacks;
@@ -448,7 +445,7 @@ fn take_branch(frame: &Frame, children: &[u32]) -> Ahead
 
 // The task Branch of this node.
 fn branch(core: &Core, frame: &Frame, number: u32) -> Ahead
-    ensures { result ≡ by_move (at_node (slice_get core.now.nodes number) (λ x. choices.branch_task (relieved frame.now) x.children)) }
+    ensures { result ≡ by_move (at_node (slice_get core.now.nodes number) (λ x. evaluation.branch_task (relieved frame.now) x.children)) }
 {
     match core.node_at(number) {
         Some(node) => take_branch(frame, node.children.as_slice()),
@@ -458,7 +455,7 @@ fn branch(core: &Core, frame: &Frame, number: u32) -> Ahead
 
 // A turn of a `while` with these children, or its end.
 fn turn(frame: &Frame, children: &[u32]) -> Ahead
-    ensures { (n : ℕ) → result ≡ by_move (choices.loop_task (relieved frame.now) n children.now) }
+    ensures { (n : ℕ) → result ≡ by_move (evaluation.loop_task (relieved frame.now) n children.now) }
 {
     let Some(Value::Truth(_)) = frame.stack.top() else {
         return Ahead::Lacks;
@@ -471,7 +468,7 @@ fn turn(frame: &Frame, children: &[u32]) -> Ahead
 
 // The task Loop of this node.
 fn go_round(core: &Core, frame: &Frame, number: u32) -> Ahead
-    ensures { result ≡ by_move (at_node (slice_get core.now.nodes number) (λ x. choices.loop_task (relieved frame.now) number x.children)) }
+    ensures { result ≡ by_move (at_node (slice_get core.now.nodes number) (λ x. evaluation.loop_task (relieved frame.now) number x.children)) }
 {
     match core.node_at(number) {
         Some(node) => turn(frame, node.children.as_slice()),

@@ -2,8 +2,8 @@
 ghost use Rattle.std.specs.Prelude.{◌≡◌, ◌<◌, length, drop, slice_get, Some, IfOk, OnErr};
 ghost use Rattle.pc_semantics.specs.Around.{with_stack, pop};
 ghost use Rattle.pc_semantics.specs.Operators as operators;
-ghost use Rattle.pc_semantics.specs.Choices as spec;
-ghost use Rattle.pc_semantics.specs.Tasks.{at_node};
+ghost use Rattle.pc_semantics.specs.Evaluation as spec;
+ghost use Rattle.pc_semantics.specs.Step.{at_node};
 ghost use Rattle.pc_tasks.specs.Applied.{applied_to};
 ghost use Rattle.pc_tasks.specs.Inside.{relieved, within};
 

@@ -1,8 +1,8 @@
 //! Tasks that look at a truth value and choose what to do next.
 ghost use Rattle.std.specs.Prelude.{◌≡◌, ◌<◌, length, drop, slice_get, Some, IfOk, OnErr};
 ghost use Rattle.pc_semantics.specs.Around.{Goes, with_stack, pop};
-ghost use Rattle.pc_semantics.specs.Choices as spec;
-ghost use Rattle.pc_semantics.specs.Tasks.{at_node};
+ghost use Rattle.pc_semantics.specs.Evaluation as spec;
+ghost use Rattle.pc_semantics.specs.Step.{at_node};
 ghost use Rattle.pc_tasks.specs.Inside.{relieved, within};
 
 use crate::frames::go_on_with;

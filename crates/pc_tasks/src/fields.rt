@@ -1,8 +1,8 @@
 //! Reading and writing fields, and storing in slots.
 ghost use Rattle.std.specs.Prelude.{◌≡◌, ◌<◌, length, slice_get, Some, IfOk, OnErr};
 ghost use Rattle.pc_semantics.specs.Around.{pop};
-ghost use Rattle.pc_semantics.specs.Fields as spec;
-ghost use Rattle.pc_semantics.specs.Tasks.{at_node};
+ghost use Rattle.pc_semantics.specs.Calls as spec;
+ghost use Rattle.pc_semantics.specs.Step.{at_node};
 ghost use Rattle.pc_tasks.specs.Inside.{seeing, relieved, within, ended};
 
 use crate::values::none;

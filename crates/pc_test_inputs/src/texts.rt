@@ -1,6 +1,6 @@
 //! The tokens and the tree of a text.
 ghost use Rattle.std.specs.Prelude.{IfOk};
-ghost use Rattle.pc_lists.specs.Places.{Ascends};
+ghost use Rattle.pc_lists.specs.Lists.{Ascends};
 ghost use Rattle.pc_elab.specs.Cores.{IsSpelledFile};
 ghost use Rattle.pc_expr.specs.Gives.{EndsWithEnd};
 ghost use Rattle.pc_text_order.specs.Laws.{starts};

@@ -1,7 +1,7 @@
 -- The tokens of a text ascend, and end with `End`.
 use Rattle.std.proofs.Common.{◌≡◌, ℕ, zero, suc, ◌+◌, ◌<◌, ◌≤◌, Bool, true, false, ◌||◌, List, [], ◌∷◌, length, refl, sym, subst, arith}
 use Rattle.std.proofs.lemmas.Option.{same_Some, none-some}
-use Rattle.pc_lists.specs.Places.{Each, Ascends}
+use Rattle.pc_lists.specs.Lists.{Each, Ascends}
 use Rattle.pc_token.specs.declared.kinds.Token.{Token}
 use Rattle.pc_lex.specs.Pieces.{Piece, gap, token, Pieces, tokens_of, has_line_end}
 use Rattle.pc_lex.proofs.OneCut.{piece_some}

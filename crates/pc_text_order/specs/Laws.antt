@@ -1,12 +1,12 @@
 -- The order in which tokens, and the names of trees, are in a text.
 use Rattle.std.specs.Prelude.{ℕ, List, map}
-use Rattle.pc_lists.specs.Places.{Ascends, Each}
-use Rattle.pc_tree.specs.Tree as t
+use Rattle.pc_lists.specs.Lists.{Ascends, Each}
 use Rattle.pc_token.specs.declared.kinds.Token.{Token}
 use Rattle.pc_lex.specs.Pieces.{Tokens}
 use Rattle.pc_expr.specs.Gives.{EndsWithEnd}
 use Rattle.pc_grammar.specs.SpellsFile.{SpellsFile}
 use Rattle.pc_body_spec.specs.Places.{initial_places, body_places}
+use Rattle.pc_tree.specs.Tree as t
 use Rattle.pc_names.specs.Laws as names
 
 -- Where tokens start in the text.

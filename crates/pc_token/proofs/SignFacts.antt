@@ -6,7 +6,7 @@ use Rattle.std.specs.List.{list_all, starts_with}
 use Rattle.pc_token.specs.declared.signs.Sign.{Sign}
 use Rattle.pc_token.specs.declared.signs.Sign.TheVariants as sign
 use Rattle.pc_token.specs.declared.signs.TheConstants.{SIGNS}
-use Rattle.pc_token.specs.Signs.{sign_text}
+use Rattle.pc_token.specs.Words.{sign_text}
 use Rattle.pc_token.specs.Finding.{first_sign, sign_at}
 use Rattle.std.proofs.lemmas.Option.{same_Some}
 use Rattle.pc_lists.proofs.Options.{none_some}

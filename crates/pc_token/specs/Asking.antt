@@ -1,12 +1,7 @@
 -- Tests on a token.
-use Rattle.std.specs.Prelude.{Bool, false}
 use denote.Enum.Bare.{sameb}
-use Rattle.pc_token.specs.contracts.words.Word.{the_type as word_type}
-use Rattle.pc_token.specs.contracts.signs.Sign.{the_type as sign_type}
-use Rattle.pc_token.specs.declared.words.Word.{Word}
-use Rattle.pc_token.specs.declared.signs.Sign.{Sign}
-use Rattle.pc_token.specs.declared.kinds.Token.{Token}
-use Rattle.pc_token.specs.declared.kinds.TokenKind.{TokenKind}
+use Rattle.std.specs.Prelude.{Bool, false}
+use Rattle.pc_token.specs.{contracts.words.Word.the_type as word_type, contracts.signs.Sign.the_type as sign_type, declared.words.Word.Word, declared.signs.Sign.Sign, declared.kinds.Token.Token, declared.kinds.TokenKind.TokenKind}
 use Rattle.pc_token.specs.declared.kinds.TokenKind.TheVariants as kind
 
 unfoldable pub same_word : Word → Word → Bool

@@ -1,13 +1,7 @@
 -- The word and the sign that a text spells.
-use Rattle.std.specs.Str.{bytes_eq}
-use Rattle.pc_token.specs.declared.words.Word.{Word}
-use Rattle.pc_token.specs.declared.words.TheConstants.{WORDS}
 use Rattle.std.specs.Prelude.{ℕ, List, [], ◌∷◌, length, Option, Some, None, if◌then◌else◌, nat_eq}
-use Rattle.std.specs.List.{starts_with}
-use Rattle.pc_token.specs.declared.signs.Sign.{Sign}
-use Rattle.pc_token.specs.declared.signs.TheConstants.{SIGNS}
-use Rattle.pc_token.specs.Words.{word_text}
-use Rattle.pc_token.specs.Signs.{sign_text}
+use Rattle.std.specs.{Str.bytes_eq, List.starts_with}
+use Rattle.pc_token.specs.{declared.words.Word.Word, declared.words.TheConstants.WORDS, declared.signs.Sign.Sign, declared.signs.TheConstants.SIGNS, Words.word_text, Words.sign_text}
 
 -- the first of these words with this spelling
 abbrev pub first_word : List Word → List ℕ → Option Word

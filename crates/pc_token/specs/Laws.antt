@@ -1,11 +1,7 @@
 -- Laws of the tables of words and signs.
 use Rattle.std.specs.Prelude.{◌≡◌, ◌≤◌, ℕ, List, length, Some, None, true, nat_eq}
 use Rattle.std.specs.List.{starts_with}
-use Rattle.pc_token.specs.declared.words.Word.{Word}
-use Rattle.pc_token.specs.declared.signs.Sign.{Sign}
-use Rattle.pc_token.specs.Words.{word_text}
-use Rattle.pc_token.specs.Finding.{word_of, sign_at}
-use Rattle.pc_token.specs.Signs.{sign_text}
+use Rattle.pc_token.specs.{declared.words.Word.Word, declared.signs.Sign.Sign, Words.word_text, Words.sign_text, Finding.word_of, Finding.sign_at}
 
 -- Each word is found by its spelling.
 abbrev pub WordFound : Type 0

@@ -1,7 +1,10 @@
--- The reserved words and their spellings.
+-- The reserved words and the signs, and their spellings.
 use Rattle.std.specs.Prelude.{ℕ, List, if◌then◌else◌, codes}
-use Rattle.pc_token.specs.declared.words.Word.{Word}
+use Rattle.pc_token.specs.{declared.words.Word.Word, declared.signs.Sign.Sign}
 use Rattle.pc_token.specs.declared.words.Word.TheVariants as word
+use Rattle.pc_token.specs.declared.signs.Sign.TheVariants as sign
+
+-- ---- the reserved words
 
 -- the spelling of a word
 abbrev pub word_text : Word → List ℕ
@@ -64,3 +67,29 @@ word_text word.CompileErrorWord = codes "compile_error"
 word_text word.CompileIntrinsicWord = codes "compile_intrinsic"
 word_text word.AddressofWord = codes "addressof"
 word_text word.DigestofWord = codes "digestof"
+
+-- ---- the signs
+
+-- the spelling of a sign
+abbrev pub sign_text : Sign → List ℕ
+sign_text sign.Arrow = codes "=>"
+sign_text sign.Equal = codes "=="
+sign_text sign.NotEqual = codes "!="
+sign_text sign.LessEqual = codes "<="
+sign_text sign.GreaterEqual = codes ">="
+sign_text sign.OpenParen = codes "("
+sign_text sign.CloseParen = codes ")"
+sign_text sign.Comma = codes ","
+sign_text sign.Dot = codes "."
+sign_text sign.Colon = codes ":"
+sign_text sign.Semicolon = codes ";"
+sign_text sign.Assign = codes "="
+sign_text sign.Caret = codes "^"
+sign_text sign.Ampersand = codes "&"
+sign_text sign.Plus = codes "+"
+sign_text sign.Minus = codes "-"
+sign_text sign.Star = codes "*"
+sign_text sign.Slash = codes "/"
+sign_text sign.Percent = codes "%"
+sign_text sign.Less = codes "<"
+sign_text sign.Greater = codes ">"

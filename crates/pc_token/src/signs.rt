@@ -1,6 +1,6 @@
 //! The signs, and the longest one that a text begins with.
 ghost use Rattle.std.specs.Prelude.{◌≡◌, ◌≤◌, length, IfSome};
-ghost use Rattle.pc_token.specs.Signs as spec;
+ghost use Rattle.pc_token.specs.Words as spec;
 ghost use Rattle.pc_token.specs.Finding as finding;
 
 /// A sign.

@@ -3,14 +3,12 @@ use Rattle.std.proofs.Common.{◌≡◌, ◌≤◌, ℕ, List, Option, Some, Non
 use Rattle.std.specs.Prelude.{IfSome}
 use Rattle.std.specs.Io.KnownBytes.{Appends}
 use Rattle.pc_ann.specs.declared.annotation.Ann.{Ann}
-use Rattle.pc_lists.specs.Texts.{Text}
-use Rattle.pc_io.specs.Change.{Change}
+use Rattle.pc_lists.specs.Lists.{Text}
+use Rattle.pc_io.specs.Sink.{Change}
 use Rattle.pc_valid.specs.Valid.{Valid}
-use Rattle.pc_refusals.specs.Answer.{Answer}
-use Rattle.pc_refusals.specs.Answer.Answer.{given as answer_given, file as answer_file, out_failed, err_failed, file_err_failed, no_memory}
-use Rattle.pc_refusals.specs.Named.{Files, Named, Reading, whole, IsReadingOf}
+use Rattle.pc_refusals.specs.Verdict.{Answer, Files, Named, Reading, whole, IsReadingOf, Verdict, IsAccepting}
+use Rattle.pc_refusals.specs.Verdict.Answer.{given as answer_given, file as answer_file, out_failed, err_failed, file_err_failed, no_memory}
 use Rattle.pc_refusals.specs.Source.{SourceStage, source_limit}
-use Rattle.pc_refusals.specs.Verdict.{Verdict, IsAccepting}
 use Rattle.pc_refusals.specs.declared.source.Source.{Source}
 use Rattle.pc_top.specs.Asked.{IsVerdict, FailedIn}
 use Rattle.pc_top.specs.CoreOf.{IsDerivable}

@@ -1,17 +1,15 @@
 -- A verdict of a command that looks for a derivation of its source.
 use Rattle.std.proofs.Common.{◌≡◌, ◌≤◌, ◌<◌, ℕ, length, Option, Some, Ok, Err, refl, sym, ap, subst, arith}
 use Rattle.std.specs.Prelude.{IfSome}
-use Rattle.pc_lists.specs.Texts.{Text}
+use Rattle.pc_lists.specs.Lists.{Text}
 use Rattle.pc_core.specs.CoreData.{CoreData}
 use Rattle.pc_core.specs.Formed.{Formed}
 use Rattle.pc_valid.specs.Valid.{Derivable}
-use Rattle.pc_refusals.specs.Accepting.{AcceptedStage, Typing}
-use Rattle.pc_refusals.specs.Accepting.Typing.{declared, no_rule, unset}
-use Rattle.pc_refusals.specs.After.After.{stops, goes}
-use Rattle.pc_refusals.specs.FromFile.FromFile.{refuses, goes_on}
-use Rattle.pc_refusals.specs.Named.{Named, Reading, whole, longer, IsReading, IsReadingOf}
-use Rattle.pc_refusals.specs.Source.{SourceStage, source_limit}
-use Rattle.pc_refusals.specs.Verdict.{Verdict, IsAccepting}
+use Rattle.pc_refusals.specs.Source.{AcceptedStage, Typing, SourceStage, source_limit}
+use Rattle.pc_refusals.specs.Source.Typing.{declared, no_rule, unset}
+use Rattle.pc_refusals.specs.Source.After.{stops, goes}
+use Rattle.pc_refusals.specs.Source.FromFile.{refuses, goes_on}
+use Rattle.pc_refusals.specs.Verdict.{Named, Reading, whole, longer, IsReading, IsReadingOf, Verdict, IsAccepting}
 use Rattle.pc_refusals.specs.declared.source.Source.{Source}
 use Rattle.pc_refusals.specs.declared.typing.Accepted.{Accepted}
 use Rattle.pc_refusals.proofs.OneSource.{SourceLaws, differ, ok_same, one_source}

@@ -3,15 +3,13 @@ use Rattle.std.proofs.Common.{◌≡◌, ◌≤◌, ℕ, List, length, Ok, refl,
 use Rattle.pc_core.specs.CoreData.{CoreData}
 use Rattle.pc_core.specs.Formed.{Formed}
 use Rattle.pc_ann.specs.declared.annotation.Ann.{Ann}
-use Rattle.pc_deriv.specs.Faults.{IsText}
-use Rattle.pc_deriv.specs.Limits.{derivation_slot_limit, derivation_node_limit}
-use Rattle.pc_deriv.specs.Text.{deriv_text}
+use Rattle.pc_deriv.specs.Text.{IsText, derivation_slot_limit, derivation_node_limit, deriv_text}
 use Rattle.pc_deriv.specs.declared.version.Version.TheVariants as version
 use Rattle.pc_core_relation.proofs.Files.{made_cores_stand}
 use Rattle.pc_core_relation.proofs.Ones.{standing_cores_are_made}
 use Rattle.pc_elab.specs.Cores.{CoresAreFormed as FilesAreFormed}
 use Rattle.pc_grammar.specs.FileAnswers.{IsFileAnswer, spelled}
-use Rattle.pc_lex.specs.Answers.{TokenList}
+use Rattle.pc_lex.specs.Pieces.{TokenList}
 use Rattle.pc_text_order.specs.Laws.{TokensAscend}
 use Rattle.pc_regions.specs.Laws.{ValidIsSafe}
 use Rattle.pc_valid.specs.Valid.{Valid}
@@ -20,12 +18,11 @@ use Rattle.pc_semantics.specs.Safety.{Safe}
 use Rattle.pc_types.specs.Laws.{AcceptedNeverLacks}
 use Rattle.pc_token.specs.declared.kinds.Token.{Token}
 use Rattle.pc_tree.specs.Tree as t
-use Rattle.pc_lists.specs.Texts.{Text}
-use Rattle.pc_refusals.specs.Accepting.{AcceptedStage, Typing}
-use Rattle.pc_refusals.specs.Accepting.Typing.{typed}
-use Rattle.pc_refusals.specs.After.After.{goes}
-use Rattle.pc_refusals.specs.Named.{Reading, whole, longer}
-use Rattle.pc_refusals.specs.Source.{FileStage, SourceStage, source_limit}
+use Rattle.pc_lists.specs.Lists.{Text}
+use Rattle.pc_refusals.specs.Source.{AcceptedStage, Typing, FileStage, SourceStage, source_limit}
+use Rattle.pc_refusals.specs.Source.Typing.{typed}
+use Rattle.pc_refusals.specs.Source.After.{goes}
+use Rattle.pc_refusals.specs.Verdict.{Reading, whole, longer}
 use Rattle.pc_refusals.specs.Source.Length.{fits}
 use Rattle.pc_refusals.specs.Source.Lexing.{lexed}
 use Rattle.pc_refusals.specs.Source.Parsing.{parsed}

@@ -3,11 +3,10 @@ use Rattle.std.proofs.Common.{◌≡◌, Option, Some, subst, false}
 use Rattle.std.specs.Prelude.{IfSome, IsSome}
 use Rattle.std.specs.Io.KnownBytes.{Appends}
 use Rattle.pc_ann.specs.declared.annotation.Ann.{Ann}
-use Rattle.pc_lists.specs.Texts.{Text}
+use Rattle.pc_lists.specs.Lists.{Text}
 use Rattle.pc_args.specs.Asked.{Asked}
-use Rattle.pc_io.specs.Change.{Change}
-use Rattle.pc_refusals.specs.Named.{AllKnown, Files, Named, NoneFailed}
-use Rattle.pc_refusals.specs.Verdict.{Verdict, IsAccepting}
+use Rattle.pc_io.specs.Sink.{Change}
+use Rattle.pc_refusals.specs.Verdict.{AllKnown, Files, Named, NoneFailed, Verdict, IsAccepting}
 use Rattle.pc_refusals.proofs.Statuses.{IsOwn, other_not_one, other_own}
 use Rattle.pc_top.specs.Commands.{IsVerdictOf, OnOutOf, files_of, infers, source_of}
 use Rattle.pc_top.specs.CoreOf.{IsDerivable}

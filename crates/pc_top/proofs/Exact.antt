@@ -1,10 +1,9 @@
 -- What the statuses 0 and 1 mean for a source, exactly.
 use Rattle.std.proofs.Common.{◌≡◌, Option, Some, inl, refl, ap, subst}
 use Rattle.std.specs.Prelude.{◌↔◌, IfSome, IsTrue}
-use Rattle.pc_lists.specs.Texts.{Text}
+use Rattle.pc_lists.specs.Lists.{Text}
 use Rattle.pc_args.specs.Asked.{Asked, check}
-use Rattle.pc_refusals.specs.Named.{Files, named}
-use Rattle.pc_refusals.specs.Verdict.{Verdict}
+use Rattle.pc_refusals.specs.Verdict.{Files, named, Verdict}
 use Rattle.pc_refusals.proofs.OneSource.{SourceLaws}
 use Rattle.pc_top.specs.Asked.{OfFile}
 use Rattle.pc_top.specs.Commands.{HasNumber, IsVerdictOf, infers, source_of}

@@ -4,24 +4,23 @@ use Rattle.std.specs.Prelude.{Result}
 use Rattle.pc_core.specs.CoreData.{CoreData}
 use Rattle.pc_elab.specs.Cores.{IsFirstFault, IsSpelledFile}
 use Rattle.pc_file_spec.specs.Cores.{IsElabFault}
-use Rattle.pc_names.specs.Names.{IsNotMemory, IsNameFault}
+use Rattle.pc_names.specs.Faults.{IsNotMemory, IsNameFault}
 use Rattle.pc_names.specs.declared.fault.NameFault.{NameFault}
 use Rattle.pc_names.specs.declared.fault.NameFault.TheVariants as names
 use Rattle.pc_text_order.specs.Laws.{TokensAscend}
 use Rattle.pc_tree.specs.Tree as t
-use Rattle.pc_lists.specs.Texts.{Text}
-use Rattle.pc_refusals.specs.After.After.{stops, goes}
+use Rattle.pc_lists.specs.Lists.{Text}
+use Rattle.pc_refusals.specs.Source.After.{stops, goes}
 use Rattle.pc_refusals.specs.Inner.Refusals.{IsNameStop}
 use Rattle.pc_refusals.specs.Inner.Stages.{StageStops, StageEnds, PartStops, PartGives}
 use Rattle.pc_refusal_lines.specs.Lines.{longer_line}
-use Rattle.pc_refusals.specs.Named.{Named, longer, whole, IsReadingOf, text_as}
+use Rattle.pc_refusals.specs.Verdict.{Named, longer, whole, IsReadingOf, text_as, Verdict, refused}
 use Rattle.pc_refusals.specs.Source.{Elaborating, CoreStage, SourceStage, SyntaxStage, source_limit}
 use Rattle.pc_refusals.specs.Source.Length.{fits, is_longer}
 use Rattle.pc_refusals.specs.Source.Lexing.{lexed}
 use Rattle.pc_refusals.specs.Source.Parsing.{parsed}
 use Rattle.pc_refusals.specs.Source.Elaborating.{misnamed, misused}
 use Rattle.pc_refusals.specs.Source.TextStage.{has_core, has_none}
-use Rattle.pc_refusals.specs.Verdict.{Verdict, refused}
 use Rattle.pc_refusals.specs.declared.stop.Stop.{Stop}
 use Rattle.pc_refusals.specs.declared.stop.Stop.TheVariants.{Refused, File, Sink, Memory}
 use Rattle.pc_refusals.proofs.Stops.{name_stops, stops_as}

@@ -1,15 +1,14 @@
 -- A derivation that is judged after the source was read.
 use Rattle.std.proofs.Common.{◌≡◌, ◌≤◌, ℕ, ◌+◌, Option, Ok, Err, inl, inr, refl, sym, subst}
 use Rattle.pc_ann.specs.declared.annotation.Ann.{Ann}
-use Rattle.pc_deriv.specs.Limits.{derivation_limit}
-use Rattle.pc_lists.specs.Texts.{Text}
+use Rattle.pc_deriv.specs.Text.{derivation_limit}
+use Rattle.pc_lists.specs.Lists.{Text}
 use Rattle.pc_refusals.specs.Derivation.{DerivationStage, Judging, in_parts}
 use Rattle.pc_refusals.specs.Inner.Answering.{AnswerStops}
 use Rattle.pc_refusals.specs.Inner.Derivations.{DerivationJudged}
 use Rattle.pc_refusals.specs.Inner.Stages.{PartGives}
-use Rattle.pc_refusals.specs.Named.{Files, Named, file_at, files_change, named}
+use Rattle.pc_refusals.specs.Verdict.{Files, Named, file_at, files_change, named, EndsAs, Verdict, done}
 use Rattle.pc_refusals.specs.Source.{SourceStage, source_limit}
-use Rattle.pc_refusals.specs.Verdict.{EndsAs, Verdict, done}
 use Rattle.pc_refusals.specs.declared.source.Source.{Source}
 use Rattle.pc_refusals.specs.declared.stop.Stop.{Stop}
 use Rattle.pc_refusals.proofs.Ending.{both_answer, both_stop, last_stops}

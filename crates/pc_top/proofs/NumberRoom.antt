@@ -3,16 +3,14 @@ use Rattle.std.proofs.Common.{◌≡◌, ℕ, Option, Some, None, Ok, Err, inl, 
 use Rattle.std.specs.Prelude.{IsSome, IsTrue, Result}
 use Rattle.std.specs.Io.KnownBytes.{Appends}
 use Rattle.std.proofs.lemmas.Option.{none-some, same_Some}
-use Rattle.pc_lists.specs.Texts.{Text}
+use Rattle.pc_lists.specs.Lists.{Text}
 use Rattle.pc_args.specs.Asked.{Asked}
-use Rattle.pc_args.specs.Numbers.{Reads}
-use Rattle.pc_io.specs.Change.{Change}
-use Rattle.pc_refusals.specs.Accepting.{AcceptedStage}
+use Rattle.pc_args.specs.Line.{Reads}
+use Rattle.pc_io.specs.Sink.{Change}
+use Rattle.pc_refusals.specs.Source.{AcceptedStage, source_limit}
 use Rattle.pc_refusals.specs.Inner.Answering.{AnswerStops, AnswersText, EndsCommand}
 use Rattle.pc_refusal_lines.specs.Lines.{usage_line}
-use Rattle.pc_refusals.specs.Named.{AllKnown, Files, Named, NoneFailed, named}
-use Rattle.pc_refusals.specs.Source.{source_limit}
-use Rattle.pc_refusals.specs.Verdict.{Verdict, IsAccepting}
+use Rattle.pc_refusals.specs.Verdict.{AllKnown, Files, Named, NoneFailed, named, Verdict, IsAccepting}
 use Rattle.pc_refusals.specs.declared.stop.Stop.{Stop}
 use Rattle.pc_refusals.specs.declared.typing.Accepted.{Accepted}
 use Rattle.pc_refusals.proofs.Ending.{answers_by, ends_by, part_answers, part_ends, part_stops, words_stop}

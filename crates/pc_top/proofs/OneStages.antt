@@ -7,30 +7,26 @@ use Rattle.pc_core.specs.declared.declarations.Method.{Method}
 use Rattle.pc_core.specs.declared.nodes.Node.{Node}
 use Rattle.pc_core.specs.CoreData.{CoreData}
 use Rattle.pc_core.specs.Formed.{Formed}
-use Rattle.pc_deriv.specs.Limits.{derivation_limit}
+use Rattle.pc_deriv.specs.Text.{derivation_limit}
 use Rattle.pc_deriv.specs.declared.fault.DerivFault.{DerivFault}
 use Rattle.pc_judge.specs.declared.faults.JudgeFault.{JudgeFault}
 use Rattle.pc_valid.specs.NoRule.{NoRule, Unset}
-use Rattle.pc_sched.specs.Limits.{schedule_limit}
+use Rattle.pc_sched.specs.Schedules.{schedule_limit}
 use Rattle.pc_sched.specs.declared.fault.SchedFault.TheVariants.{BadWord, TooMany}
 use Rattle.pc_sched.specs.declared.turns.Turn.{Turn}
 use Rattle.pc_sub.specs.Declarations.{DeclOk}
 use Rattle.pc_sub.specs.DeclarationFaults.{first_fault}
 use Rattle.pc_sub.specs.declared.faults.DeclFault.{DeclFault}
-use Rattle.pc_lists.specs.Texts.{Text}
-use Rattle.pc_refusals.specs.Accepting.{AcceptedStage, Typing}
-use Rattle.pc_refusals.specs.Accepting.Typing.{typed, declared, no_rule, unset}
-use Rattle.pc_refusals.specs.After.{HasOneEnd}
-use Rattle.pc_refusals.specs.CoreFaults.{decl_offset, decl_text}
+use Rattle.pc_lists.specs.Lists.{Text}
+use Rattle.pc_refusals.specs.Source.{AcceptedStage, Typing, HasOneEnd, ScheduleStage, Scheduling, Length, SourceStage}
+use Rattle.pc_refusals.specs.Source.Typing.{typed, declared, no_rule, unset}
+use Rattle.pc_refusals.specs.FaultLines.{decl_offset, decl_text}
 use Rattle.pc_refusals.specs.Derivation.{Deriving, DerivationStage, Judging, judge_line, text_status, text_line}
 use Rattle.pc_refusals.specs.Derivation.Deriving.{reads, garbled}
 use Rattle.pc_refusals.specs.Derivation.Judging.{holds, fails}
-use Rattle.pc_refusals.specs.Named.{Reading}
-use Rattle.pc_refusal_lines.specs.Refusal.{offset_line}
-use Rattle.pc_refusals.specs.Schedule.{ScheduleStage, Scheduling}
-use Rattle.pc_refusals.specs.Schedule.Scheduling.{scheduled, bad_word, too_many}
-use Rattle.pc_refusals.specs.Source.{Length, SourceStage}
-use Rattle.pc_refusals.specs.Verdict.{refused}
+use Rattle.pc_refusals.specs.Verdict.{Reading, refused}
+use Rattle.pc_refusal_lines.specs.Lines.{offset_line}
+use Rattle.pc_refusals.specs.Source.Scheduling.{scheduled, bad_word, too_many}
 use Rattle.pc_refusals.specs.declared.source.Source.{Source}
 use Rattle.pc_refusals.proofs.OneSource.{after_is_one, one_length, one_source}
 use Rattle.pc_top.proofs.Deriving.{source_formed}

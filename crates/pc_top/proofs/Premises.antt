@@ -5,7 +5,7 @@ use Rattle.pc_explain.specs.Laws.{AcceptedHasNone, ExplanationsAreOne}
 use Rattle.pc_deriv.specs.Laws.{OneAnnotation, NoFaultOfText, OneFault as OneTextFault}
 use Rattle.pc_judge.specs.Laws.{OneFirst, NotValid}
 use Rattle.pc_outcome_laws.specs.Laws.{AnswersAreOne}
-use Rattle.pc_sched_lines.specs.Lines.{LinesAreOne}
+use Rattle.pc_sched_lines.specs.Rows.{LinesAreOne}
 use Rattle.pc_rules.specs.Statements.{OneValid}
 use Rattle.pc_sched.specs.Laws.{OneList, NotBoth, OneFault}
 use Rattle.pc_sub.specs.DeclarationLaws.{NoFaultWhereFit}

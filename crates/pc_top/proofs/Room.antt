@@ -3,11 +3,10 @@ use Rattle.std.proofs.Common.{◌≡◌, ◌⊎◌, ℕ, Option, Some, inl, inr,
 use Rattle.std.specs.Prelude.{IfSome, IsTrue}
 use Rattle.std.specs.Io.KnownBytes.{Appends}
 use Rattle.std.proofs.lemmas.Option.{none-some, same_Some}
-use Rattle.pc_lists.specs.Texts.{Text}
+use Rattle.pc_lists.specs.Lists.{Text}
 use Rattle.pc_args.specs.Asked.{Asked}
-use Rattle.pc_io.specs.Change.{Change}
-use Rattle.pc_refusals.specs.Named.{AllKnown, Files, NoneFailed, named}
-use Rattle.pc_refusals.specs.Verdict.{Verdict, IsAccepting}
+use Rattle.pc_io.specs.Sink.{Change}
+use Rattle.pc_refusals.specs.Verdict.{AllKnown, Files, NoneFailed, named, Verdict, IsAccepting}
 use Rattle.pc_refusals.proofs.OneSource.{SourceLaws}
 use Rattle.pc_refusals.proofs.Statuses.{IsOwn}
 use Rattle.pc_top.specs.Asked.{HasNoDerivationOf, OfFile, OfSource}

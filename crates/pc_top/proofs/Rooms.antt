@@ -1,6 +1,6 @@
 -- The rooms, one for each command.
 use Rattle.pc_args.specs.Asked.{Asked, check, events, explain, judge, make, outcomes, places, play, run, schedule_of, sends, show, swap, trace, upgrade}
-use Rattle.pc_refusals.specs.Named.{Files}
+use Rattle.pc_refusals.specs.Verdict.{Files}
 use Rattle.pc_top.proofs.Room.{Room}
 use Rattle.pc_top.proofs.Rooms.Check.{check_room}
 use Rattle.pc_top.proofs.Rooms.Events.{events_room}

@@ -2,22 +2,17 @@
 use Rattle.std.proofs.Common.{◌≡◌, ℕ, List, Ok, Err, inl, inr, subst, arith}
 use Rattle.std.specs.Prelude.{◌⊎◌, IfSome, IsSome}
 use Rattle.pc_ann.specs.declared.annotation.Ann.{Ann}
-use Rattle.pc_deriv.specs.Limits.{derivation_limit}
-use Rattle.pc_lists.specs.Texts.{Text}
+use Rattle.pc_deriv.specs.Text.{derivation_limit, IsText}
+use Rattle.pc_lists.specs.Lists.{Text}
 use Rattle.pc_core.specs.CoreData.{CoreData}
-use Rattle.pc_deriv.specs.Faults.{IsText}
 use Rattle.pc_valid.specs.Valid.{Valid}
 use Rattle.pc_run.specs.Spreading.{spread}
-use Rattle.pc_sched.specs.Limits.{schedule_limit}
-use Rattle.pc_sched.specs.Schedules.{TurnList}
+use Rattle.pc_sched.specs.Schedules.{schedule_limit, TurnList}
 use Rattle.pc_sched.specs.declared.turns.Turn.{Turn}
-use Rattle.pc_refusals.specs.Accepting.{AcceptedStage}
+use Rattle.pc_refusals.specs.Source.{AcceptedStage, ScheduleStage, SourceStage, source_limit}
 use Rattle.pc_refusals.specs.Derivation.{DerivationStage, Judging}
 use Rattle.pc_refusals.specs.Derivation.Judging.{holds, fails}
-use Rattle.pc_refusals.specs.Named.{Named, Reading, whole, IsReadingOf}
-use Rattle.pc_refusals.specs.Schedule.{ScheduleStage}
-use Rattle.pc_refusals.specs.Source.{SourceStage, source_limit}
-use Rattle.pc_refusals.specs.Verdict.{EndsAs, Verdict, IsAccepting, done}
+use Rattle.pc_refusals.specs.Verdict.{Named, Reading, whole, IsReadingOf, EndsAs, Verdict, IsAccepting, done}
 use Rattle.pc_refusals.specs.declared.source.Source.{Source}
 use Rattle.pc_refusals.specs.declared.typing.Accepted.{Accepted}
 use Rattle.pc_refusals.proofs.Derivations.{derivation_says}

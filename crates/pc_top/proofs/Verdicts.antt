@@ -1,15 +1,13 @@
 -- What holds of each verdict, from the rooms of the commands, and what holds of each answer.
 use Rattle.std.proofs.Common.{◌≡◌, ℕ, List, Option, Some, None, inl, sym, ap, subst, ◌∙◌, arith}
 use Rattle.std.specs.Io.KnownBytes.{Appends}
-use Rattle.pc_lists.specs.Texts.{Text}
+use Rattle.pc_lists.specs.Lists.{Text}
 use Rattle.pc_args.specs.Asked.{Asked, command_of}
-use Rattle.pc_io.specs.Change.{Change}
+use Rattle.pc_io.specs.Sink.{Change}
 use Rattle.pc_isolation.specs.ValidLaws.{ValidIsIsolated, ValidIsPassedWhole}
 use Rattle.pc_regions.specs.Laws.{ValidIsSafe}
-use Rattle.pc_refusals.specs.Answer.{Answer}
-use Rattle.pc_refusals.specs.Answer.Answer.{given as answer_given, file as answer_file, out_failed, err_failed, file_err_failed, no_memory}
-use Rattle.pc_refusals.specs.Named.{Files, named}
-use Rattle.pc_refusals.specs.Verdict.{Verdict, IsAccepting}
+use Rattle.pc_refusals.specs.Verdict.{Answer, Files, named, Verdict, IsAccepting}
+use Rattle.pc_refusals.specs.Verdict.Answer.{given as answer_given, file as answer_file, out_failed, err_failed, file_err_failed, no_memory}
 use Rattle.pc_refusals.proofs.Statuses.{IsOwn}
 use Rattle.pc_top.specs.Asked.{Accepts, FailedIn, HasNoDerivation, HasNoDerivationOf, IsVerdict, OfFile, OfSource, RefusedIsUnderivable}
 use Rattle.pc_top.specs.Commands.{IsVerdictOf, OnOutOf, source_of}

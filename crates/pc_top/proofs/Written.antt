@@ -2,22 +2,18 @@
 use Rattle.std.proofs.Common.{◌≡◌, ◌≤◌, ℕ, length, Option, Some, Ok, inl, refl, sym, ap, subst}
 use Rattle.std.specs.Prelude.{IfSome}
 use Rattle.pc_ann.specs.declared.annotation.Ann.{Ann}
-use Rattle.pc_deriv.specs.Limits.{derivation_limit}
-use Rattle.pc_lists.specs.Texts.{Text}
+use Rattle.pc_deriv.specs.Text.{derivation_limit, IsText, deriv_text}
+use Rattle.pc_lists.specs.Lists.{Text}
 use Rattle.pc_args.specs.Asked.{Asked}
-use Rattle.pc_deriv.specs.Faults.{IsText}
-use Rattle.pc_deriv.specs.Text.{deriv_text}
 use Rattle.pc_deriv.specs.declared.version.Version.TheVariants as version
-use Rattle.pc_refusals.specs.Accepting.{AcceptedStage}
-use Rattle.pc_refusals.specs.After.After.{goes}
+use Rattle.pc_refusals.specs.Source.{AcceptedStage, SourceStage, source_limit}
+use Rattle.pc_refusals.specs.Source.After.{goes}
 use Rattle.pc_refusals.specs.Derivation.{in_parts}
 use Rattle.pc_refusals.specs.Derivation.Deriving.{reads}
 use Rattle.pc_refusals.specs.Derivation.Judging.{holds}
-use Rattle.pc_refusals.specs.FromFile.FromFile.{goes_on}
-use Rattle.pc_refusals.specs.Named.{Files, Reading, whole, IsReadingOf, file_at, named}
-use Rattle.pc_refusals.specs.Source.{SourceStage, source_limit}
+use Rattle.pc_refusals.specs.Source.FromFile.{goes_on}
+use Rattle.pc_refusals.specs.Verdict.{Files, Reading, whole, IsReadingOf, file_at, named, Verdict, done}
 use Rattle.pc_refusals.specs.Source.Length.{fits}
-use Rattle.pc_refusals.specs.Verdict.{Verdict, done}
 use Rattle.pc_refusals.proofs.LastStages.{passed}
 use Rattle.pc_refusals.proofs.Lengths.{text_within}
 use Rattle.pc_refusals.proofs.Statuses.{accepted_refuses}

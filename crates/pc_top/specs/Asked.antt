@@ -1,14 +1,9 @@
 -- The verdict on the words of a command line.
 use Rattle.std.specs.Prelude.{ℕ, ◌≡◌, Option, Some, None, List, IfSome, IsTrue}
-use Rattle.pc_args.specs.Numbers.{IsSeed, IsSize}
-use Rattle.pc_lists.specs.Texts.{Text}
-use Rattle.pc_args.specs.Asked.{Asked, make, command_of}
-use Rattle.pc_refusals.specs.Named.{Files}
-use Rattle.pc_refusals.specs.Verdict.{Verdict}
-use Rattle.pc_top.specs.Commands.{FailedOf, IsVerdictOf, infers, source_of}
-use Rattle.pc_top.specs.Commands.Make.{made_text}
-use Rattle.pc_top.specs.CoreOf.{IsDerivable, IsUnderivable, HasSafeCore}
-use Rattle.pc_top.specs.IsolatedCore.{HasIsolatedCore}
+use Rattle.pc_args.specs.{Line.IsSeed, Line.IsSize, Asked.Asked, Asked.make, Asked.command_of}
+use Rattle.pc_lists.specs.Lists.{Text}
+use Rattle.pc_refusals.specs.Verdict.{Files, Verdict}
+use Rattle.pc_top.specs.{Commands.FailedOf, Commands.IsVerdictOf, Commands.infers, Commands.source_of, Commands.Make.made_text, CoreOf.IsDerivable, CoreOf.IsUnderivable, CoreOf.HasSafeCore, IsolatedCore.HasIsolatedCore}
 
 -- The verdict on the words: a status, a text on out and a line on err.
 abbrev pub IsVerdict : Files → List Text → Verdict → Type 0

@@ -1,32 +1,4 @@
 -- What each command does: a row of each table here, and a file with its definition.
-use Rattle.std.specs.Prelude.{ℕ, ◌≡◌, ◌⊎◌, Bool, true, false, List, [], ◌∷◌, Option, Some, None, IfSome}
-use Rattle.std.specs.Io.KnownBytes.{Appends}
-use Rattle.pc_lists.specs.Texts.{Text}
-use Rattle.pc_args.specs.Asked.{Asked, check, events, explain, judge, make, outcomes, places, play, run, schedule_of, sends, show, swap, trace, upgrade}
-use Rattle.pc_args.specs.Numbers.{IsSeed, IsSize}
-use Rattle.pc_io.specs.Change.{Change}
-use Rattle.pc_refusal_lines.specs.Lines.{usage_line}
-use Rattle.pc_refusals.specs.Named.{FailedAt, Files, named}
-use Rattle.pc_refusals.specs.Verdict.{Verdict, refused}
-use Rattle.pc_top.specs.Commands.Check.{IsCheck, WritesDerivation}
-use Rattle.pc_top.specs.Commands.Events.{IsEvents, WritesEvents}
-use Rattle.pc_top.specs.Commands.Explain.{IsExplain, WritesExplained}
-use Rattle.pc_core_commands.specs.Judge.{accepted_text}
-use Rattle.pc_top.specs.Commands.Judge.{IsJudge}
-use Rattle.pc_top.specs.Commands.Make.{IsMake, WritesMade}
-use Rattle.pc_core_commands.specs.Outcomes.{IsCount}
-use Rattle.pc_top.specs.Commands.Outcomes.{IsOutcomes, WritesOutcomes}
-use Rattle.pc_top.specs.Commands.Places.{IsPlaces, WritesPlaces}
-use Rattle.pc_top.specs.Commands.Play.{IsPlay, WritesPlay}
-use Rattle.pc_top.specs.Commands.Run.{IsRun, WritesRun}
-use Rattle.pc_top.specs.Commands.Schedule.{IsSchedule, WritesSchedule}
-use Rattle.pc_top.specs.Commands.Sends.{IsSends, WritesSends}
-use Rattle.pc_top.specs.Commands.Show.{IsShow, WritesTree}
-use Rattle.pc_core_commands.specs.Swap.{IsPlace}
-use Rattle.pc_top.specs.Commands.Swap.{IsSwap, UnreadSwap, WritesSwap}
-use Rattle.pc_top.specs.Commands.Trace.{IsTrace, WritesTrace}
-use Rattle.pc_top.specs.Commands.Upgrade.{IsUpgrade, WritesUpgraded}
-use Rattle.pc_top.specs.Shapes.{UnreadDerivation, UnreadNumbered, UnreadScheduled}
 pub mod Check
 pub mod Events
 pub mod Explain
@@ -42,6 +14,15 @@ pub mod Show
 pub mod Swap
 pub mod Trace
 pub mod Upgrade
+use Rattle.std.specs.Prelude.{ℕ, ◌≡◌, ◌⊎◌, Bool, true, false, List, [], ◌∷◌, Option, Some, None, IfSome}
+use Rattle.std.specs.Io.KnownBytes.{Appends}
+use Rattle.pc_lists.specs.Lists.{Text}
+use Rattle.pc_args.specs.{Asked.Asked, Asked.check, Asked.events, Asked.explain, Asked.judge, Asked.make, Asked.outcomes, Asked.places, Asked.play, Asked.run, Asked.schedule_of, Asked.sends, Asked.show, Asked.swap, Asked.trace, Asked.upgrade, Line.IsSeed, Line.IsSize}
+use Rattle.pc_io.specs.Sink.{Change}
+use Rattle.pc_refusal_lines.specs.Lines.{usage_line}
+use Rattle.pc_refusals.specs.Verdict.{FailedAt, Files, named, Verdict, refused}
+use Rattle.pc_top.specs.{Commands.Check.IsCheck, Commands.Check.WritesDerivation, Commands.Events.IsEvents, Commands.Events.WritesEvents, Commands.Explain.IsExplain, Commands.Explain.WritesExplained, Commands.Judge.IsJudge, Commands.Make.IsMake, Commands.Make.WritesMade, Commands.Outcomes.IsOutcomes, Commands.Outcomes.WritesOutcomes, Commands.Places.IsPlaces, Commands.Places.WritesPlaces, Commands.Play.IsPlay, Commands.Play.WritesPlay, Commands.Run.IsRun, Commands.Run.WritesRun, Commands.Schedule.IsSchedule, Commands.Schedule.WritesSchedule, Commands.Sends.IsSends, Commands.Sends.WritesSends, Commands.Show.IsShow, Commands.Show.WritesTree, Commands.Swap.IsSwap, Commands.Swap.UnreadSwap, Commands.Swap.WritesSwap, Commands.Trace.IsTrace, Commands.Trace.WritesTrace, Commands.Upgrade.IsUpgrade, Commands.Upgrade.WritesUpgraded, Shapes.UnreadDerivation, Shapes.UnreadNumbered, Shapes.UnreadScheduled}
+use Rattle.pc_core_commands.specs.{Judge.accepted_text, Outcomes.IsCount, Swap.IsPlace}
 
 -- A command's verdict. Words that the command line does not take are refused with status 2.
 abbrev pub IsVerdictOf : Files → Option Asked → Verdict → Type 0

@@ -1,9 +1,8 @@
 -- What sources mean.
 use Rattle.std.specs.Prelude.{ℕ, ◌≤◌, List, length}
 use Rattle.pc_core.specs.CoreData.{CoreData}
-use Rattle.pc_grammar.specs.FileAnswers.{IsFileAnswer, spelled}
-use Rattle.pc_lex.specs.Answers.{TokenList}
-use Rattle.pc_lex.specs.Limits.{bytes_limit}
+use Rattle.pc_grammar.specs.SpellsFile.{IsSpelled}
+use Rattle.pc_lex.specs.Pieces.{TokenList, bytes_limit}
 use Rattle.pc_core_relation.specs.Files.{IsCoreOf}
 use Rattle.pc_valid.specs.Valid.{Derivable}
 use Rattle.pc_semantics.specs.Safety.{Safe}
@@ -17,7 +16,7 @@ pub record CoreOf (bytes : List ℕ) (core : CoreData) : Type 0 where
   pub tokens : List Token
   pub file : t.File
   pub lexed : TokenList bytes tokens
-  pub parsed : IsFileAnswer tokens (spelled file)
+  pub parsed : IsSpelled file tokens
   pub stands : IsCoreOf file core
 
 -- The source has a core, and the core has a derivation.

@@ -2,17 +2,12 @@
 use Rattle.std.specs.Prelude.{ℕ, ◌≡◌, ◌↔◌, Some, List, [], ◌∷◌, IsTrue}
 use Rattle.pc_ann.specs.declared.annotation.Ann.{Ann}
 use Rattle.pc_core.specs.CoreData.{CoreData}
-use Rattle.pc_deriv.specs.Faults.{IsText}
+use Rattle.pc_deriv.specs.Text.{IsText}
 use Rattle.pc_valid.specs.Valid.{Valid}
-use Rattle.pc_args.specs.Numbers.{IsSeed, IsSize}
-use Rattle.pc_lists.specs.Texts.{Text}
-use Rattle.pc_args.specs.Asked.{Asked, check, judge, make, upgrade, command_of}
-use Rattle.pc_top.specs.Asked.{IsVerdict}
-use Rattle.pc_top.specs.Commands.{HasNumber, infers, source_of}
-use Rattle.pc_top.specs.CoreOf.{CoreOf, IsDerivable, IsUnderivable}
-use Rattle.pc_top.specs.Commands.Make.{made_text}
-use Rattle.pc_refusals.specs.Named.{Files, NoneFailed}
-use Rattle.pc_refusals.specs.Verdict.{Verdict}
+use Rattle.pc_args.specs.{Line.IsSeed, Line.IsSize, Asked.Asked, Asked.check, Asked.judge, Asked.make, Asked.upgrade, Asked.command_of}
+use Rattle.pc_lists.specs.Lists.{Text}
+use Rattle.pc_top.specs.{Asked.IsVerdict, Commands.HasNumber, Commands.infers, Commands.source_of, CoreOf.CoreOf, CoreOf.IsDerivable, CoreOf.IsUnderivable, Commands.Make.made_text}
+use Rattle.pc_refusals.specs.Verdict.{Files, NoneFailed, Verdict}
 
 -- The words ask for this, and have this verdict. The bytes of the command's source are known, and no reading of it
 -- failed.

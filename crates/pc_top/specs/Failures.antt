@@ -1,15 +1,11 @@
 -- No verdict has the status of a failure or of running out of memory.
 use Rattle.std.specs.Prelude.{ℕ, ◌≡◌, ◌≤◌, ◌⊎◌, List}
 use Rattle.std.specs.Io.KnownBytes.{Appends, Keeps}
-use Rattle.pc_lists.specs.Texts.{Text}
-use Rattle.pc_io.specs.Change.{Change}
-use Rattle.pc_io.specs.Sink.{HasRisen, GrowsByPrefix}
-use Rattle.pc_refusals.specs.Answer.{Answer}
+use Rattle.pc_lists.specs.Lists.{Text}
+use Rattle.pc_io.specs.Sink.{Change, HasRisen, GrowsByPrefix}
+use Rattle.pc_refusals.specs.Verdict.{Answer, TellsPart, Files, Verdict}
 use Rattle.pc_top.specs.Asked.{FailedIn, IsVerdict}
-use Rattle.pc_refusals.specs.Ends.{TellsPart}
 use Rattle.pc_refusal_lines.specs.Lines.{unread_line}
-use Rattle.pc_refusals.specs.Named.{Files}
-use Rattle.pc_refusals.specs.Verdict.{Verdict}
 
 -- A verdict's status is at most 8, or it is 12 or 15.
 abbrev pub NoVerdictIsAFailure : Type 0

@@ -1,16 +1,11 @@
 -- What is on out after a command has passed all its stages.
 use Rattle.std.specs.Prelude.{ℕ, ◌≡◌, Option, Some, List, IfSome}
-use Rattle.pc_lists.specs.Texts.{Text}
+use Rattle.pc_lists.specs.Lists.{Text}
 use Rattle.pc_args.specs.Asked.{check, judge, swap, trace, upgrade, command_of}
-use Rattle.pc_io.specs.Change.{Change}
-use Rattle.pc_refusals.specs.Named.{Files}
-use Rattle.pc_refusals.specs.Verdict.{done}
-use Rattle.pc_top.specs.Asked.{IsVerdict}
-use Rattle.pc_top.specs.Commands.{OnOutOf}
-use Rattle.pc_core_commands.specs.Judge.{accepted_text}
-use Rattle.pc_core_commands.specs.Swap.{IsPlace}
-use Rattle.pc_top.specs.Commands.Swap.{WritesSwap}
-use Rattle.pc_top.specs.Commands.Trace.{WritesTrace}
+use Rattle.pc_io.specs.Sink.{Change}
+use Rattle.pc_refusals.specs.Verdict.{Files, done}
+use Rattle.pc_top.specs.{Asked.IsVerdict, Commands.OnOutOf, Commands.Swap.WritesSwap, Commands.Trace.WritesTrace}
+use Rattle.pc_core_commands.specs.{Judge.accepted_text, Swap.IsPlace}
 
 -- What the command of the words writes, if the bytes of its files are known: the source's derivation, `accepted`, the
 -- text of the run, the printed tree or the core with its places; or why the source is refused, or that it is accepted;

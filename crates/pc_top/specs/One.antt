@@ -1,11 +1,9 @@
 -- There is at most one verdict for the words and the known bytes of the files.
 use Rattle.std.specs.Prelude.{◌≡◌, Option, Some, None, List}
-use Rattle.pc_lists.specs.Texts.{Text}
+use Rattle.pc_lists.specs.Lists.{Text}
 use Rattle.pc_args.specs.Asked.{Asked, command_of}
-use Rattle.pc_top.specs.Asked.{IsVerdict}
-use Rattle.pc_top.specs.Commands.{files_of}
-use Rattle.pc_refusals.specs.Named.{AllKnown, Files, NoneFailed}
-use Rattle.pc_refusals.specs.Verdict.{Verdict}
+use Rattle.pc_top.specs.{Asked.IsVerdict, Commands.files_of}
+use Rattle.pc_refusals.specs.Verdict.{AllKnown, Files, NoneFailed, Verdict}
 
 -- The bytes of the files that the words name are known.
 abbrev pub TellsOf : (Text → Option Text) → Option Asked → Type 0

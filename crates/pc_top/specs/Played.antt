@@ -1,11 +1,9 @@
 -- From what `schedule` writes to what `play` and `run` do with it.
 use Rattle.std.specs.Prelude.{◌≡◌, Some, List}
-use Rattle.pc_lists.specs.Texts.{Text}
+use Rattle.pc_lists.specs.Lists.{Text}
 use Rattle.pc_args.specs.Asked.{Asked, command_of, play, run, schedule_of}
-use Rattle.pc_refusals.specs.Named.{Files}
-use Rattle.pc_refusals.specs.Verdict.{Verdict, done}
-use Rattle.pc_top.specs.Asked.{IsVerdict}
-use Rattle.pc_top.specs.One.{UnfailedOf}
+use Rattle.pc_refusals.specs.Verdict.{Files, Verdict, done}
+use Rattle.pc_top.specs.{Asked.IsVerdict, One.UnfailedOf}
 
 -- The words ask for this of a source whose bytes are known to be these, they have this verdict, and no reading of the
 -- command's files failed.

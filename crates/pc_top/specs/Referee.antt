@@ -2,9 +2,9 @@
 use Rattle.std.specs.Prelude.{ℕ, ◌≡◌, Option, Some, IfSome}
 use Rattle.pc_core.specs.CoreData.{CoreData}
 use Rattle.pc_referee.specs.Asked.{Pairs}
-use Rattle.pc_lists.specs.Texts.{Text}
+use Rattle.pc_lists.specs.Lists.{Text}
 use Rattle.pc_args.specs.Asked.{Asked, judge}
-use Rattle.pc_refusals.specs.Referee.{JudgedFile}
+use Rattle.pc_refusals.specs.Derivation.{JudgedFile}
 use Rattle.pc_top.specs.CoreOf.{CoreOf}
 
 -- A derivation of the core of a source: the bytes of both files, if they are known, and each of its nodes was asked.

@@ -1,21 +1,13 @@
 -- What verdicts have in common: which files a command goes through before its own last part.
 use Rattle.std.specs.Prelude.{ℕ, ◌≡◌, List}
 use Rattle.pc_ann.specs.declared.annotation.Ann.{Ann}
-use Rattle.pc_deriv.specs.Limits.{derivation_limit}
-use Rattle.pc_lists.specs.Texts.{Text}
+use Rattle.pc_deriv.specs.Text.{derivation_limit}
+use Rattle.pc_lists.specs.Lists.{Text}
 use Rattle.pc_core.specs.CoreData.{CoreData}
 use Rattle.pc_run.specs.Spreading.{spread}
-use Rattle.pc_sched.specs.Limits.{schedule_limit}
-use Rattle.pc_refusals.specs.Accepting.{AcceptedStage}
-use Rattle.pc_refusals.specs.Derivation.{DerivationStage, Judging}
-use Rattle.pc_refusals.specs.FromFile.{FailedInTurn, FromFile}
+use Rattle.pc_sched.specs.Schedules.{schedule_limit}
+use Rattle.pc_refusals.specs.{Source.AcceptedStage, Source.FailedInTurn, Source.FromFile, Source.ScheduleStage, Source.SourceStage, Source.source_limit, Derivation.DerivationStage, Derivation.Judging, Verdict.FailedAt, Verdict.Named, Verdict.EndsAs, Verdict.Verdict, Verdict.refused, declared.source.Source.Source, declared.typing.Accepted.Accepted}
 use Rattle.pc_refusal_lines.specs.Lines.{usage_line}
-use Rattle.pc_refusals.specs.Named.{FailedAt, Named}
-use Rattle.pc_refusals.specs.Schedule.{ScheduleStage}
-use Rattle.pc_refusals.specs.Source.{SourceStage, source_limit}
-use Rattle.pc_refusals.specs.Verdict.{EndsAs, Verdict, refused}
-use Rattle.pc_refusals.specs.declared.source.Source.{Source}
-use Rattle.pc_refusals.specs.declared.typing.Accepted.{Accepted}
 
 -- A source passes every stage of one that is accepted, and then comes the last part.
 abbrev pub OfAccepted : (Accepted → Verdict → Type 0) → Named → Verdict → Type 0

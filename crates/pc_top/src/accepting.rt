@@ -1,9 +1,8 @@
 //! Sources whose core has a derivation: the stages of `check` except for the text, which other commands go through too.
 ghost use Rattle.std.specs.Prelude.{◌≡◌, ◌≤◌, ℕ, List as Sequence};
-ghost use Rattle.pc_refusals.specs.Accepting.{AcceptedStage};
+ghost use Rattle.pc_refusals.specs.Source.{AcceptedStage, source_limit};
 ghost use Rattle.pc_refusals.specs.Inner.Stages.{PartEnds};
-ghost use Rattle.pc_refusals.specs.Named.{file_at, text_as};
-ghost use Rattle.pc_refusals.specs.Source.{source_limit};
+ghost use Rattle.pc_refusals.specs.Verdict.{file_at, text_as};
 
 use crate::source::{read_source, take_source};
 use pc_io::{Bytes, Files};

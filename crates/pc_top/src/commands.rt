@@ -1,10 +1,10 @@
 //! The commands, each in a file of its own, and which of them the words ask for.
 ghost use Rattle.std.specs.Prelude.{◌≡◌, ◌≤◌, Some};
-ghost use Rattle.pc_lists.specs.Texts.{Text};
+ghost use Rattle.pc_lists.specs.Lists.{Text};
 ghost use Rattle.pc_args.specs.Asked.{asked_by};
-ghost use Rattle.pc_io.specs.Change.{change};
+ghost use Rattle.pc_io.specs.Sink.{change};
 ghost use Rattle.pc_refusals.specs.Inner.Answering.{EndsCommand};
-ghost use Rattle.pc_refusals.specs.Named.{files_change};
+ghost use Rattle.pc_refusals.specs.Verdict.{files_change};
 ghost use Rattle.pc_top.specs.Commands.{FailedOf, IsVerdictOf};
 ghost use Rattle.pc_top.specs.Inner.Asking.{AsksSo};
 

@@ -1,10 +1,10 @@
 //! The source's stages: its length, its tokens, its tree and its core.
 ghost use Rattle.std.specs.Prelude.{◌≡◌, ◌≤◌, ℕ, List as Sequence, length};
 ghost use Rattle.pc_elab.specs.Cores.{IsSpelledFile};
-ghost use Rattle.pc_lex.specs.Limits.{bytes_limit};
+ghost use Rattle.pc_lex.specs.Pieces.{bytes_limit};
 ghost use Rattle.pc_tree.specs.View.{file_view};
 ghost use Rattle.pc_refusals.specs.Inner.Stages.{PartEnds, StageEnds};
-ghost use Rattle.pc_refusals.specs.Named.{file_at, text_as};
+ghost use Rattle.pc_refusals.specs.Verdict.{file_at, text_as};
 ghost use Rattle.pc_refusals.specs.Source.{CoreStage, Elaborating, SourceStage, source_limit};
 
 use pc_core::Core;

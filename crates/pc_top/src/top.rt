@@ -1,14 +1,11 @@
 //! The top call.
 ghost use Rattle.std.specs.Prelude.{◌≡◌, ◌≤◌};
-ghost use Rattle.pc_lists.specs.Texts.{Text};
-ghost use Rattle.pc_refusals.specs.Answer.{Answer};
-ghost use Rattle.pc_refusals.specs.Complete.{Completes};
+ghost use Rattle.pc_lists.specs.Lists.{Text};
+ghost use Rattle.pc_refusals.specs.Verdict.{Answer, Completes, files_change, IsAccepting};
 ghost use Rattle.pc_refusals.specs.Inner.Answering.{EndsCommand};
-ghost use Rattle.pc_refusals.specs.Named.{files_change};
-ghost use Rattle.pc_refusals.specs.Verdict.{IsAccepting};
 ghost use Rattle.pc_top.specs.Asked.{Accepts, FailedIn, IsMadeIsolated, IsMadeSafe, IsVerdict, HasNoDerivation};
 ghost use Rattle.pc_args.specs.Asked.{command_of, texts};
-ghost use Rattle.pc_io.specs.Change.{change};
+ghost use Rattle.pc_io.specs.Sink.{change};
 ghost use Rattle.pc_top.specs.Inner.Asking.{AsksSo};
 ghost use Rattle.pc_top.specs.OnOut.{OnOut, Swaps, Traces};
 ghost use Rattle.pc_top.specs.Referee.{Asks};

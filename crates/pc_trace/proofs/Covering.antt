@@ -3,7 +3,7 @@ use Rattle.std.specs.Prelude.{◌≡◌, ◌≢◌, ◌⊎◌, ◌<◌, ◌≤�
 use Rattle.std.proofs.Common.{inl, inr, ap, sym, subst, ◌∙◌, arith}
 use Rattle.std.proofs.lemmas.Option.{same_Some}
 use Rattle.std.proofs.lemmas.Bool.Decides.{eqb_tells, leb_tells}
-use Rattle.pc_lists.specs.Places.{Has}
+use Rattle.pc_lists.specs.Lists.{Has}
 use Rattle.pc_lists.proofs.Gets.{get_below, get_within, get_front, get_behind, get_push}
 use Rattle.pc_clocks.specs.Seats.{number}
 use Rattle.pc_trace.specs.declared.lasts.Spot.{Spot}

@@ -10,8 +10,7 @@ use Rattle.pc_semantics.specs.declared.outcome.Lack.{Lack}
 use Rattle.pc_semantics.specs.declared.outcome.Outcome.{Outcome}
 use Rattle.pc_semantics.specs.declared.outcome.Outcome.TheVariants.{Moved, Skipped, Lacks, TooLong}
 use Rattle.pc_semantics.specs.Configurations.{Configuration, start}
-use Rattle.pc_semantics.specs.Step.{step}
-use Rattle.pc_semantics.specs.Runs.{followed, run_from, after, outcomes_from, outcomes}
+use Rattle.pc_semantics.specs.Step.{step, followed, run_from, after, outcomes_from, outcomes}
 use Rattle.pc_semantics.specs.Text.{ended_at, end_of}
 use Rattle.pc_events.specs.Before.{at_place}
 use Rattle.pc_events.proofs.Outcomes.{turn, goes_on}

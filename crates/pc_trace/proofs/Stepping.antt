@@ -10,8 +10,7 @@ use Rattle.pc_semantics.specs.declared.outcome.Lack.{Lack}
 use Rattle.pc_semantics.specs.declared.outcome.Outcome.{Outcome}
 use Rattle.pc_semantics.specs.declared.outcome.Outcome.TheVariants.{Moved, Skipped, Lacks, TooLong}
 use Rattle.pc_semantics.specs.Configurations.{Configuration, start}
-use Rattle.pc_semantics.specs.Step.{step}
-use Rattle.pc_semantics.specs.Runs.{followed, after, outcomes}
+use Rattle.pc_semantics.specs.Step.{step, followed, after, outcomes}
 use Rattle.pc_semantics.specs.Safety.{access}
 use Rattle.pc_semantics.specs.Text.{waiting}
 use Rattle.pc_semantics.specs.declared.ahead.Ahead.{Ahead}
@@ -34,7 +33,8 @@ use Rattle.pc_trace.specs.Keeps.{Keeps, first_seats}
 use Rattle.pc_trace.specs.Noted.{Noted}
 use Rattle.pc_trace.specs.Reached.{Reached, noted_with}
 use Rattle.pc_machine.specs.Limits.{list_limit}
-use Rattle.pc_trace.specs.Traces.{actor_limit, RanOn, TooManyAt, TooLongAt, LacksAt}
+use Rattle.pc_trace.specs.Traces.{actor_limit, RanOn, TooManyAt, TooLongAt}
+use Rattle.pc_trace.specs.Stops.{LacksAt}
 use Rattle.pc_trace.proofs.Keeping.{Behind, behind_event}
 use Rattle.pc_trace.proofs.Rests.{keeps_at_start, few_actors_at_start, keeps_rested}
 use Rattle.pc_trace.proofs.Ends.{outcome_at, ran_on, at_end, ended, stops}

@@ -18,7 +18,7 @@ use Rattle.pc_trace.specs.declared.fault.TraceFault.TheVariants as fault
 use Rattle.pc_trace.specs.Turns.{FollowsEvent, Ready, Says, Room}
 use Rattle.pc_trace.specs.Reached.{Reached, noted_with}
 use Rattle.pc_machine.specs.Limits.{list_limit}
-use Rattle.pc_trace.specs.Traces.{TraceStops}
+use Rattle.pc_trace.specs.Stops.{TraceStops}
 use Rattle.pc_trace.proofs.Covering.{number_there}
 use Rattle.pc_trace.proofs.Stepping.{moved_ready, moved_on, skipped_on, too_long, lacks, too_many}
 

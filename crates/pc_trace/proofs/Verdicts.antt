@@ -9,8 +9,7 @@ use Rattle.pc_semantics.specs.declared.access.Access.{Access}
 use Rattle.pc_semantics.specs.Safety.{access}
 use Rattle.pc_clocks.specs.Seats.{number}
 use Rattle.pc_events.specs.Before.{at_place, Event, Before}
-use Rattle.pc_events.specs.Clock.{Clock}
-use Rattle.pc_events.specs.Conflict.{Conflict}
+use Rattle.pc_events.specs.Clock.{Clock, Conflict}
 use Rattle.pc_events.proofs.Events.{one_actor, index_event, clock_is}
 use Rattle.pc_trace.specs.declared.touch.Touch.{Touch}
 use Rattle.pc_trace.specs.declared.touch.Verdict.{Verdict}

@@ -9,8 +9,7 @@ use Rattle.pc_semantics.specs.declared.outcome.Lack.{Lack}
 use Rattle.pc_semantics.specs.declared.outcome.Outcome.{Outcome}
 use Rattle.pc_semantics.specs.declared.outcome.Outcome.TheVariants.{Moved, Skipped, Lacks, TooLong}
 use Rattle.pc_semantics.specs.Configurations.{Configuration, start}
-use Rattle.pc_semantics.specs.Step.{step}
-use Rattle.pc_semantics.specs.Runs.{followed, run_from, outcomes_from}
+use Rattle.pc_semantics.specs.Step.{step, followed, run_from, outcomes_from}
 use Rattle.pc_semantics.specs.Safety.{Safe}
 use Rattle.pc_semantics.specs.Text.{ended_at}
 use Rattle.pc_clocks.specs.Seats.{number}
@@ -25,7 +24,8 @@ use Rattle.pc_trace.specs.declared.fault.TraceFault.TheVariants as fault
 use Rattle.pc_trace.specs.Clashes.{JudgedAccesses}
 use Rattle.pc_trace.specs.Covers.{Rises}
 use Rattle.pc_trace.specs.Noted.{Noted}
-use Rattle.pc_trace.specs.Traces.{RanOn, AllTouches, VerdictIs, TraceStops}
+use Rattle.pc_trace.specs.Traces.{RanOn, AllTouches, VerdictIs}
+use Rattle.pc_trace.specs.Stops.{TraceStops}
 use Rattle.pc_trace.proofs.Verdicts.{all_touches, verdict_is}
 
 -- ---- there are no more accesses than places

@@ -7,3 +7,4 @@ pub mod Reached
 pub mod Lasts
 pub mod Covers
 pub mod Rows
+pub mod Stops

@@ -2,16 +2,10 @@
 use Rattle.std.specs.Prelude.{◌≡◌, ◌≤◌, ◌+◌, ℕ, List, [], ◌∷◌, ◌++◌, length, Option, Some, None}
 use Rattle.std.specs.FinMap.{len}
 use Rattle.pc_core.specs.CoreData.{CoreData}
-use Rattle.pc_semantics.specs.declared.access.Access.{Access}
-use Rattle.pc_semantics.specs.Configurations.{Configuration}
-use Rattle.pc_semantics.specs.Text.{waiting}
+use Rattle.pc_semantics.specs.{declared.access.Access.Access, Configurations.Configuration, Text.waiting}
 use Rattle.pc_clocks.specs.declared.seat.Seat.{Seat}
-use Rattle.pc_events.specs.Before.{at_place}
-use Rattle.pc_events.specs.Counting.{Live}
-use Rattle.pc_trace.specs.declared.touch.Touch.{Touch}
-use Rattle.pc_trace.specs.Keeps.{Keeps}
-use Rattle.pc_trace.specs.Noted.{Noted}
-use Rattle.pc_trace.specs.Traces.{actor_limit}
+use Rattle.pc_events.specs.{Before.at_place, Counting.Live}
+use Rattle.pc_trace.specs.{declared.touch.Touch.Touch, Keeps.Keeps, Noted.Noted, Traces.actor_limit}
 
 -- After n turns that did not end the run: the configuration, the kept clocks and the accesses so far.
 pub record Reached (core : CoreData) (list : List ℕ) (n : ℕ) (c : Configuration) (seats : List Seat) (touches : List Touch) : Type 0 where

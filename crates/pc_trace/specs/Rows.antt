@@ -1,8 +1,6 @@
 -- One more place of a row.
 use Rattle.std.specs.Prelude.{◌≡◌, ◌⊎◌, ◌++◌, ◌∷◌, [], ℕ, List, max, Option, Some, None, slice_get}
-use Rattle.pc_trace.specs.declared.touch.Touch.{Touch}
-use Rattle.pc_trace.specs.Clashes.{Unknown}
-use Rattle.pc_trace.specs.Covers.{Replaces}
+use Rattle.pc_trace.specs.{declared.touch.Touch.Touch, Clashes.Unknown, Covers.Replaces}
 
 -- The later one of two places.
 abbrev pub further : Option ℕ → ℕ → Option ℕ

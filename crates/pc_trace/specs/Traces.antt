@@ -1,26 +1,13 @@
 -- What is reported of a run: its accesses with their clocks, and whether they are ordered.
 use Rattle.std.specs.Prelude.{◌≡◌, ◌<◌, ◌≤◌, ℕ, suc, List, length, Some, None, slice_get}
-use Rattle.pc_lists.specs.Places.{Each}
+use Rattle.pc_lists.specs.Lists.{Each}
 use Rattle.pc_core.specs.CoreData.{CoreData}
-use Rattle.pc_semantics.specs.Ahead.{ahead_of}
+use Rattle.pc_semantics.specs.{Ahead.ahead_of, declared.access.Access.Access, Step.after, Step.outcomes, Safety.access, Text.end_of}
+use Rattle.pc_events.specs.{Before.at_place, Before.Event, Before.Before, Clock.Clocks, Clock.Conflict}
+use Rattle.pc_trace.specs.{declared.touch.Touch.Touch, declared.touch.Verdict.Verdict}
 use Rattle.pc_semantics.specs.declared.ahead.Ahead.TheVariants as ahead
-use Rattle.pc_semantics.specs.declared.access.Access.{Access}
-use Rattle.pc_semantics.specs.declared.outcome.Lack.{Lack}
 use Rattle.pc_semantics.specs.declared.outcome.Outcome.TheVariants as outcome
-use Rattle.pc_semantics.specs.Runs.{after, outcomes}
-use Rattle.pc_semantics.specs.Safety.{access}
-use Rattle.pc_semantics.specs.Text.{end_of}
-use Rattle.pc_events.specs.Before.{at_place, Event, Before}
-use Rattle.pc_events.specs.Clock.{Clocks}
-use Rattle.pc_events.specs.Conflict.{Conflict}
-use Rattle.pc_trace.specs.declared.touch.Touch.{Touch}
-use Rattle.pc_trace.specs.declared.touch.Trace.{Trace}
-use Rattle.pc_trace.specs.declared.touch.Verdict.{Verdict}
 use Rattle.pc_trace.specs.declared.touch.Verdict.TheVariants as verdict
-use Rattle.pc_trace.specs.declared.fault.TraceFault.{TraceFault}
-use Rattle.pc_trace.specs.declared.fault.TraceFault.TheVariants as fault
-use Rattle.pc_trace.specs.declared.fault.AcceptedFault.{AcceptedFault}
-use Rattle.pc_trace.specs.declared.fault.AcceptedFault.TheVariants as accepted
 
 -- the greatest number of actors that a clock may have a number for
 abbrev pub actor_limit : ℕ
@@ -70,9 +57,6 @@ pub record RanOn (core : CoreData) (list : List ℕ) : Type 0 where
   pub goes_on : end_of (outcomes core list) ≡ None
   pub few : length (after core list).actors ≤ actor_limit
 
-abbrev pub IsTraceOfRun : CoreData → List ℕ → Trace → Type 0
-IsTraceOfRun core list t = RanOn core list × AllTouches core list t.touches × VerdictIs core list t.verdict
-
 -- The step at this place makes an actor, and there are as many actors as there may be.
 pub record TooManyAt (core : CoreData) (list : List ℕ) (n : ℕ) : Type 0 where
   pub p : ℕ
@@ -85,17 +69,3 @@ pub record TooManyAt (core : CoreData) (list : List ℕ) (n : ℕ) : Type 0 wher
 -- The run ends at this place, and made no more actors than there may be.
 abbrev pub TooLongAt : CoreData → List ℕ → ℕ → Type 0
 TooLongAt core list n = (end_of (outcomes core list) ≡ Some (n, outcome.TooLong)) × (length (after core list).actors ≤ actor_limit)
-
-abbrev pub LacksAt : CoreData → List ℕ → ℕ → Type 0
-LacksAt core list n = (l : Lack) × (end_of (outcomes core list) ≡ Some (n, outcome.Lacks l)) × (length (after core list).actors ≤ actor_limit)
-
-abbrev pub TraceStops : CoreData → List ℕ → TraceFault → Type 0
-TraceStops core list (fault.TooLong n) = TooLongAt core list n
-TraceStops core list (fault.Lacks n) = LacksAt core list n
-TraceStops core list (fault.TooMany n) = TooManyAt core list n
-TraceStops core list fault.Memory = Unit {0}
-
-abbrev pub AcceptedStops : CoreData → List ℕ → AcceptedFault → Type 0
-AcceptedStops core list (accepted.TooLong n) = TooLongAt core list n
-AcceptedStops core list (accepted.TooMany n) = TooManyAt core list n
-AcceptedStops core list accepted.Memory = Unit {0}

@@ -4,7 +4,8 @@ ghost use Rattle.pc_clocks.specs.Seats.{clock_of};
 ghost use Rattle.pc_trace.specs.Noted.{Noted};
 ghost use Rattle.pc_trace.specs.Reached.{Reached, noted_with};
 ghost use Rattle.pc_machine.specs.Limits.{list_limit};
-ghost use Rattle.pc_trace.specs.Traces.{RanOn, TraceStops};
+ghost use Rattle.pc_trace.specs.Traces.{RanOn};
+ghost use Rattle.pc_trace.specs.Stops.{TraceStops};
 
 use crate::fault::TraceFault;
 use crate::following::follow;

@@ -3,7 +3,8 @@ ghost use Rattle.std.specs.Prelude.{◌≤◌, MatchResult, length};
 ghost use Rattle.pc_semantics.specs.Safety.{Safe};
 ghost use Rattle.pc_trace.specs.declared.touch.Verdict.TheVariants.{Ordered};
 ghost use Rattle.pc_machine.specs.Limits.{list_limit};
-ghost use Rattle.pc_trace.specs.Traces.{AcceptedStops, AllTouches, IsTraceOfRun, RanOn, TraceStops, VerdictIs};
+ghost use Rattle.pc_trace.specs.Stops.{AcceptedStops, IsTraceOfRun, TraceStops};
+ghost use Rattle.pc_trace.specs.Traces.{AllTouches, RanOn, VerdictIs};
 
 use crate::clash::judged;
 use crate::fault::{AcceptedFault, TraceFault};

@@ -6,13 +6,38 @@
 --   primitive   no             no       yes     no     no                      each method
 --   trait       yes            no       yes     yes    no                      some methods
 --   interface   yes            no       yes     yes    no                      some methods
-use Rattle.std.specs.Prelude.{◌≡◌, Bool, true, false, List, [], Option, Some, None}
+use Rattle.std.specs.Prelude.{ℕ, ◌≡◌, Bool, true, false, List, [], Option, Some, None}
 use Rattle.pc_caps.specs.declared.capability.Cap.{Cap}
-use Rattle.pc_tree.specs.declared.kinds.EntityKind.{EntityKind}
+use Rattle.pc_tree.specs.{declared.kinds.EntityKind.EntityKind, declared.kinds.MethodWord.MethodWord}
 use Rattle.pc_tree.specs.declared.kinds.EntityKind.TheVariants as kind
-use Rattle.pc_tree.specs.declared.kinds.MethodWord.{MethodWord}
 use Rattle.pc_tree.specs.declared.kinds.MethodWord.TheVariants as word
 use Rattle.pc_tree.specs.Tree as t
+
+-- ---- the entities of the language, by their numbers; those of a file come after them
+
+abbrev pub none_entity : ℕ
+none_entity = 0
+
+abbrev pub u64_entity : ℕ
+u64_entity = 1
+
+abbrev pub bool_entity : ℕ
+bool_entity = 2
+
+abbrev pub string_entity : ℕ
+string_entity = 3
+
+abbrev pub env_entity : ℕ
+env_entity = 4
+
+abbrev pub out_stream_entity : ℕ
+out_stream_entity = 5
+
+-- The number of the first entity of the file, which is the number of built-in ones.
+abbrev pub first_own : ℕ
+first_own = 6
+
+-- ---- what each kind of entity may contain
 
 -- A trait or an interface: it only says which methods others have, and has no objects of its own.
 abbrev pub is_abstract : EntityKind → Bool

@@ -1,4 +1,3 @@
-pub mod BuiltIn
 pub mod Tree
 pub mod Kinds
 pub mod View

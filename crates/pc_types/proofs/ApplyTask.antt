@@ -12,7 +12,7 @@ use Rattle.pc_core.specs.declared.nodes.Node.{Node}
 use Rattle.pc_core.specs.declared.nodes.NodeKind.{NodeKind}
 use Rattle.pc_core.specs.declared.nodes.NodeKind.TheVariants as nodes
 use Rattle.pc_core.specs.CoreData.{CoreData}
-use Rattle.pc_lists.specs.Options.{◌>>=◌}
+use Rattle.pc_lists.specs.Lists.{◌>>=◌}
 use Rattle.pc_lists.proofs.Options.{bind_some, kept}
 use Rattle.pc_ann.specs.declared.annotation.Note.{Note}
 use Rattle.pc_ann.specs.declared.annotation.Ann.{Ann}
@@ -21,10 +21,9 @@ use Rattle.pc_ann.specs.declared.annotation.Rule.TheVariants as rule
 use Rattle.pc_semantics.specs.declared.frames.Frame.{Frame}
 use Rattle.pc_semantics.specs.declared.frames.Task.TheVariants as task
 use Rattle.pc_semantics.specs.Around.{Around, Move, Overflows, Goes, with_stack, pushed}
-use Rattle.pc_semantics.specs.Operators.{push_or_lack, of_numbers, of_truths, joined_text, of_texts, with_second_number, with_truth, with_text, binary, negated}
-use Rattle.pc_semantics.specs.Operators.{same_truth, same_value, compared}
+use Rattle.pc_semantics.specs.Operators.{push_or_lack, of_numbers, of_truths, joined_text, of_texts, with_second_number, with_truth, with_text, binary, negated, same_truth, same_value, compared}
 use Rattle.pc_caps.specs.Limits.{text_limit}
-use Rattle.pc_semantics.specs.Choices.{apply_task}
+use Rattle.pc_semantics.specs.Evaluation.{apply_task}
 use Rattle.pc_rules.specs.Parts.{reads_as, through, type_of, one_child}
 use Rattle.pc_valid.specs.Words.{Ty, Masks, before}
 use Rattle.pc_rules.specs.Fields.{is_this}

@@ -2,7 +2,7 @@
 use Rattle.std.specs.Prelude.{◌≡◌, ℕ, ◌+◌, ◌-◌, ◌<◌, ◌≤◌, ◌++◌, true, false, length, map, Option, Some, None, slice_get, refl}
 use Rattle.std.proofs.Common.{inl, inr, ap, sym, subst, ◌∙◌, arith}
 use Rattle.std.proofs.lemmas.Option.{same_Some}
-use Rattle.pc_caps.specs.Order.{IsBelow, same, step}
+use Rattle.pc_caps.specs.Tables.{IsBelow, same, step}
 use Rattle.pc_lists.proofs.Gets.{get_below, get_within, get_append, get_map, get_range, range_get}
 use Rattle.pc_caps.specs.declared.capability.Form.{Form}
 use Rattle.pc_tree.specs.declared.kinds.EntityKind.{EntityKind}
@@ -11,20 +11,17 @@ use Rattle.pc_tree.specs.Kinds.{is_abstract}
 use Rattle.pc_core.specs.declared.declarations.EntityDef.{EntityDef}
 use Rattle.pc_core.specs.declared.declarations.Method.{Method}
 use Rattle.pc_core.specs.declared.declarations.ParamInfo.{ParamInfo}
-use Rattle.pc_core.specs.CoreData.{CoreData}
-use Rattle.pc_lists.specs.Places.{Has}
-use Rattle.pc_core.specs.Lookup.{own_methods, field_name, method_name, method_named, IsMethod}
-use Rattle.pc_lists.specs.Lookup.{place_of}
-use Rattle.pc_core.specs.Entities.{IsAbstract, Provides, Leads, one, more}
+use Rattle.pc_core.specs.CoreData.{CoreData, own_methods, field_name, method_name, method_named, IsMethod}
+use Rattle.pc_lists.specs.Lists.{Has, place_of}
+use Rattle.pc_core.specs.Further.{IsAbstract}
+use Rattle.pc_core.specs.Entities.{Provides, Leads, one, more}
 use Rattle.pc_core.specs.Members.{method_among, method_found, method_missed}
 use Rattle.pc_lists.proofs.Bools.{false_true}
 use Rattle.pc_lists.proofs.Options.{bind_some}
 use Rattle.pc_lists.proofs.Lookup.{place_found}
 use Rattle.pc_core.specs.Formed.{Formed}
-use Rattle.pc_core.specs.Chain.{Chain}
-use Rattle.pc_core.specs.Conforms.{ParamFits, StandsFor, HasFor, Conforms}
-use Rattle.pc_sub.specs.Sub.{Sub, IsInterface, is_structural}
-use Rattle.pc_sub.specs.Declarations.{DeclOk}
+use Rattle.pc_core.specs.Conforms.{Chain, ParamFits, StandsFor, HasFor, Conforms}
+use Rattle.pc_sub.specs.Declarations.{Sub, IsInterface, is_structural, DeclOk}
 use Rattle.pc_types.proofs.Under.{Under}
 use Rattle.pc_types.proofs.Needs.{Declared}
 

@@ -9,7 +9,7 @@ use Rattle.pc_masks.specs.declared.mask.Mask.{Mask}
 use Rattle.pc_ann.specs.declared.annotation.Ann.{Ann}
 use Rattle.pc_semantics.specs.declared.frames.Frame.{Frame}
 use Rattle.pc_semantics.specs.Around.{Around, Move, Goes, with_stack, pushed, with_top}
-use Rattle.pc_semantics.specs.Tasks.{at_node}
+use Rattle.pc_semantics.specs.Step.{at_node}
 use Rattle.pc_rules.specs.Parts.{type_of}
 use Rattle.pc_valid.specs.Words.{Ty, before}
 use Rattle.pc_rules.specs.Fields.{is_this}

@@ -3,8 +3,7 @@
 -- fields.
 use Rattle.std.specs.Prelude.{◌≡◌, ℕ, ◌+◌, ◌<◌, Bool, true, false, List, [], ◌∷◌, ◌++◌, length, Option, Some, slice_get}
 use Rattle.std.specs.FinMap.{get}
-use Rattle.pc_heap.specs.Objects.{ObjectMap}
-use Rattle.pc_heap.specs.Object.{Object}
+use Rattle.pc_heap.specs.Objects.{ObjectMap, Object}
 use Rattle.pc_heap.specs.declared.value.Value.{Value}
 use Rattle.pc_heap.specs.declared.value.Value.TheVariants.{At}
 use Rattle.pc_caps.specs.Tables.{plain}

@@ -2,7 +2,7 @@
 use Rattle.std.specs.Prelude.{◌≡◌, ℕ, true, List, [], ◌∷◌, length, Option, Some, slice_get, refl}
 use Rattle.std.proofs.Common.{inl, ap, sym, subst, ◌∙◌, arith}
 use Rattle.std.proofs.lemmas.Option.{same_Some, none-some}
-use Rattle.pc_heap.specs.Object.{Object}
+use Rattle.pc_heap.specs.Objects.{Object}
 use Rattle.pc_heap.specs.declared.value.Value.{Value}
 use Rattle.pc_caps.specs.Tables.{view}
 use Rattle.pc_caps.specs.declared.capability.Form.{Form}
@@ -13,7 +13,7 @@ use Rattle.pc_core.specs.declared.nodes.Node.{Node}
 use Rattle.pc_core.specs.declared.nodes.NodeKind.{NodeKind}
 use Rattle.pc_core.specs.declared.nodes.NodeKind.TheVariants as nodes
 use Rattle.pc_core.specs.CoreData.{CoreData}
-use Rattle.pc_lists.specs.Options.{◌>>=◌}
+use Rattle.pc_lists.specs.Lists.{◌>>=◌}
 use Rattle.pc_lists.proofs.Options.{bind_some, kept, kept_otherwise}
 use Rattle.pc_core.specs.Nodes.{HasArity}
 use Rattle.pc_ann.specs.declared.annotation.Note.{Note}
@@ -24,7 +24,7 @@ use Rattle.pc_masks.specs.Masks.{has}
 use Rattle.pc_semantics.specs.declared.frames.Frame.{Frame}
 use Rattle.pc_semantics.specs.declared.frames.Task.TheVariants as task
 use Rattle.pc_semantics.specs.Around.{Around, Move, Goes, with_stack, pushed}
-use Rattle.pc_semantics.specs.Fields.{get_value, get_field, get_of, get_from, get_task}
+use Rattle.pc_semantics.specs.Calls.{get_value, get_field, get_of, get_from, get_task}
 use Rattle.pc_rules.specs.Parts.{says_of, through, type_of, one_child, last_child, constructs}
 use Rattle.pc_valid.specs.Words.{Ty, Masks, before}
 use Rattle.pc_rules.specs.Fields.{is_this, field_of, own_field, field_type}

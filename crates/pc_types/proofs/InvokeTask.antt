@@ -14,10 +14,9 @@ use Rattle.pc_core.specs.declared.declarations.Method.{Method}
 use Rattle.pc_core.specs.declared.declarations.MethodKind.TheVariants as method
 use Rattle.pc_core.specs.declared.nodes.NodeKind.{NodeKind}
 use Rattle.pc_core.specs.declared.nodes.NodeKind.TheVariants as nodes
-use Rattle.pc_core.specs.CoreData.{CoreData}
+use Rattle.pc_core.specs.CoreData.{CoreData, own_methods, method_name, method_named}
 use Rattle.pc_tree.specs.Kinds.{may_have_fields}
-use Rattle.pc_core.specs.Lookup.{own_methods, method_name, method_named}
-use Rattle.pc_lists.specs.Lookup.{place_of}
+use Rattle.pc_lists.specs.Lists.{place_of}
 use Rattle.pc_lists.proofs.Options.{bind_some}
 use Rattle.pc_lists.proofs.Lookup.{place_found}
 use Rattle.pc_lists.proofs.Gets.{get_range}

@@ -4,10 +4,9 @@ use Rattle.std.proofs.Common.{inl, inr, ap, sym, subst, ◌∙◌, arith, length
 use Rattle.std.proofs.lemmas.Option.{same_Some, none-some}
 use Rattle.std.proofs.lemmas.List.{length-replicate}
 use Rattle.std.specs.FinMap.{get, insert}
-use Rattle.pc_heap.specs.Objects.{ObjectMap, made_by, next_address, with_field, with_value}
+use Rattle.pc_heap.specs.Objects.{ObjectMap, made_by, next_address, with_field, with_value, Object}
 use Rattle.pc_heap.proofs.Counts.{made_same}
 use Rattle.pc_heap.specs.declared.value.Address.{Address}
-use Rattle.pc_heap.specs.Object.{Object}
 use Rattle.pc_heap.specs.declared.value.Value.{Value}
 use Rattle.pc_tree.specs.declared.kinds.EntityKind.{EntityKind}
 use Rattle.pc_tree.specs.declared.kinds.EntityKind.TheVariants as kind

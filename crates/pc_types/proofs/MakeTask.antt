@@ -5,9 +5,8 @@ use Rattle.std.proofs.lemmas.Option.{same_Some}
 use Rattle.std.specs.FinMap.{insert}
 use Rattle.pc_core.specs.declared.declarations.EntityDef.{EntityDef}
 use Rattle.pc_core.specs.declared.declarations.Method.{Method}
-use Rattle.pc_heap.specs.Objects.{ObjectMap, next_address}
+use Rattle.pc_heap.specs.Objects.{ObjectMap, next_address, Object}
 use Rattle.pc_heap.specs.declared.value.Address.{Address}
-use Rattle.pc_heap.specs.Object.{Object}
 use Rattle.pc_heap.specs.declared.value.Value.{Value}
 use Rattle.pc_heap.specs.declared.value.Value.TheVariants.{At}
 use Rattle.pc_tree.specs.declared.kinds.EntityKind.TheVariants as kind
@@ -21,7 +20,7 @@ use Rattle.pc_core.specs.CoreData.{CoreData}
 use Rattle.pc_tree.specs.Kinds.{may_have_fields}
 use Rattle.pc_core.specs.Methods.{ResultFits}
 use Rattle.pc_core.specs.Nodes.{NamesFit}
-use Rattle.pc_core.specs.Lookup.{NamesMethod}
+use Rattle.pc_core.specs.Further.{NamesMethod}
 use Rattle.pc_ann.specs.declared.annotation.Note.{Note}
 use Rattle.pc_ann.specs.declared.annotation.Ann.{Ann}
 use Rattle.pc_semantics.specs.declared.frames.Frame.{Frame}

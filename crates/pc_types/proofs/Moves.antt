@@ -2,9 +2,8 @@
 -- move that lacks something preserves nothing.
 use Rattle.std.specs.Prelude.{◌≡◌, ◌≢◌, ℕ, ◌<◌, List, ◌∷◌, Some, slice_get}
 use Rattle.std.specs.FinMap.{get, insert}
-use Rattle.pc_heap.specs.Objects.{ObjectMap, with_value, next_address}
+use Rattle.pc_heap.specs.Objects.{ObjectMap, with_value, next_address, Object}
 use Rattle.pc_heap.specs.declared.value.Address.{Address}
-use Rattle.pc_heap.specs.Object.{Object}
 use Rattle.pc_heap.specs.declared.value.Value.{Value}
 use Rattle.pc_tree.specs.declared.kinds.EntityKind.TheVariants as kind
 use Rattle.pc_core.specs.declared.declarations.EntityDef.{EntityDef}

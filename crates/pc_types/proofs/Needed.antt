@@ -12,11 +12,11 @@ use Rattle.pc_core.specs.declared.declarations.ParamInfo.{ParamInfo}
 use Rattle.pc_core.specs.declared.nodes.Slot.{Slot}
 use Rattle.pc_core.specs.declared.nodes.Node.{Node}
 use Rattle.pc_core.specs.declared.nodes.NodeKind.TheVariants as nodes
-use Rattle.pc_core.specs.CoreData.{CoreData}
-use Rattle.pc_lists.specs.Places.{Each}
-use Rattle.pc_core.specs.Lookup.{own_slots, own_nodes, node_end}
+use Rattle.pc_core.specs.CoreData.{CoreData, own_slots, node_end}
+use Rattle.pc_lists.specs.Lists.{Each}
+use Rattle.pc_core.specs.Further.{own_nodes}
 use Rattle.pc_core.specs.Methods.{is_local, SlotsFit, PostOrder}
-use Rattle.pc_core.specs.MethodKinds.{this_slot, param_slot}
+use Rattle.pc_core.specs.Entities.{this_slot, param_slot}
 use Rattle.pc_core.specs.Members.{method_among}
 use Rattle.pc_core.specs.Nodes.{NamesFit, NamesLocal, NamesSlot}
 use Rattle.pc_core.specs.Formed.{Formed}

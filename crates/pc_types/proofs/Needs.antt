@@ -8,13 +8,12 @@ use Rattle.pc_core.specs.declared.declarations.ParamInfo.{ParamInfo}
 use Rattle.pc_core.specs.declared.nodes.Slot.{Slot}
 use Rattle.pc_core.specs.declared.nodes.Node.{Node}
 use Rattle.pc_core.specs.declared.nodes.NodeKind.TheVariants as nodes
-use Rattle.pc_core.specs.CoreData.{CoreData}
-use Rattle.pc_lists.specs.Places.{Each}
-use Rattle.pc_core.specs.Lookup.{method_named}
+use Rattle.pc_core.specs.CoreData.{CoreData, method_named}
+use Rattle.pc_lists.specs.Lists.{Each}
 use Rattle.pc_core.specs.Nodes.{NamesSlot}
 use Rattle.pc_core.specs.Formed.{Formed}
 use Rattle.pc_ann.specs.declared.annotation.Ann.{Ann}
-use Rattle.pc_sub.specs.Sub.{Sub}
+use Rattle.pc_sub.specs.Declarations.{Sub}
 use Rattle.pc_core.specs.Conforms.{StandsFor}
 use Rattle.pc_rules.proofs.ByNumber.{slot_of}
 use Rattle.pc_rules.specs.Checks.{Checks}

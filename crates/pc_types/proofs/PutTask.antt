@@ -5,12 +5,12 @@ use Rattle.std.proofs.lemmas.Option.{same_Some, none-some}
 use Rattle.std.proofs.lemmas.Bool.{and_parts}
 use Rattle.std.proofs.lemmas.Bool.Decides.{eqb_tells}
 use Rattle.std.specs.FinMap.{get}
-use Rattle.pc_heap.specs.Objects.{ObjectMap, with_field, with_value}
-use Rattle.pc_heap.specs.Object.{Object}
+use Rattle.pc_heap.specs.Objects.{ObjectMap, with_field, with_value, Object}
 use Rattle.pc_heap.specs.declared.value.Value.{Value}
 use Rattle.pc_heap.specs.declared.value.Value.TheVariants.{At}
 use Rattle.pc_lists.proofs.Gets.{get_within, get_set_same, get_set_other}
-use Rattle.pc_caps.specs.Tables.{taken, may_write}
+use Rattle.pc_caps.specs.Tables.{taken}
+use Rattle.pc_caps.specs.Computed.{may_write}
 use Rattle.pc_caps.specs.declared.capability.Form.{Form}
 use Rattle.pc_caps.specs.declared.capability.Form.TheVariants as form
 use Rattle.pc_core.specs.declared.declarations.FieldInfo.{FieldInfo}
@@ -19,7 +19,7 @@ use Rattle.pc_core.specs.declared.nodes.Node.{Node}
 use Rattle.pc_core.specs.declared.nodes.NodeKind.{NodeKind}
 use Rattle.pc_core.specs.declared.nodes.NodeKind.TheVariants as nodes
 use Rattle.pc_core.specs.CoreData.{CoreData}
-use Rattle.pc_lists.specs.Options.{◌>>=◌}
+use Rattle.pc_lists.specs.Lists.{◌>>=◌}
 use Rattle.pc_lists.proofs.Options.{bind_some, kept, kept_otherwise}
 use Rattle.pc_masks.specs.declared.mask.Mask.{Mask}
 use Rattle.pc_ann.specs.declared.annotation.Note.{Note}
@@ -31,7 +31,7 @@ use Rattle.pc_masks.specs.MaskLaws.{with_number_bits}
 use Rattle.pc_semantics.specs.declared.frames.Frame.{Frame}
 use Rattle.pc_semantics.specs.declared.frames.Task.TheVariants as task
 use Rattle.pc_semantics.specs.Around.{Around, Move, Writes, with_stack, pushed, value_or_none}
-use Rattle.pc_semantics.specs.Fields.{put_value, put_field, put_of, put_into, put_task}
+use Rattle.pc_semantics.specs.Calls.{put_value, put_field, put_of, put_into, put_task}
 use Rattle.pc_rules.specs.Parts.{says_of, goes_to, through, type_of, last_child, constructs}
 use Rattle.pc_valid.specs.Words.{Ty, Masks, before, place}
 use Rattle.pc_rules.specs.Fields.{is_this, field_of, own_field, writes, written_field, old_type, own_old, own_writes}

@@ -1,6 +1,6 @@
 -- From a valid annotation to every step of every schedule: nothing is lacking.
 use Rattle.pc_semantics.specs.Configurations.{start}
-use Rattle.pc_semantics.specs.Runs.{after}
+use Rattle.pc_semantics.specs.Step.{after}
 use Rattle.pc_rules.proofs.Derivations.{to_valid}
 use Rattle.pc_types.specs.Laws.{AcceptedNeverLacks}
 use Rattle.pc_types.proofs.Needs.{Needs}

@@ -7,9 +7,8 @@ use Rattle.std.proofs.lemmas.Option.{same_Some, none-some}
 use Rattle.std.proofs.lemmas.Bool.{lt-ltb}
 use Rattle.std.proofs.lemmas.Slice.Eq.{bytes_eq-Decides}
 use Rattle.std.specs.FinMap.{empty, get, insert, get-empty}
-use Rattle.pc_heap.specs.Objects.{address_cmp, ObjectMap, made_by, new_object, with_field}
+use Rattle.pc_heap.specs.Objects.{address_cmp, ObjectMap, made_by, new_object, with_field, Object}
 use Rattle.pc_heap.specs.declared.value.Address.{Address}
-use Rattle.pc_heap.specs.Object.{Object}
 use Rattle.pc_heap.specs.declared.value.Value.{Value}
 use Rattle.pc_heap.specs.declared.value.Value.TheVariants.{At}
 use Rattle.pc_lists.proofs.Gets.{get_below, get_map}
@@ -21,17 +20,15 @@ use Rattle.pc_core.specs.declared.declarations.EntityDef.{EntityDef}
 use Rattle.pc_core.specs.declared.declarations.FieldInfo.{FieldInfo}
 use Rattle.pc_core.specs.declared.declarations.MethodKind.TheVariants as method
 use Rattle.pc_core.specs.declared.declarations.ParamInfo.{ParamInfo}
-use Rattle.pc_core.specs.CoreData.{CoreData}
-use Rattle.pc_lists.specs.Places.{Differ}
-use Rattle.pc_core.specs.Lookup.{method_named}
+use Rattle.pc_core.specs.CoreData.{CoreData, method_named}
+use Rattle.pc_lists.specs.Lists.{Differ}
 use Rattle.pc_core.specs.Entities.{out_field}
 use Rattle.pc_core.specs.Formed.{Formed}
 use Rattle.pc_ann.specs.declared.annotation.Ann.{Ann}
 use Rattle.pc_lists.proofs.Bools.{false_true}
 use Rattle.pc_rules.specs.Checks.{Checks}
 use Rattle.pc_semantics.specs.declared.actors.Actor.{Actor}
-use Rattle.pc_semantics.specs.Configurations.{own_address, number_of_entity, main_create, number_of_fields, blank_object, environment, environment_address}
-use Rattle.pc_semantics.specs.Configurations.{start_of, start}
+use Rattle.pc_semantics.specs.Configurations.{own_address, number_of_entity, main_create, number_of_fields, blank_object, environment, environment_address, start_of, start}
 use Rattle.pc_types.proofs.Types.{Finished, OfType, ArgumentsOk}
 use Rattle.pc_types.proofs.Typed.{field_type, ObjectOk, PlaceOk, ObjectsOk, ActorOk, WellTyped}
 use Rattle.pc_types.proofs.Needs.{Needs}

@@ -15,9 +15,7 @@ use Rattle.pc_semantics.specs.declared.outcome.Outcome.TheVariants.{Moved, Skipp
 use Rattle.pc_semantics.specs.Configurations.{Configuration, own_address}
 use Rattle.pc_semantics.specs.Around.{Around}
 use Rattle.pc_heap.specs.declared.value.Value.TheVariants.{At}
-use Rattle.pc_semantics.specs.Tasks.{task_move}
-use Rattle.pc_semantics.specs.Step.{around, run_task, take, take_first, run_frames, step_of, step}
-use Rattle.pc_semantics.specs.Runs.{followed, run_from}
+use Rattle.pc_semantics.specs.Step.{task_move, around, run_task, take, take_first, run_frames, step_of, step, followed, run_from}
 use Rattle.pc_types.proofs.Types.{Finished}
 use Rattle.pc_types.proofs.Tasks.{TasksOk}
 use Rattle.pc_types.proofs.Frames.{FrameOk, WaitOk, FramesOk}

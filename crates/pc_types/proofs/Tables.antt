@@ -2,9 +2,9 @@
 use Rattle.std.specs.Prelude.{◌≡◌, true, false, Option, Some, None, refl}
 use Rattle.std.proofs.Common.{ap, ◌∙◌}
 use Rattle.std.proofs.lemmas.Option.{same_Some, none-some}
-use Rattle.pc_caps.specs.Order.{IsBelow, is_below}
+use Rattle.pc_caps.specs.Tables.{IsBelow, plain, unalias, view, taken, lift}
+use Rattle.pc_caps.specs.Computed.{is_below, fits}
 use Rattle.pc_caps.specs.Closure.{below_iff}
-use Rattle.pc_caps.specs.Tables.{plain, unalias, fits, view, taken, lift}
 use Rattle.pc_caps.specs.declared.capability.Cap.{Cap}
 use Rattle.pc_caps.specs.declared.capability.Cap.TheVariants as cap
 use Rattle.pc_caps.specs.declared.capability.Form.{Form}

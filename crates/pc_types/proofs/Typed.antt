@@ -2,9 +2,8 @@
 -- the messages that wait for it are behaviours of its entity, after its constructor if that has not begun.
 use Rattle.std.specs.Prelude.{◌≡◌, ◌⊎◌, ℕ, ◌<◌, true, List, [], ◌∷◌, length, Some, slice_get}
 use Rattle.std.specs.FinMap.{get}
-use Rattle.pc_heap.specs.Objects.{ObjectMap, class_at, made_by}
+use Rattle.pc_heap.specs.Objects.{ObjectMap, class_at, made_by, Object}
 use Rattle.pc_heap.specs.declared.value.Address.{Address}
-use Rattle.pc_heap.specs.Object.{Object}
 use Rattle.pc_heap.specs.declared.value.Value.{Value}
 use Rattle.pc_caps.specs.Tables.{plain}
 use Rattle.pc_caps.specs.declared.capability.Form.{Form}

@@ -2,8 +2,7 @@
 -- fields of its object have values. A type above another requires no more of a value than that one.
 use Rattle.std.specs.Prelude.{◌≡◌, ℕ, ◌<◌, Bool, true, false, List, [], ◌∷◌, length, Option, Some, None, slice_get}
 use Rattle.std.specs.FinMap.{get}
-use Rattle.pc_heap.specs.Objects.{ObjectMap}
-use Rattle.pc_heap.specs.Object.{Object}
+use Rattle.pc_heap.specs.Objects.{ObjectMap, Object}
 use Rattle.pc_heap.specs.declared.value.Value.{Value}
 use Rattle.pc_heap.specs.declared.value.Value.TheVariants.{Prim, At}
 use Rattle.pc_caps.specs.Tables.{plain}

@@ -1,7 +1,7 @@
 -- What is known of a value's own entity if an entity is required.
 use Rattle.std.specs.Prelude.{◌≡◌, ◌⊎◌, ℕ}
 use Rattle.pc_core.specs.CoreData.{CoreData}
-use Rattle.pc_core.specs.Entities.{IsAbstract}
+use Rattle.pc_core.specs.Further.{IsAbstract}
 use Rattle.pc_core.specs.Conforms.{Conforms}
 
 -- It is that entity, or conforms to it, which is then a trait or an interface. Unlike the order on entities, this is

@@ -1,13 +1,10 @@
 -- What is proved of every program with a valid annotation, in terms of the machine alone: how it begins, and that no
 -- step lacks anything.
 use Rattle.std.specs.Prelude.{◌≡◌, ℕ, List, length}
-use Rattle.pc_core.specs.CoreData.{CoreData}
-use Rattle.pc_core.specs.Formed.{Formed}
+use Rattle.pc_core.specs.{CoreData.CoreData, Formed.Formed}
 use Rattle.pc_ann.specs.declared.annotation.Ann.{Ann}
 use Rattle.pc_valid.specs.Valid.{Valid}
-use Rattle.pc_semantics.specs.Configurations.{start}
-use Rattle.pc_semantics.specs.Runs.{after}
-use Rattle.pc_semantics.specs.Safety.{LacksNothing}
+use Rattle.pc_semantics.specs.{Configurations.start, Step.after, Safety.LacksNothing}
 
 -- A program begins with two actors: the stream, and Main, whose constructor's message waits.
 abbrev pub StartHasTwoActors : Type 0

@@ -3,27 +3,19 @@
 -- `own` is the note of the node, and `notes` are those of its children, in order. A type is that of the node's value,
 -- or none if the value cannot be used.
 use Rattle.std.specs.Prelude.{◌≡◌, ◌⊎◌, ◌↔◌, ℕ, ◌+◌, true, false, List, [], ◌∷◌, ◌++◌, length, codes, Option, Some, None, slice_get}
-use Rattle.pc_caps.specs.Tables.{view, taken, enters, plain, unalias, sendable_form}
-use Rattle.pc_caps.specs.declared.capability.Cap.{Cap}
+use Rattle.pc_caps.specs.{Tables.view, Tables.taken, Tables.enters, Tables.plain, Tables.unalias, Tables.sendable_form, declared.capability.Cap.Cap, declared.capability.Form.Form}
+use Rattle.pc_tree.specs.{Kinds.none_entity, Kinds.u64_entity, Kinds.bool_entity, Kinds.string_entity, declared.kinds.Op.Op}
+use Rattle.pc_core.specs.{declared.declarations.Method.Method, declared.nodes.Node.Node, declared.nodes.NodeKind.NodeKind, CoreData.CoreData}
+use Rattle.pc_ann.specs.{declared.annotation.Note.Note, declared.annotation.Rule.Rule}
+use Rattle.pc_masks.specs.Masks.{IsInMask, with_number, without_number, first}
+use Rattle.pc_valid.specs.Words.{Ty, Masks, FormFits, IsLower, GoesTo, ReadsValue, Joined, Recovers, before, masks_after, on_both_ways, OneAfterOther, AllSet, StartsSet, Slots, SlotOf, Reachable, DefinedAs, Defines, FieldOf, place, Called, Go, Sendable, Incomplete}
 use Rattle.pc_caps.specs.declared.capability.Cap.TheVariants as cap
-use Rattle.pc_caps.specs.declared.capability.Form.{Form}
 use Rattle.pc_caps.specs.declared.capability.Form.TheVariants as form
-use Rattle.pc_tree.specs.BuiltIn.{none_entity, u64_entity, bool_entity, string_entity}
-use Rattle.pc_tree.specs.declared.kinds.Op.{Op}
 use Rattle.pc_tree.specs.declared.kinds.Op.TheVariants as op
-use Rattle.pc_core.specs.declared.declarations.Method.{Method}
 use Rattle.pc_core.specs.declared.declarations.MethodKind.TheVariants as method
 use Rattle.pc_core.specs.declared.nodes.SlotKind.TheVariants as slot_kind
-use Rattle.pc_core.specs.declared.nodes.Node.{Node}
-use Rattle.pc_core.specs.declared.nodes.NodeKind.{NodeKind}
 use Rattle.pc_core.specs.declared.nodes.NodeKind.TheVariants as node_kind
-use Rattle.pc_core.specs.CoreData.{CoreData}
-use Rattle.pc_ann.specs.declared.annotation.Note.{Note}
-use Rattle.pc_ann.specs.declared.annotation.Rule.{Rule}
 use Rattle.pc_ann.specs.declared.annotation.Rule.TheVariants as rule
-use Rattle.pc_masks.specs.Masks.{IsInMask, with_number, without_number, first}
-use Rattle.pc_valid.specs.Words.{Ty, Masks, FormFits, IsLower, GoesTo, ReadsValue, Joined, Recovers, before, masks_after, on_both_ways, OneAfterOther, AllSet}
-use Rattle.pc_valid.specs.Words.{StartsSet, Slots, SlotOf, Reachable, DefinedAs, Defines, FieldOf, place, Called, Go, Sendable, Incomplete}
 
 -- ---- values and slots
 

@@ -1,14 +1,10 @@
 -- Derivations: when an annotation is valid.
 use Rattle.std.specs.Prelude.{◌≡◌, ℕ, ◌<◌, List, [], ◌∷◌, length, Some, slice_get}
 use Rattle.pc_sub.specs.Declarations.{DeclOk}
-use Rattle.pc_core.specs.declared.declarations.Method.{Method}
-use Rattle.pc_core.specs.declared.nodes.Node.{Node}
-use Rattle.pc_core.specs.CoreData.{CoreData}
-use Rattle.pc_lists.specs.Places.{Each}
-use Rattle.pc_ann.specs.declared.annotation.Note.{Note}
-use Rattle.pc_ann.specs.declared.annotation.Ann.{Ann}
-use Rattle.pc_valid.specs.Words.{Place, Slots, IsConstructor, AllSet}
-use Rattle.pc_valid.specs.Rules.{Means}
+use Rattle.pc_core.specs.{declared.declarations.Method.Method, declared.nodes.Node.Node, CoreData.CoreData}
+use Rattle.pc_lists.specs.Lists.{Each}
+use Rattle.pc_ann.specs.{declared.annotation.Note.Note, declared.annotation.Ann.Ann}
+use Rattle.pc_valid.specs.{Words.Place, Words.Slots, Words.IsConstructor, Words.AllSet, Rules.Means}
 
 -- ---- a node and its rule
 

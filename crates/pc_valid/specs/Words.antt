@@ -1,26 +1,15 @@
 -- The vocabulary of the typing rules: types, places and masks, slots, fields and methods by their names, and when a
 -- value may be used for another.
 use Rattle.std.specs.Prelude.{◌≡◌, ◌⊎◌, ℕ, true, ◌+◌, ◌<◌, ◌-◌, List, [], ◌∷◌, ◌++◌, length, Option, Some, None, slice_get}
-use Rattle.pc_caps.specs.Order.{IsBelow}
-use Rattle.pc_caps.specs.Tables.{unalias, stored, lift, sendable, sendable_form}
-use Rattle.pc_caps.specs.declared.capability.Cap.{Cap}
-use Rattle.pc_caps.specs.declared.capability.Form.{Form}
-use Rattle.pc_caps.specs.declared.capability.Form.TheVariants as form
-use Rattle.pc_core.specs.declared.declarations.EntityDef.{EntityDef}
-use Rattle.pc_core.specs.declared.declarations.FieldInfo.{FieldInfo}
-use Rattle.pc_core.specs.declared.declarations.Method.{Method}
-use Rattle.pc_core.specs.declared.declarations.MethodKind.{MethodKind}
-use Rattle.pc_core.specs.declared.declarations.MethodKind.TheVariants as method
-use Rattle.pc_core.specs.declared.declarations.ParamInfo.{ParamInfo}
-use Rattle.pc_core.specs.declared.nodes.Slot.{Slot}
-use Rattle.pc_core.specs.declared.nodes.Node.{Node}
-use Rattle.pc_core.specs.declared.nodes.NodeKind.TheVariants as node_kind
-use Rattle.pc_core.specs.CoreData.{CoreData}
-use Rattle.pc_lists.specs.Places.{Has}
-use Rattle.pc_sub.specs.Sub.{Sub}
-use Rattle.pc_masks.specs.declared.mask.Mask.{Mask}
+use Rattle.pc_caps.specs.{Tables.IsBelow, Tables.unalias, Tables.stored, Tables.lift, Tables.sendable, Tables.sendable_form, declared.capability.Cap.Cap, declared.capability.Form.Form}
+use Rattle.pc_core.specs.{declared.declarations.EntityDef.EntityDef, declared.declarations.FieldInfo.FieldInfo, declared.declarations.Method.Method, declared.declarations.MethodKind.MethodKind, declared.declarations.ParamInfo.ParamInfo, declared.nodes.Slot.Slot, declared.nodes.Node.Node, CoreData.CoreData}
+use Rattle.pc_lists.specs.Lists.{Has}
+use Rattle.pc_sub.specs.Declarations.{Sub}
+use Rattle.pc_masks.specs.{declared.mask.Mask.Mask, Masks.IsInMask, Masks.empty, Masks.first, Masks.meet}
 use Rattle.pc_ann.specs.declared.annotation.Note.{Note}
-use Rattle.pc_masks.specs.Masks.{IsInMask, empty, first, meet}
+use Rattle.pc_caps.specs.declared.capability.Form.TheVariants as form
+use Rattle.pc_core.specs.declared.declarations.MethodKind.TheVariants as method
+use Rattle.pc_core.specs.declared.nodes.NodeKind.TheVariants as node_kind
 
 -- ---- types
 

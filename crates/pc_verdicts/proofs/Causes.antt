@@ -6,20 +6,16 @@ use Rattle.std.proofs.lemmas.Option.{none-some, same_Some}
 use Rattle.pc_body_spec.specs.Faults.{BodyNameFault, double, long_text, unknown}
 use Rattle.pc_body_spec.specs.Methods.{MethodFault, MethodOutcome, in_body, nodes_full, slots_full}
 use Rattle.pc_body_spec.specs.Scopes.{Context}
-use Rattle.pc_file_spec.specs.Members.{Owned}
-use Rattle.pc_file_spec.specs.Parts.{Parts, and_member, and_members, body_fault, if_ok, name_fault, outcome, with_outcome}
-use Rattle.pc_file_spec.specs.Signatures.{context_of}
-use Rattle.pc_lists.specs.Texts.{Text}
-use Rattle.pc_members.specs.Words.{built_in_names, entity_names, field_texts}
-use Rattle.pc_members.specs.Tables.{trait_names}
-use Rattle.pc_names.specs.Counts.{count_faults, method_count}
-use Rattle.pc_names.specs.Cycles.{cycle_faults}
+use Rattle.pc_file_spec.specs.Cores.{Owned, Parts, and_member, and_members, body_fault, if_ok, name_fault, outcome, with_outcome, context_of}
+use Rattle.pc_lists.specs.Lists.{Text}
+use Rattle.pc_members.specs.Members.{built_in_names, entity_names, field_texts}
+use Rattle.pc_members.specs.MemberLists.{trait_names}
+use Rattle.pc_names.specs.Faults.{count_faults, method_count, cycle_faults, IsNotMemory, name_faults, main_faults}
 use Rattle.pc_names.specs.Faults as spec
-use Rattle.pc_names.specs.Names.{IsNotMemory, name_faults}
-use Rattle.pc_names.specs.Mains.{is_main, main_faults}
+use Rattle.pc_names.specs.Mains.{is_main}
 use Rattle.pc_names.specs.declared.fault.NameFault.{NameFault}
 use Rattle.pc_names.specs.declared.fault.NameFault.TheVariants as fault
-use Rattle.pc_tree.specs.BuiltIn.{first_own}
+use Rattle.pc_tree.specs.Kinds.{first_own}
 use Rattle.pc_tree.specs.Tree as t
 use Rattle.pc_tree.specs.declared.file.ParamDef.{ParamDef}
 use Rattle.pc_tree.specs.declared.written_names.Name.{Name}

@@ -4,11 +4,11 @@ use Rattle.std.proofs.Common.{◌≡◌, ◌<◌, ◌+◌, ℕ, zero, suc, List,
 use Rattle.std.specs.Prelude.{slice_get}
 use Rattle.std.proofs.lemmas.Option.{same_Some}
 use Rattle.pc_lists.proofs.Gets.{get_below}
-use Rattle.pc_lists.specs.Places.{Has, IsIn}
+use Rattle.pc_lists.specs.Lists.{Has, IsIn}
 use Rattle.pc_members.proofs.Reached.{Within, led_listed, listed_led}
 use Rattle.pc_members.proofs.Reaches.{get_in, in_get}
-use Rattle.pc_members.specs.Reach.{EdgePath, Edges, ascending, link, links, edges_from as after, reached}
-use Rattle.pc_members.specs.Words.{or_nil}
+use Rattle.pc_members.specs.Edges.{EdgePath, Edges, ascending, link, links, edges_from as after, reached}
+use Rattle.pc_members.specs.Members.{or_nil}
 use Rattle.pc_sends.proofs.Filtered.{Filtered}
 use Rattle.pc_verdicts.proofs.Deciding.{filtered, has_told, turned}
 use Rattle.pc_verdicts.proofs.Same.{Told}

@@ -10,7 +10,7 @@ use Rattle.pc_events.specs.Before.Before.{carried, chain, own}
 use Rattle.pc_events.specs.Clock.{Clock, Clocks, UpTo}
 use Rattle.pc_events.specs.Counting.{is_event}
 use Rattle.pc_lists.proofs.Gets.{get_below, get_push}
-use Rattle.pc_lists.specs.Places.{Each}
+use Rattle.pc_lists.specs.Lists.{Each}
 use Rattle.pc_semantics.specs.Ahead.{ahead_of}
 use Rattle.pc_semantics.specs.declared.ahead.Ahead.{Ahead}
 use Rattle.pc_semantics.specs.declared.ahead.Ahead.TheVariants as ahead

@@ -4,7 +4,7 @@ use Rattle.std.specs.Prelude.{slice_get}
 use Rattle.std.proofs.lemmas.Bool.{cases_eq, cases_lt, false≢true, true≢false}
 use Rattle.std.proofs.lemmas.Option.{none-some, same_Some}
 use Rattle.pc_lists.proofs.Elements.{has_on}
-use Rattle.pc_lists.specs.Places.{Has}
+use Rattle.pc_lists.specs.Lists.{Has}
 use Rattle.pc_sends.proofs.Filtered.{Filtered, filtered_none, filtered_push, filtered_skip}
 use Rattle.pc_verdicts.proofs.Same.{Told, same_option}
 

@@ -7,13 +7,11 @@ use Rattle.pc_core.specs.CoreData.{CoreData}
 use Rattle.pc_core.specs.Formed.{Formed}
 use Rattle.pc_deriv.specs.Text.{deriv_text}
 use Rattle.pc_deriv.specs.declared.version.Version.TheVariants as version
-use Rattle.pc_lists.specs.Texts.{Text}
+use Rattle.pc_lists.specs.Lists.{Text}
 use Rattle.pc_rules.proofs.Unique.{one_valid}
 use Rattle.pc_valid.specs.Valid.{Valid}
-use Rattle.pc_refusals.specs.Accepting.{AcceptedStage}
-use Rattle.pc_refusals.specs.Named.{Named, Reading}
-use Rattle.pc_refusals.specs.Source.{source_limit}
-use Rattle.pc_refusals.specs.Verdict.{done}
+use Rattle.pc_refusals.specs.Source.{AcceptedStage, source_limit}
+use Rattle.pc_refusals.specs.Verdict.{Named, Reading, done}
 use Rattle.pc_refusals.specs.declared.typing.Accepted.{Accepted}
 use Rattle.pc_top.specs.Commands.Check.{Derived, IsCheck}
 use Rattle.pc_top.specs.CoresFormed.{CoresAreFormed}

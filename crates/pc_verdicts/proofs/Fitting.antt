@@ -13,13 +13,11 @@ use Rattle.pc_caps.specs.Tables.{plain, stored, taken, unalias, view}
 use Rattle.pc_caps.specs.declared.capability.Cap.{Cap}
 use Rattle.pc_caps.specs.declared.capability.Form.{Form}
 use Rattle.pc_caps.specs.declared.capability.Form.TheVariants as form
-use Rattle.pc_check.specs.Inference.{first_note, first_types, inferred_slot, note_of, note_or_else, inferred_slot_type, unwritten, with_inferred}
-use Rattle.pc_check.specs.Inference.{with_inferred_slot, written_type}
-use Rattle.pc_core.specs.CoreData.{CoreData}
+use Rattle.pc_check.specs.Inference.{first_note, first_types, inferred_slot, note_of, note_or_else, inferred_slot_type, unwritten, with_inferred, with_inferred_slot, written_type}
+use Rattle.pc_core.specs.CoreData.{CoreData, field_named}
 use Rattle.pc_core.specs.Formed.{Formed}
-use Rattle.pc_core.specs.Lookup.{field_named}
 use Rattle.pc_core.specs.Methods.{SlotsFit}
-use Rattle.pc_core.specs.MethodKinds.{param_slot, this_slot}
+use Rattle.pc_core.specs.Entities.{param_slot, this_slot}
 use Rattle.pc_core.specs.Nodes.{NamesFit}
 use Rattle.pc_core.specs.declared.declarations.EntityDef.{EntityDef}
 use Rattle.pc_core.specs.declared.declarations.FieldInfo.{FieldInfo}
@@ -32,7 +30,7 @@ use Rattle.pc_deriv.specs.Text.{MaskFits, NoteFits, SlotFits, TypeFits}
 use Rattle.pc_lists.proofs.Gets.{append_get, get_below, map_get, range_get}
 use Rattle.pc_lists.proofs.Options.{bind_some, kept, kept_otherwise}
 use Rattle.pc_lists.proofs.Ranges.{run_around}
-use Rattle.pc_lists.specs.Options.{◌>>=◌}
+use Rattle.pc_lists.specs.Lists.{◌>>=◌}
 use Rattle.pc_masks.specs.Masks.{empty, first, has, meet, with_number, without_number}
 use Rattle.pc_masks.specs.declared.mask.Mask.{Mask}
 use Rattle.pc_rules.specs.Calls as call

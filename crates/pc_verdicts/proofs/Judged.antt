@@ -18,7 +18,7 @@ use Rattle.pc_judge.specs.Faults as spec
 use Rattle.pc_judge.specs.declared.faults.JudgeFault.{JudgeFault}
 use Rattle.pc_judge.specs.declared.faults.JudgeFault.TheVariants as fault
 use Rattle.pc_lists.proofs.Gets.{get_below, get_within}
-use Rattle.pc_lists.specs.Texts.{Text}
+use Rattle.pc_lists.specs.Lists.{Text}
 use Rattle.pc_valid.specs.Words.{before}
 use Rattle.pc_valid.specs.Valid.{KeepsWritten, MeetsRule, Valid}
 use Rattle.pc_rules.specs.Rules.{IsSaid, said_by, says}

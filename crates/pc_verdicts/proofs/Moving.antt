@@ -2,18 +2,15 @@
 use Rattle.std.proofs.Common.{◌≡◌, ◌<◌, ◌+◌, ℕ, List, [], ◌∷◌, Option, Some, None, inl, inr, refl, subst, arith}
 use Rattle.std.specs.Prelude.{Result}
 use Rattle.pc_args.specs.Asked.{Asked, check, events, explain, judge, make, outcomes, places, play, run, schedule_of, sends, show, swap, trace, upgrade, command_of}
-use Rattle.pc_args.specs.Numbers.{IsSeed}
-use Rattle.pc_deriv.specs.Limits.{derivation_limit}
-use Rattle.pc_lists.specs.Texts.{Text}
-use Rattle.pc_refusals.specs.Accepting.{AcceptedStage}
+use Rattle.pc_args.specs.Line.{IsSeed}
+use Rattle.pc_deriv.specs.Text.{derivation_limit}
+use Rattle.pc_lists.specs.Lists.{Text}
+use Rattle.pc_refusals.specs.Source.{AcceptedStage, FromFile, SourceStage, source_limit}
 use Rattle.pc_refusals.specs.Derivation.{in_parts}
-use Rattle.pc_refusals.specs.FromFile.{FromFile}
-use Rattle.pc_refusals.specs.FromFile.FromFile.{goes_on, refuses}
-use Rattle.pc_refusals.specs.Named.{FailedAt, Files, Named, NoneFailed, Reading, IsReading, longer, named, whole}
-use Rattle.pc_refusals.specs.Source.{SourceStage, source_limit}
-use Rattle.pc_refusals.specs.Verdict.{EndsWith, Verdict}
+use Rattle.pc_refusals.specs.Source.FromFile.{goes_on, refuses}
+use Rattle.pc_refusals.specs.Verdict.{FailedAt, Files, Named, NoneFailed, Reading, IsReading, longer, named, whole, EndsWith, Verdict}
 use Rattle.pc_ann.specs.declared.annotation.Ann.{Ann}
-use Rattle.pc_sched.specs.Limits.{schedule_limit}
+use Rattle.pc_sched.specs.Schedules.{schedule_limit}
 use Rattle.pc_top.specs.Commands.{FailedOf, IsVerdictOf, files_of}
 use Rattle.pc_core_commands.specs.Events.{EventsTelling}
 use Rattle.pc_core_commands.specs.Outcomes.{IsCount}

@@ -3,8 +3,8 @@ use Rattle.std.proofs.Common.{◌⊎◌, ◌≤◌, ◌^◌, ℕ, List, [], ◌�
 use Rattle.std.specs.Char.{digit_value}
 use Rattle.std.specs.Str.Parse.{AllDigits, digits_value}
 use Rattle.std.proofs.lemmas.Bool.{cases_lt}
-use Rattle.pc_args.specs.Numbers.{IsNumber, IsSeed, IsSize}
-use Rattle.pc_lists.specs.Texts.{Text}
+use Rattle.pc_args.specs.Line.{IsNumber, IsSeed, IsSize}
+use Rattle.pc_lists.specs.Lists.{Text}
 use Rattle.pc_refusal_lines.specs.Lines.{usage_line}
 use Rattle.pc_refusals.specs.Verdict.{Verdict, refused}
 use Rattle.pc_core_commands.specs.Outcomes.{IsCount, seeds_limit}

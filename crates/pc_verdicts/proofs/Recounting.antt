@@ -10,7 +10,7 @@ use Rattle.pc_events.proofs.Order.{earlier_comes_before}
 use Rattle.pc_events.proofs.Totals.{moving}
 use Rattle.pc_events.specs.Before.{Carries, Event, at_place, waiting_for}
 use Rattle.pc_events.specs.Clock.{Clocks}
-use Rattle.pc_lists.specs.Texts.{Text}
+use Rattle.pc_lists.specs.Lists.{Text}
 use Rattle.pc_regions.specs.Laws.{ValidIsSafe}
 use Rattle.pc_run.specs.Spreading.{spread}
 use Rattle.pc_run_events.proofs.Access.{IsTask}
@@ -22,7 +22,7 @@ use Rattle.pc_run_events.specs.Lines.{events_text_of_run}
 use Rattle.pc_run_events.specs.declared.events.Deed.{Deed}
 use Rattle.pc_run_events.specs.declared.events.Deed.TheVariants as deed
 use Rattle.pc_run_events.specs.declared.events.RunEvent.{RunEvent}
-use Rattle.pc_sched.specs.Limits.{schedule_limit}
+use Rattle.pc_sched.specs.Schedules.{schedule_limit}
 use Rattle.pc_semantics.specs.Ahead.{ahead_of}
 use Rattle.pc_semantics.specs.Safety.{Safe, access}
 use Rattle.pc_semantics.specs.declared.access.Access.{Access}
@@ -30,9 +30,8 @@ use Rattle.pc_semantics.specs.declared.ahead.Ahead.{Ahead}
 use Rattle.pc_semantics.specs.declared.ahead.Ahead.TheVariants as ahead
 use Rattle.pc_trace.specs.declared.touch.Touch.{Touch}
 use Rattle.pc_refusal_lines.specs.Lines.{many_actors_line, too_long_line}
-use Rattle.pc_refusals.specs.Named.{Named}
+use Rattle.pc_refusals.specs.Verdict.{Named, EndsWith, refused}
 use Rattle.pc_refusals.specs.Source.{source_limit}
-use Rattle.pc_refusals.specs.Verdict.{EndsWith, refused}
 use Rattle.pc_core_commands.specs.Events.{EventsTelling}
 use Rattle.pc_top.specs.Commands.Events.{IsEvents}
 use Rattle.pc_core_commands.specs.Events.EventsTelling.{tells, too_long, too_many}

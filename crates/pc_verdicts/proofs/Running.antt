@@ -2,23 +2,21 @@
 use Rattle.std.proofs.Common.{ℕ, List, [], ◌∷◌, Ok, inl, inr, refl, subst, arith}
 use Rattle.std.specs.Prelude.{IsSome}
 use Rattle.std.specs.List.{AllByRecursion}
-use Rattle.pc_args.specs.Numbers.{IsSeed, IsSize}
+use Rattle.pc_args.specs.Line.{IsSeed, IsSize}
 use Rattle.pc_choose.proofs.Cutting.{lists_are_in_turns}
 use Rattle.pc_choose.proofs.Listing.{lists_are_one, lists_are_short}
 use Rattle.pc_choose.specs.Laws.{IsTurn}
 use Rattle.pc_choose.specs.Lists.{Chosen}
 use Rattle.pc_core.specs.CoreData.{CoreData}
-use Rattle.pc_gen.specs.Schedule.{schedule as own_schedule}
-use Rattle.pc_lists.specs.Texts.{Text}
+use Rattle.pc_gen.specs.Program.{schedule as own_schedule}
+use Rattle.pc_lists.specs.Lists.{Text}
 use Rattle.pc_run.specs.Ends.{NeverLacks}
 use Rattle.pc_run.specs.Spreading.{spread}
-use Rattle.pc_sched.specs.Limits.{schedule_limit}
+use Rattle.pc_sched.specs.Schedules.{schedule_limit}
 use Rattle.pc_types.specs.Laws.{AcceptedNeverLacks}
-use Rattle.pc_refusals.specs.Accepting.{AcceptedStage}
+use Rattle.pc_refusals.specs.Source.{AcceptedStage, source_limit}
 use Rattle.pc_refusal_lines.specs.Lines.{usage_line}
-use Rattle.pc_refusals.specs.Named.{Named, Reading, text_as}
-use Rattle.pc_refusals.specs.Source.{source_limit}
-use Rattle.pc_refusals.specs.Verdict.{done, headed, refused}
+use Rattle.pc_refusals.specs.Verdict.{Named, Reading, text_as, done, headed, refused}
 use Rattle.pc_refusals.specs.declared.typing.Accepted.{Accepted}
 use Rattle.pc_core_commands.specs.Make.{made_line, made_name}
 use Rattle.pc_top.specs.Commands.Make.{IsMade, IsMake, MadeRun, made_text}

@@ -3,13 +3,13 @@ use Rattle.std.proofs.Common.{◌≡◌, ◌<◌, ◌≤◌, ◌^◌, ℕ, zero,
 use Rattle.std.specs.List.{AllByRecursion}
 use Rattle.std.proofs.lemmas.Bool.{cases_eq}
 use Rattle.pc_core.specs.CoreData.{CoreData}
-use Rattle.pc_lists.specs.Texts.{Text}
+use Rattle.pc_lists.specs.Lists.{Text}
 use Rattle.pc_run.specs.Ends.{NeverLacks}
 use Rattle.pc_run.specs.Spreading.{spread}
-use Rattle.pc_sched.specs.Limits.{turn_limit}
+use Rattle.pc_sched.specs.Schedules.{turn_limit}
 use Rattle.pc_sched.specs.declared.turns.Turn.{Turn}
-use Rattle.pc_sched_lines.specs.Lines.{IsLine, line_of}
-use Rattle.pc_sched_lines.specs.Rows.{HasOtherActor, RowsOf}
+use Rattle.pc_sched_lines.specs.Lines.{IsLine, line_of, HasOtherActor}
+use Rattle.pc_sched_lines.specs.Rows.{RowsOf}
 use Rattle.pc_sched_lines.proofs.Spelling.{is_line}
 use Rattle.pc_semantics.specs.Text.{steps_of}
 use Rattle.pc_core_commands.specs.Run.{Ran}

@@ -3,9 +3,8 @@ use Rattle.std.proofs.Common.{◌≡◌, ◌⊎◌, ◌<◌, ◌≤◌, ◌+◌,
 use Rattle.std.specs.Prelude.{IsSome, slice_get}
 use Rattle.std.proofs.lemmas.Bool.{cases_eq}
 use Rattle.std.proofs.lemmas.Option.{none-some, same_Some}
-use Rattle.pc_core.specs.CoreData.{CoreData}
+use Rattle.pc_core.specs.CoreData.{CoreData, method_named}
 use Rattle.pc_core.specs.Formed.{Formed}
-use Rattle.pc_core.specs.Lookup.{method_named}
 use Rattle.pc_core.specs.declared.declarations.EntityDef.{EntityDef}
 use Rattle.pc_core.specs.declared.declarations.Method.{Method}
 use Rattle.pc_core.specs.declared.declarations.MethodKind.{MethodKind}
@@ -20,25 +19,20 @@ use Rattle.pc_sends.proofs.Filtered.{filtered_all}
 use Rattle.pc_sends.proofs.Homes.{method_there}
 use Rattle.pc_sends.proofs.Tabled.{RowsTo, rows_all, rows_next, rows_none}
 use Rattle.pc_sends.proofs.There.{reach_below}
-use Rattle.pc_sends.specs.Entities.{IsOrConformsTo, MayBe}
-use Rattle.pc_sends.specs.Reach.{IsSent, Posts, Reach, Sends, is_message}
-use Rattle.pc_sends.specs.Reach.Reach.{first as begins, next as goes_on}
+use Rattle.pc_sends.specs.Tables.{IsOrConformsTo, MayBe, IsSent, Posts, Reach, Sends, is_message, IsLater, IsNever, IsOfActor, IsOwnActor, IsTable, row, Aims, MayCall, UsesMethod, is_called, noted_receiver}
+use Rattle.pc_sends.specs.Tables.Reach.{first as begins, next as goes_on}
 use Rattle.pc_sends.specs.Reached.{AreSent}
-use Rattle.pc_sends.specs.Tables.{IsLater, IsNever, IsOfActor, IsOwnActor, IsTable, row}
-use Rattle.pc_sends.specs.Uses.{Aims, MayCall, UsesMethod, is_called, noted_receiver}
 use Rattle.pc_sends.specs.declared.table.Row.{Row}
 use Rattle.pc_sends.specs.declared.table.Table.{Table}
 use Rattle.pc_core.specs.Conforms.{Conforms}
-use Rattle.pc_sub.specs.Conforms.{conform_faults}
+use Rattle.pc_sub.specs.DeclarationFaults.{conform_faults}
 use Rattle.pc_sub.specs.Faults.{conformed, conforms}
 use Rattle.pc_sub.specs.declared.faults.DeclFault.{DeclFault}
-use Rattle.pc_tree.specs.BuiltIn.{first_own}
-use Rattle.pc_tree.specs.Kinds.{is_abstract}
+use Rattle.pc_tree.specs.Kinds.{first_own, is_abstract}
 use Rattle.pc_tree.specs.declared.kinds.EntityKind.{EntityKind}
 use Rattle.pc_tree.specs.declared.kinds.EntityKind.TheVariants as kind
-use Rattle.pc_refusals.specs.Named.{Named}
+use Rattle.pc_refusals.specs.Verdict.{Named, done}
 use Rattle.pc_refusals.specs.Source.{source_limit}
-use Rattle.pc_refusals.specs.Verdict.{done}
 use Rattle.pc_core_commands.specs.Sends.{table_text}
 use Rattle.pc_top.specs.Commands.Sends.{IsSends, Sent}
 use Rattle.pc_top.specs.CoresFormed.{CoresAreFormed}

@@ -4,27 +4,23 @@ use Rattle.std.specs.Prelude.{IsSome, Result, codes}
 use Rattle.pc_ann.specs.declared.annotation.Ann.{Ann}
 use Rattle.pc_deriv.proofs.Whole.{read_whole}
 use Rattle.pc_deriv.specs.Laws.{IsRead, as_read}
-use Rattle.pc_deriv.specs.Limits.{derivation_limit}
+use Rattle.pc_deriv.specs.Text.{derivation_limit}
 use Rattle.pc_deriv.specs.Lines.{ended_so, fed, nothing_taken}
 use Rattle.pc_deriv.specs.declared.line.Line.{Line}
 use Rattle.pc_deriv.specs.declared.line.LineFault.{LineFault}
-use Rattle.pc_lists.specs.Texts.{Text}
+use Rattle.pc_lists.specs.Lists.{Text}
 use Rattle.pc_run.specs.Spreading.{spread}
 use Rattle.pc_sched.proofs.Together.{told}
-use Rattle.pc_sched.specs.Limits.{schedule_limit}
-use Rattle.pc_sched.specs.Schedules.{FirstScheduleFault}
+use Rattle.pc_sched.specs.Schedules.{schedule_limit, FirstScheduleFault}
 use Rattle.pc_sched.specs.declared.fault.SchedFault.{SchedFault}
 use Rattle.pc_sched.specs.declared.fault.SchedFault.TheVariants.{BadWord, Memory, TooMany}
 use Rattle.pc_sched.specs.declared.turns.Turn.{Turn}
-use Rattle.pc_refusals.specs.Accepting.{AcceptedStage, Typing}
+use Rattle.pc_refusals.specs.Source.{AcceptedStage, Typing, ScheduleStage, Scheduling, Length, SourceStage, source_limit}
 use Rattle.pc_refusals.specs.Derivation.{DerivationStage, Deriving, Judging, text_line, text_status}
 use Rattle.pc_refusals.specs.Derivation.Deriving.{garbled, reads}
-use Rattle.pc_refusals.specs.Named.{Named, Reading}
-use Rattle.pc_refusal_lines.specs.Refusal.{offset_line}
-use Rattle.pc_refusals.specs.Schedule.{ScheduleStage, Scheduling}
-use Rattle.pc_refusals.specs.Schedule.Scheduling.{bad_word, scheduled, too_many}
-use Rattle.pc_refusals.specs.Source.{Length, SourceStage, source_limit}
-use Rattle.pc_refusals.specs.Verdict.{EndsAs, Verdict, refused}
+use Rattle.pc_refusals.specs.Verdict.{Named, Reading, EndsAs, Verdict, refused}
+use Rattle.pc_refusal_lines.specs.Lines.{offset_line}
+use Rattle.pc_refusals.specs.Source.Scheduling.{bad_word, scheduled, too_many}
 use Rattle.pc_refusals.specs.declared.source.Source.{Source}
 use Rattle.pc_refusals.specs.declared.typing.Accepted.{Accepted}
 use Rattle.pc_top.specs.Shapes.{LastOfTurns, OfAccepted, OfDerivation, OfJudged, OfScheduled, OfTurns}

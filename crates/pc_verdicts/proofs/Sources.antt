@@ -5,16 +5,15 @@ use Rattle.pc_core.specs.CoreData.{CoreData}
 use Rattle.pc_core_relation.proofs.Files.{made_cores_stand}
 use Rattle.pc_explain.specs.Explanation.IsExplanation.{declared, no_rule, unset}
 use Rattle.pc_grammar.specs.FileAnswers.{IsFileAnswer, spelled}
-use Rattle.pc_lex.specs.Answers.{TokenList}
-use Rattle.pc_lists.specs.Texts.{Text}
+use Rattle.pc_lex.specs.Pieces.{TokenList}
+use Rattle.pc_lists.specs.Lists.{Text}
 use Rattle.pc_places.specs.Text.{places_text}
 use Rattle.pc_print.specs.Printing.{printed}
 use Rattle.pc_token.specs.declared.kinds.Token.{Token}
 use Rattle.pc_tree.specs.Tree as t
-use Rattle.pc_refusals.specs.Named.{Named, Reading}
+use Rattle.pc_refusals.specs.Verdict.{Named, Reading, Verdict, done}
 use Rattle.pc_refusals.specs.Source.{Elaborating, FileStage, SourceStage, source_limit}
 use Rattle.pc_refusals.specs.Source.Elaborating.{elaborated, misnamed, misused}
-use Rattle.pc_refusals.specs.Verdict.{Verdict, done}
 use Rattle.pc_refusals.specs.declared.source.Source.{Source}
 use Rattle.pc_core_commands.specs.Explain.{CoreText, Explaining, fault_end}
 use Rattle.pc_top.specs.Commands.Explain.{Explained, ExplainedStage, IsExplain}

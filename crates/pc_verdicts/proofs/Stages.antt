@@ -2,16 +2,13 @@
 use Rattle.std.proofs.Common.{◌<◌, ℕ, length, Option, Some, None, Ok, Err, inl, inr, refl}
 use Rattle.std.specs.Prelude.{IfSome, IsSome, Result}
 use Rattle.std.proofs.lemmas.Bool.{cases_lt, false≢true}
-use Rattle.pc_lists.specs.Texts.{Text}
-use Rattle.pc_refusals.specs.After.{After}
-use Rattle.pc_refusals.specs.After.After.{stops, goes}
-use Rattle.pc_refusals.specs.FromFile.{FromFile}
-use Rattle.pc_refusals.specs.FromFile.FromFile.{refuses, goes_on}
+use Rattle.pc_lists.specs.Lists.{Text}
+use Rattle.pc_refusals.specs.Source.{After, FromFile, Length}
+use Rattle.pc_refusals.specs.Source.After.{stops, goes}
+use Rattle.pc_refusals.specs.Source.FromFile.{refuses, goes_on}
 use Rattle.pc_refusal_lines.specs.Lines.{longer_line}
-use Rattle.pc_refusals.specs.Named.{Named, Reading, IsReading, IsReadingOf, longer, whole}
-use Rattle.pc_refusals.specs.Source.{Length}
+use Rattle.pc_refusals.specs.Verdict.{Named, Reading, IsReading, IsReadingOf, longer, whole, EndsAs, Verdict, ended, refused}
 use Rattle.pc_refusals.specs.Source.Length.{fits, is_longer}
-use Rattle.pc_refusals.specs.Verdict.{EndsAs, Verdict, ended, refused}
 
 -- The stage ends with a value or a refusal.
 abbrev pub HasEnd : {T : Type 0} → (Result T Verdict → Type 0) → Type 0

@@ -4,29 +4,27 @@ use Rattle.std.specs.Prelude.{IsSome}
 use Rattle.std.specs.List.{AllByRecursion}
 use Rattle.std.proofs.lemmas.Bool.{cases_eq, cases_lt}
 use Rattle.pc_core.specs.CoreData.{CoreData}
-use Rattle.pc_lists.specs.Texts.{Text}
+use Rattle.pc_lists.specs.Lists.{Text}
 use Rattle.pc_regions.specs.Laws.{ValidIsSafe}
 use Rattle.pc_run.specs.Ends.{NeverLacks}
 use Rattle.pc_run.specs.Spreading.{spread}
-use Rattle.pc_sched.specs.Limits.{schedule_limit, turn_limit}
-use Rattle.pc_sched.specs.Schedules.{SchedulePiece, SpelledTurns, SpellsTurn, TurnList, blank, word}
+use Rattle.pc_sched.specs.Schedules.{schedule_limit, turn_limit, SchedulePiece, SpelledTurns, SpellsTurn, TurnList, blank, word}
 use Rattle.pc_sched.specs.declared.turns.Turn.{Turn}
 use Rattle.pc_sched_lines.proofs.Spreads.{length-spread}
 use Rattle.pc_semantics.specs.Ahead.{ahead_of}
-use Rattle.pc_semantics.specs.Runs.{after, outcomes}
+use Rattle.pc_semantics.specs.Step.{after, outcomes}
 use Rattle.pc_semantics.specs.Safety.{Safe}
 use Rattle.pc_semantics.specs.Text.{end_of}
 use Rattle.pc_swap.proofs.Orders.{steps_swap, whole_lists_swap}
 use Rattle.pc_swap.proofs.Telling.{are_apart, both_make, first_stays, second_stays, to_one}
-use Rattle.pc_swap.specs.Apart.{Apart}
-use Rattle.pc_swap.specs.Kept.{IsKept, is_moving, one_receiver, two_spawns}
+use Rattle.pc_swap.specs.Apart.{Apart, IsKept}
+use Rattle.pc_swap.specs.Ends.{is_moving, one_receiver, two_spawns}
 use Rattle.pc_swap.specs.declared.kept.Kept.{Kept}
 use Rattle.pc_swap.specs.declared.kept.Kept.TheVariants as kept
 use Rattle.pc_types.specs.Laws.{AcceptedNeverLacks}
 use Rattle.pc_refusal_lines.specs.Lines.{no_place_line, too_long_line, usage_line}
-use Rattle.pc_refusals.specs.Named.{Named}
+use Rattle.pc_refusals.specs.Verdict.{Named, EndsWith, refused}
 use Rattle.pc_refusals.specs.Source.{source_limit}
-use Rattle.pc_refusals.specs.Verdict.{EndsWith, refused}
 use Rattle.pc_refusals.proofs.Scheduled.{few_turns, schedule_says}
 use Rattle.pc_core_commands.specs.Swap.{IsPlace, Neighbours, StandAt, SwapText, Swapping, kept_line}
 use Rattle.pc_top.specs.Commands.Swap.{IsSwap, IsSwapAt}

@@ -6,7 +6,7 @@ use Rattle.std.proofs.lemmas.Bool.{cases_lt}
 use Rattle.pc_choose.proofs.Listing.{lists_are_one}
 use Rattle.pc_choose.specs.Able.{able_actors}
 use Rattle.pc_core.specs.CoreData.{CoreData}
-use Rattle.pc_lists.specs.Texts.{Text}
+use Rattle.pc_lists.specs.Lists.{Text}
 use Rattle.pc_outcomes.specs.Plays.{IsPlayOfSeed, ending_after}
 use Rattle.pc_outcomes.specs.Tables.{StepsPass, TextsPass, IsOutcomesTable, shows_outcome, steps_limit, texts_limit, total_steps, total_texts}
 use Rattle.pc_outcomes.specs.Texts.{outcomes_text}
@@ -15,11 +15,10 @@ use Rattle.pc_outcomes.specs.declared.entry.Entry.{Entry}
 use Rattle.pc_outcomes.specs.declared.entry.Play.{Play}
 use Rattle.pc_outcomes.proofs.Grouping.{counted}
 use Rattle.pc_outcomes.proofs.Growing.{none_yet, with_new, with_shown}
-use Rattle.pc_semantics.specs.Runs.{after, outcomes}
+use Rattle.pc_semantics.specs.Step.{after, outcomes}
 use Rattle.pc_semantics.specs.Text.{end_of, lines}
-use Rattle.pc_refusals.specs.Named.{Named}
+use Rattle.pc_refusals.specs.Verdict.{Named, refused}
 use Rattle.pc_refusals.specs.Source.{source_limit}
-use Rattle.pc_refusals.specs.Verdict.{refused}
 use Rattle.pc_core_commands.specs.Outcomes.{IsCount, OutcomesTelling, many_bytes_line, many_steps_line}
 use Rattle.pc_top.specs.Commands.Outcomes.{IsOutcomes, Tabled}
 use Rattle.pc_core_commands.specs.Outcomes.OutcomesTelling.{many_bytes, many_steps, tells}

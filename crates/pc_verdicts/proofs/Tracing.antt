@@ -13,15 +13,14 @@ use Rattle.pc_events.specs.Before.{Event, at_place}
 use Rattle.pc_events.specs.Clock.{Clocks}
 use Rattle.pc_events.specs.Counting.{Live}
 use Rattle.pc_lists.proofs.Gets.{get_within}
-use Rattle.pc_lists.specs.Texts.{Text}
+use Rattle.pc_lists.specs.Lists.{Text}
 use Rattle.pc_regions.specs.Laws.{ValidIsSafe}
 use Rattle.pc_run.specs.Spreading.{spread}
-use Rattle.pc_sched.specs.Limits.{schedule_limit}
+use Rattle.pc_sched.specs.Schedules.{schedule_limit}
 use Rattle.pc_semantics.specs.Ahead.{ahead_of}
 use Rattle.pc_semantics.specs.Configurations.{Configuration, start}
-use Rattle.pc_semantics.specs.Runs.{after, outcomes}
+use Rattle.pc_semantics.specs.Step.{after, outcomes, step}
 use Rattle.pc_semantics.specs.Safety.{LacksNothing, Safe, access}
-use Rattle.pc_semantics.specs.Step.{step}
 use Rattle.pc_semantics.specs.declared.access.Access.{Access}
 use Rattle.pc_semantics.specs.declared.ahead.Ahead.{Ahead}
 use Rattle.pc_semantics.specs.declared.ahead.Ahead.TheVariants as ahead
@@ -32,10 +31,9 @@ use Rattle.pc_trace.proofs.Rests.{few_actors_at_start}
 use Rattle.pc_trace.specs.Traces.{AllTouches, RanOn, TooLongAt, TooManyAt, TouchAt, actor_limit}
 use Rattle.pc_trace.specs.declared.touch.Touch.{Touch}
 use Rattle.pc_refusal_lines.specs.Lines.{many_actors_line, too_long_line}
-use Rattle.pc_refusals.specs.Named.{Named}
+use Rattle.pc_refusals.specs.Verdict.{Named, EndsWith, refused}
 use Rattle.pc_refusals.specs.Source.{source_limit}
-use Rattle.pc_refusals.specs.Verdict.{EndsWith, refused}
-use Rattle.pc_run_events.specs.TouchLines.{trace_text}
+use Rattle.pc_run_events.specs.Lines.{trace_text}
 use Rattle.pc_core_commands.specs.Trace.{Tracing}
 use Rattle.pc_top.specs.Commands.Trace.{IsTrace}
 use Rattle.pc_core_commands.specs.Trace.Tracing.{tells, too_long, too_many}

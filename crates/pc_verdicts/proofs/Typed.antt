@@ -23,7 +23,7 @@ use Rattle.pc_core.specs.declared.nodes.Slot.{Slot}
 use Rattle.pc_deriv.proofs.Reached.{all_app}
 use Rattle.pc_deriv.specs.Text.{NoteFits}
 use Rattle.pc_lists.proofs.Gets.{get_below, get_map, get_within}
-use Rattle.pc_lists.specs.Texts.{Text}
+use Rattle.pc_lists.specs.Lists.{Text}
 use Rattle.pc_masks.specs.Masks.{first}
 use Rattle.pc_rules.proofs.Agreeing.{body_method}
 use Rattle.pc_rules.proofs.Homes.{children_of}
@@ -38,10 +38,10 @@ use Rattle.pc_sub.specs.Declarations.{DeclOk}
 use Rattle.pc_sub.specs.DeclarationFaults.{first_fault}
 use Rattle.pc_sub.specs.Faults.{fits_without_fault}
 use Rattle.pc_sub.specs.declared.faults.DeclFault.{DeclFault}
-use Rattle.pc_refusals.specs.Accepting.{Typing}
-use Rattle.pc_refusals.specs.Accepting.Typing.{declared, no_rule, typed, unset}
-use Rattle.pc_refusals.specs.CoreFaults.{decl_offset, decl_text}
-use Rattle.pc_refusal_lines.specs.Refusal.{offset_line}
+use Rattle.pc_refusals.specs.Source.{Typing}
+use Rattle.pc_refusals.specs.Source.Typing.{declared, no_rule, typed, unset}
+use Rattle.pc_refusals.specs.FaultLines.{decl_offset, decl_text}
+use Rattle.pc_refusal_lines.specs.Lines.{offset_line}
 use Rattle.pc_refusals.specs.Verdict.{refused}
 use Rattle.pc_refusals.specs.declared.source.Source.{Source}
 use Rattle.pc_verdicts.proofs.Fitting.{BothFit, NotesFit, SlotsAreSmall, first_slots, inferred_slots, noted_fits, reaches_fit}

@@ -1,18 +1,16 @@
 -- Each command has a verdict.
 use Rattle.std.proofs.Common.{Option, Some, None, refl, arith}
 use Rattle.pc_args.specs.Asked.{Asked, check, events, explain, judge, make, outcomes, places, play, run, schedule_of, sends, show, swap, trace, upgrade, command_of}
-use Rattle.pc_deriv.specs.Limits.{derivation_limit}
-use Rattle.pc_deriv.specs.Text.{deriv_text}
+use Rattle.pc_deriv.specs.Text.{derivation_limit, deriv_text}
 use Rattle.pc_deriv.specs.declared.version.Version.TheVariants as version
-use Rattle.pc_lists.specs.Texts.{Text}
+use Rattle.pc_lists.specs.Lists.{Text}
 use Rattle.pc_regions.specs.Laws.{ValidIsSafe}
-use Rattle.pc_sched.specs.Limits.{schedule_limit}
+use Rattle.pc_sched.specs.Schedules.{schedule_limit}
 use Rattle.pc_types.specs.Laws.{AcceptedNeverLacks}
 use Rattle.pc_refusals.specs.Derivation.{in_parts}
 use Rattle.pc_refusal_lines.specs.Lines.{usage_line}
-use Rattle.pc_refusals.specs.Named.{Named, named}
+use Rattle.pc_refusals.specs.Verdict.{Named, named, refused}
 use Rattle.pc_refusals.specs.Source.{source_limit}
-use Rattle.pc_refusals.specs.Verdict.{refused}
 use Rattle.pc_top.specs.Commands.{IsVerdictOf}
 use Rattle.pc_core_commands.specs.Judge.{accepted_text}
 use Rattle.pc_top.specs.One.{TellsOf}

@@ -2,14 +2,10 @@
 use Rattle.std.specs.Prelude.{ℕ, ◌≡◌, ◌⊎◌, List}
 use Rattle.std.specs.Io.KnownBytes.{Appends}
 use Rattle.pc_args.specs.Asked.{command_of}
-use Rattle.pc_io.specs.Change.{Change}
-use Rattle.pc_io.specs.Sink.{HasRisen}
-use Rattle.pc_lists.specs.Texts.{Text}
-use Rattle.pc_refusals.specs.Complete.{Completes}
-use Rattle.pc_refusals.specs.Named.{Files}
-use Rattle.pc_refusals.specs.Verdict.{Verdict}
-use Rattle.pc_top.specs.Asked.{FailedIn, IsVerdict}
-use Rattle.pc_top.specs.One.{TellsOf, UnfailedOf}
+use Rattle.pc_io.specs.Sink.{Change, HasRisen}
+use Rattle.pc_lists.specs.Lists.{Text}
+use Rattle.pc_refusals.specs.Verdict.{Completes, Files, Verdict}
+use Rattle.pc_top.specs.{Asked.FailedIn, Asked.IsVerdict, One.TellsOf, One.UnfailedOf}
 use Rattle.pc_verdicts.specs.There.{read_through}
 
 -- The answer has this verdict's status, text and line.

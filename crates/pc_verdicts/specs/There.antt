@@ -1,12 +1,10 @@
 -- There is a verdict on the words, whatever bytes their files have.
 use Rattle.std.specs.Prelude.{◌+◌, List, Option}
 use Rattle.pc_args.specs.Asked.{command_of}
-use Rattle.pc_deriv.specs.Limits.{derivation_limit}
-use Rattle.pc_lists.specs.Texts.{Text}
-use Rattle.pc_refusals.specs.Named.{Files, files_change}
-use Rattle.pc_refusals.specs.Verdict.{Verdict}
-use Rattle.pc_top.specs.Asked.{IsVerdict}
-use Rattle.pc_top.specs.One.{TellsOf}
+use Rattle.pc_deriv.specs.Text.{derivation_limit}
+use Rattle.pc_lists.specs.Lists.{Text}
+use Rattle.pc_refusals.specs.Verdict.{Files, files_change, Verdict}
+use Rattle.pc_top.specs.{Asked.IsVerdict, One.TellsOf}
 
 -- Files with these bytes. No reading of them fails, and if a file is longer than its limit, it is read past the limit:
 -- no limit is greater than that of derivations.

@@ -3,7 +3,7 @@ use Rattle.std.proofs.Common.{◌≡◌, ◌≤◌, ◌-◌, ◌+◌, ℕ, List,
 use Rattle.std.specs.List.{prefix_len}
 use Rattle.std.proofs.lemmas.List.{length-reverse}
 use Rattle.std.proofs.lemmas.List.Sums.{prefix_len-le-length}
-use Rattle.pc_refusal_lines.specs.Place.{is_in_line, column_number}
+use Rattle.pc_refusal_lines.specs.Lines.{is_in_line, column_number}
 
 pub column_within : (front : List ℕ) → column_number front - 1 ≤ length front
 column_within front =

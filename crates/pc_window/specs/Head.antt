@@ -1,8 +1,8 @@
 -- What an explanation begins with.
 use Rattle.std.specs.Prelude.{◌++◌}
 use Rattle.pc_caps.specs.declared.span.Span.{Span}
-use Rattle.pc_lists.specs.Texts.{Text}
-use Rattle.pc_refusal_lines.specs.Refusal.{offset_line}
+use Rattle.pc_lists.specs.Lists.{Text}
+use Rattle.pc_refusal_lines.specs.Lines.{offset_line}
 use Rattle.pc_window.specs.Window.{window}
 
 -- The line by which the source with this name is refused, and the window of the span.

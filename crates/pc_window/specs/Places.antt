@@ -1,8 +1,8 @@
 -- Places in a text, and its pieces.
 use Rattle.std.specs.Prelude.{ℕ, ◌∷◌, ◌++◌, take, drop, decimal}
 use Rattle.pc_caps.specs.declared.span.Span.{Span}
-use Rattle.pc_lists.specs.Texts.{Text}
-use Rattle.pc_refusal_lines.specs.Place.{line_number, column_number}
+use Rattle.pc_lists.specs.Lists.{Text}
+use Rattle.pc_refusal_lines.specs.Lines.{line_number, column_number}
 
 -- The line and the column of the byte at an offset, `L:C`.
 unfoldable pub line_and_column : Text → ℕ → Text

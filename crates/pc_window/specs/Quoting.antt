@@ -1,6 +1,6 @@
 -- Pieces of a source and names, as they appear in a line of words.
 use Rattle.std.specs.Prelude.{ℕ, ◌-◌, Bool, true, false, ◌==◌, ◌||◌, nat_lt, List, [], ◌∷◌, ◌++◌, length, take, Option, Some, None, slice_get, if◌then◌else◌, codes}
-use Rattle.pc_lists.specs.Texts.{Text}
+use Rattle.pc_lists.specs.Lists.{Text}
 use Rattle.pc_window.specs.Shown.{shown, goes_on}
 
 -- How many bytes of a piece are written in full, and how many of a longer one are kept at most.

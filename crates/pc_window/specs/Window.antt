@@ -2,10 +2,9 @@
 use Rattle.std.specs.Prelude.{ℕ, ◌+◌, ◌-◌, Bool, true, false, not, ◌==◌, nat_lt, List, [], ◌∷◌, ◌++◌, length, take, drop, map, flat_map, Option, Some, None, slice_get, if◌then◌else◌, codes, decimal}
 use Rattle.std.specs.List.{prefix_len}
 use Rattle.pc_caps.specs.declared.span.Span.{Span}
-use Rattle.pc_lists.specs.Texts.{Text, line_end}
-use Rattle.pc_refusal_lines.specs.Place.{is_in_line, line_number, column_number}
-use Rattle.pc_window.specs.Places.{line_and_column}
-use Rattle.pc_window.specs.Shown.{shown, goes_on}
+use Rattle.pc_lists.specs.Lists.{Text, line_end}
+use Rattle.pc_refusal_lines.specs.Lines.{is_in_line, line_number, column_number}
+use Rattle.pc_window.specs.{Places.line_and_column, Shown.shown, Shown.goes_on}
 
 -- If there are more than `far` bytes before a span in its line, the line is shown from `near` bytes before the span on.
 -- At most `width` bytes of a line are shown.

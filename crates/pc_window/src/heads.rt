@@ -1,6 +1,6 @@
 //! What an explanation begins with.
 ghost use Rattle.std.specs.Prelude.{◌≡◌, ◌++◌, OnOk};
-ghost use Rattle.pc_refusal_lines.specs.Refusal.{offset_line};
+ghost use Rattle.pc_refusal_lines.specs.Lines.{offset_line};
 ghost use Rattle.pc_window.specs.Head as spec;
 
 use crate::pieces::front_of;

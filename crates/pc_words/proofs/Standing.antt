@@ -3,14 +3,14 @@ use Rattle.std.specs.Prelude.{◌≡◌, ℕ, ◌+◌, Bool, true, false, ◌&&�
 use Rattle.std.proofs.Common.{sym, arith}
 use Rattle.std.proofs.lemmas.Bool.{and_from, and_parts, eqb-true, eq-eqb}
 use Rattle.std.proofs.lemmas.Option.{none-some}
-use Rattle.pc_caps.specs.Order.{is_below}
-use Rattle.pc_caps.specs.Tables.{fits, unalias}
+use Rattle.pc_caps.specs.Computed.{is_below, fits}
+use Rattle.pc_caps.specs.Tables.{unalias}
 use Rattle.pc_core.specs.CoreData.{CoreData}
 use Rattle.pc_core.specs.declared.declarations.Method.{Method}
 use Rattle.pc_core.specs.declared.declarations.ParamInfo.{ParamInfo}
 use Rattle.pc_lists.proofs.Bools.{false_true}
-use Rattle.pc_sub.specs.Chain.{is_chain}
-use Rattle.pc_sub.specs.Conforms as stands
+use Rattle.pc_sub.specs.DeclarationFaults.{is_chain}
+use Rattle.pc_sub.specs.DeclarationFaults as stands
 use Rattle.pc_words.specs.Misfits.{MisfitsAreAll, count_misfit, first_misfit, misfit_or_else, param_misfit, params_misfit, result_misfit}
 use Rattle.pc_words.specs.declared.misfits.Misfit.{Misfit}
 use Rattle.pc_words.specs.declared.misfits.Misfit.TheVariants as misfit_of

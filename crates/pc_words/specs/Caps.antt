@@ -1,12 +1,10 @@
 -- Capabilities and forms in words.
 use Rattle.std.specs.Prelude.{ℕ, zero, suc, List, [], ◌∷◌, ◌++◌, length, codes}
 use Rattle.std.specs.List.{filter}
-use Rattle.pc_caps.specs.Tables.{fits}
-use Rattle.pc_caps.specs.declared.capability.Cap.{Cap}
+use Rattle.pc_caps.specs.{Computed.fits, declared.capability.Cap.Cap, declared.capability.Form.Form}
+use Rattle.pc_lists.specs.Lists.{Text}
 use Rattle.pc_caps.specs.declared.capability.Cap.TheVariants as cap
-use Rattle.pc_caps.specs.declared.capability.Form.{Form}
 use Rattle.pc_caps.specs.declared.capability.Form.TheVariants as form
-use Rattle.pc_lists.specs.Texts.{Text}
 
 abbrev pub cap_word : Cap → Text
 cap_word cap.Iso = codes "iso"

@@ -1,20 +1,11 @@
 -- Why an entity is not below an interface.
 use Rattle.std.specs.Prelude.{ℕ, Bool, true, List, [], ◌++◌, Option, Some, None, slice_get, codes, if◌then◌else◌}
-use Rattle.std.specs.List.{find}
-use Rattle.std.specs.Option.{is_some}
-use Rattle.pc_core.specs.CoreData.{CoreData}
-use Rattle.pc_core.specs.Lookup.{own_methods}
-use Rattle.pc_core.specs.declared.declarations.EntityDef.{EntityDef}
-use Rattle.pc_core.specs.declared.declarations.Method.{Method}
-use Rattle.pc_lists.specs.Texts.{Text}
-use Rattle.pc_sub.specs.Conforms.{method_like}
-use Rattle.pc_sub.specs.Computed.{is_interface}
+use Rattle.std.specs.{List.find, Option.is_some}
+use Rattle.pc_core.specs.{CoreData.CoreData, CoreData.own_methods, declared.declarations.EntityDef.EntityDef, declared.declarations.Method.Method}
+use Rattle.pc_lists.specs.Lists.{Text}
+use Rattle.pc_sub.specs.{DeclarationFaults.method_like, Computed.is_interface}
 use Rattle.pc_window.specs.Quoting.{quoted}
-use Rattle.pc_words.specs.Forms.{name_text}
-use Rattle.pc_words.specs.Methods.{full_method_name}
-use Rattle.pc_words.specs.Misfits.{first_misfit, misfit}
-use Rattle.pc_words.specs.Scene.{SceneData}
-use Rattle.pc_words.specs.declared.misfits.Misfit.{Misfit}
+use Rattle.pc_words.specs.{Forms.name_text, Methods.full_method_name, Misfits.first_misfit, Misfits.misfit, Scene.SceneData, declared.misfits.Misfit.Misfit}
 
 abbrev pub methods_in : CoreData → Option EntityDef → List Method
 methods_in core None = []

@@ -1,22 +1,13 @@
 -- Methods as they are declared.
 use Rattle.std.specs.Prelude.{ℕ, Bool, true, false, ◌&&◌, not, nat_eq, List, [], ◌∷◌, ◌++◌, Option, Some, None, slice_get, codes, if◌then◌else◌}
 use Rattle.std.specs.List.{find}
-use Rattle.pc_caps.specs.declared.capability.Cap.{Cap}
-use Rattle.pc_caps.specs.declared.capability.Form.{Form}
-use Rattle.pc_caps.specs.declared.span.Span.{Span}
-use Rattle.pc_core.specs.CoreData.{CoreData}
-use Rattle.pc_core.specs.declared.declarations.EntityDef.{EntityDef}
-use Rattle.pc_core.specs.declared.declarations.Method.{Method}
-use Rattle.pc_core.specs.declared.declarations.MethodKind.{MethodKind}
-use Rattle.pc_core.specs.declared.declarations.MethodKind.TheVariants as kind
-use Rattle.pc_core.specs.declared.declarations.ParamInfo.{ParamInfo}
-use Rattle.pc_lists.specs.Texts.{Text}
+use Rattle.pc_caps.specs.{declared.capability.Cap.Cap, declared.capability.Form.Form, declared.span.Span.Span}
+use Rattle.pc_core.specs.{CoreData.CoreData, declared.declarations.EntityDef.EntityDef, declared.declarations.Method.Method, declared.declarations.MethodKind.MethodKind, declared.declarations.ParamInfo.ParamInfo}
+use Rattle.pc_lists.specs.Lists.{Text}
 use Rattle.pc_tree.specs.Kinds.{is_abstract}
-use Rattle.pc_window.specs.Places.{piece_of}
-use Rattle.pc_window.specs.Quoting.{piece}
-use Rattle.pc_words.specs.Caps.{cap_word, new_word}
-use Rattle.pc_words.specs.Forms.{entity_words, name_text, place_words, type_words}
-use Rattle.pc_words.specs.Scene.{SceneData}
+use Rattle.pc_window.specs.{Places.piece_of, Quoting.piece}
+use Rattle.pc_words.specs.{Caps.cap_word, Caps.new_word, Forms.entity_words, Forms.name_text, Forms.place_words, Forms.type_words, Scene.SceneData}
+use Rattle.pc_core.specs.declared.declarations.MethodKind.TheVariants as kind
 
 -- `E.m`
 unfoldable pub full_method_name : CoreData → Method → Text

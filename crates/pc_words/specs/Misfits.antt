@@ -1,19 +1,11 @@
 -- Why a method cannot replace another: the first thing that does not fit.
 use Rattle.std.specs.Prelude.{◌≡◌, ◌↔◌, ℕ, ◌+◌, Bool, true, false, ◌==◌, nat_eq, List, [], ◌∷◌, ◌++◌, length, Option, Some, None, slice_get, codes, decimal, if◌then◌else◌}
-use Rattle.pc_caps.specs.Order.{is_below}
-use Rattle.pc_caps.specs.Tables.{fits, unalias}
-use Rattle.pc_core.specs.CoreData.{CoreData}
-use Rattle.pc_core.specs.declared.declarations.Method.{Method}
-use Rattle.pc_core.specs.declared.declarations.ParamInfo.{ParamInfo}
-use Rattle.pc_lists.specs.Texts.{Text}
-use Rattle.pc_sub.specs.Chain.{is_chain}
-use Rattle.pc_sub.specs.Conforms.{stands_for}
-use Rattle.pc_window.specs.Places.{piece_of}
-use Rattle.pc_window.specs.Quoting.{quoted}
-use Rattle.pc_words.specs.Caps.{cap_word, form_word}
-use Rattle.pc_words.specs.Forms.{entity_words, entity_name, with_article}
-use Rattle.pc_words.specs.Scene.{SceneData}
-use Rattle.pc_words.specs.declared.misfits.Misfit.{Misfit}
+use Rattle.pc_caps.specs.{Computed.is_below, Computed.fits, Tables.unalias}
+use Rattle.pc_core.specs.{CoreData.CoreData, declared.declarations.Method.Method, declared.declarations.ParamInfo.ParamInfo}
+use Rattle.pc_lists.specs.Lists.{Text}
+use Rattle.pc_sub.specs.DeclarationFaults.{is_chain, stands_for}
+use Rattle.pc_window.specs.{Places.piece_of, Quoting.quoted}
+use Rattle.pc_words.specs.{Caps.cap_word, Caps.form_word, Forms.entity_words, Forms.entity_name, Forms.with_article, Scene.SceneData, declared.misfits.Misfit.Misfit}
 use Rattle.pc_words.specs.declared.misfits.Misfit.TheVariants as misfit_of
 
 -- ---- the first thing

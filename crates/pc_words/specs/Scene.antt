@@ -1,23 +1,14 @@
 -- What an explanation looks at, and what can be read from it.
 use Rattle.std.specs.Prelude.{ℕ, zero, suc, ◌+◌, Bool, true, false, ◌&&◌, not, nat_eq, nat_lt, List, [], drop, Option, Some, None, slice_get, codes}
-use Rattle.std.specs.List.{find}
-use Rattle.std.specs.Str.{bytes_eq}
+use Rattle.std.specs.{List.find, Str.bytes_eq}
 use Rattle.pc_ann.specs.declared.annotation.Note.{Note}
-use Rattle.pc_caps.specs.declared.capability.Cap.{Cap}
-use Rattle.pc_caps.specs.declared.capability.Form.{Form}
-use Rattle.pc_core.specs.CoreData.{CoreData}
-use Rattle.pc_core.specs.declared.declarations.Method.{Method}
-use Rattle.pc_core.specs.declared.declarations.ParamInfo.{ParamInfo}
-use Rattle.pc_core.specs.declared.nodes.Node.{Node}
-use Rattle.pc_core.specs.declared.nodes.NodeKind.{NodeKind}
-use Rattle.pc_core.specs.declared.nodes.NodeKind.TheVariants as node
-use Rattle.pc_core.specs.declared.nodes.Slot.{Slot}
-use Rattle.pc_core.specs.declared.nodes.SlotKind.{SlotKind}
-use Rattle.pc_core.specs.declared.nodes.SlotKind.TheVariants as slot
-use Rattle.pc_lists.specs.Options.{◌>>=◌}
-use Rattle.pc_lists.specs.Texts.{Text}
+use Rattle.pc_caps.specs.{declared.capability.Cap.Cap, declared.capability.Form.Form}
+use Rattle.pc_core.specs.{CoreData.CoreData, declared.declarations.Method.Method, declared.declarations.ParamInfo.ParamInfo, declared.nodes.Node.Node, declared.nodes.NodeKind.NodeKind, declared.nodes.Slot.Slot, declared.nodes.SlotKind.SlotKind}
+use Rattle.pc_lists.specs.Lists.{◌>>=◌, Text}
 use Rattle.pc_token.specs.declared.kinds.Token.{Token}
 use Rattle.pc_window.specs.Places.{piece_of}
+use Rattle.pc_core.specs.declared.nodes.NodeKind.TheVariants as node
+use Rattle.pc_core.specs.declared.nodes.SlotKind.TheVariants as slot
 
 -- A source with its tokens and its core, the types of the core's slots, and the notes of its first nodes.
 pub record SceneData : Type 0 where

@@ -1,6 +1,6 @@
 //! Chains of `is`.
 ghost use Rattle.std.specs.Prelude.{◌≡◌, slice_get};
-ghost use Rattle.pc_sub.specs.Chain as spec;
+ghost use Rattle.pc_sub.specs.DeclarationFaults as spec;
 
 use pc_core::Core;
 

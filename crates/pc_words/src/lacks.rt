@@ -2,8 +2,8 @@
 ghost use Rattle.std.specs.Prelude.{◌≡◌, ◌++◌, ◌+◌, ◌≤◌, OnOk, length, slice_get};
 ghost use Rattle.std.specs.List.{find};
 ghost use Rattle.std.specs.Option.{option_copied};
-ghost use Rattle.pc_core.specs.Lookup.{own_methods};
-ghost use Rattle.pc_sub.specs.Conforms.{same_kind as same_kind_is};
+ghost use Rattle.pc_core.specs.CoreData.{own_methods};
+ghost use Rattle.pc_sub.specs.DeclarationFaults.{same_kind as same_kind_is};
 ghost use Rattle.pc_sub.specs.Computed.{is_interface as is_interface_is};
 ghost use Rattle.pc_words.specs.Lacks as spec;
 

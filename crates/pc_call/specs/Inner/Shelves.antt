@@ -1,13 +1,10 @@
 -- The texts of a call as files in memory, and what `rcap` does with words over them.
 use Rattle.std.specs.Prelude.{ℕ, List}
 use Rattle.pc_args.specs.Asked.{command_of}
-use Rattle.pc_buffers.specs.Holding.{HoldsTexts}
-use Rattle.pc_buffers.specs.declared.beside.Beside.{Beside}
-use Rattle.pc_io.specs.Entries.{held_or_empty}
-use Rattle.pc_io.specs.declared.entries.Entry.{Entry}
-use Rattle.pc_lists.specs.Texts.{Text}
-use Rattle.pc_refusals.specs.Named.{Files, files_change}
-use Rattle.pc_refusals.specs.Verdict.{Verdict}
+use Rattle.pc_buffers.specs.{Holding.HoldsTexts, declared.beside.Beside.Beside}
+use Rattle.pc_io.specs.{Entries.held_or_empty, declared.entries.Entry.Entry}
+use Rattle.pc_lists.specs.Lists.{Text}
+use Rattle.pc_refusals.specs.Verdict.{Files, files_change, Verdict}
 use Rattle.pc_top.specs.Asked.{IsVerdict, OfSource}
 
 -- Files in memory whose readings never fail, of which the last reading took this many bytes.

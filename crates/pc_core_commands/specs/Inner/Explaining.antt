@@ -1,8 +1,8 @@
 -- How the explanation of a core ended.
 use Rattle.std.specs.Prelude.{List}
 use Rattle.pc_core.specs.CoreData.{CoreData}
-use Rattle.pc_lex.specs.Answers.{TokenList}
-use Rattle.pc_lists.specs.Texts.{Text}
+use Rattle.pc_lex.specs.Pieces.{TokenList}
+use Rattle.pc_lists.specs.Lists.{Text}
 use Rattle.pc_token.specs.declared.kinds.Token.{Token}
 use Rattle.pc_core_commands.specs.Explain.{CoreText}
 

@@ -1,14 +1,9 @@
 -- How a command ended: with its text, or with what happened to out.
 use Rattle.std.specs.Prelude.{ℕ, ◌≡◌, ◌⊎◌, [], Result, Err, MatchResult}
 use Rattle.std.specs.Io.KnownBytes.{Appends, Keeps}
-use Rattle.pc_io.specs.Change.{Change}
-use Rattle.pc_io.specs.Sink.{HasRisen}
-use Rattle.pc_lists.specs.Texts.{Text}
-use Rattle.pc_refusals.specs.Ends.{TellsPart}
-use Rattle.pc_refusals.specs.Inner.Stages.{StageWrote}
-use Rattle.pc_refusals.specs.Verdict.{Verdict, done, refused}
-use Rattle.pc_refusals.specs.declared.stop.Stop.{Stop}
-use Rattle.pc_refusals.specs.declared.stop.Stop.TheVariants.{Refused, File, Sink, Memory}
+use Rattle.pc_io.specs.Sink.{Change, HasRisen}
+use Rattle.pc_lists.specs.Lists.{Text}
+use Rattle.pc_refusals.specs.{Verdict.TellsPart, Verdict.Verdict, Verdict.done, Verdict.refused, Inner.Stages.StageWrote, declared.stop.Stop.Stop, declared.stop.Stop.TheVariants.Refused, declared.stop.Stop.TheVariants.File, declared.stop.Stop.TheVariants.Sink, declared.stop.Stop.TheVariants.Memory}
 
 -- ---- a command that returns a text
 

@@ -1,26 +1,18 @@
 -- What comes of a fault: its refusal, or memory runs out.
 use Rattle.std.specs.Prelude.{ℕ, ◌≡◌, codes, slice_get}
 use Rattle.pc_check.specs.declared.fault.CheckFault.{CheckFault}
-use Rattle.pc_check.specs.declared.fault.CheckFault.TheVariants as check
-use Rattle.pc_deriv.specs.Laws.{as_read}
-use Rattle.pc_deriv.specs.Limits.{derivation_limit}
-use Rattle.pc_deriv.specs.declared.fault.DerivFault.{DerivFault}
-use Rattle.pc_deriv.specs.declared.fault.DerivFault.TheVariants as deriv
+use Rattle.pc_deriv.specs.{Laws.as_read, Text.derivation_limit, declared.fault.DerivFault.DerivFault}
 use Rattle.pc_feed.specs.declared.parts.DerivationFault.{DerivationFault}
-use Rattle.pc_feed.specs.declared.parts.DerivationFault.TheVariants as parts
 use Rattle.pc_lex.specs.declared.fault.LexFault.{LexFault}
-use Rattle.pc_lex.specs.declared.fault.LexFault.TheVariants as lex
 use Rattle.pc_names.specs.declared.fault.NameFault.{NameFault}
+use Rattle.pc_lists.specs.Lists.{Text}
+use Rattle.pc_refusals.specs.{FaultLines.decl_offset, FaultLines.decl_text, FaultLines.method_start, FaultLines.node_start, FaultLines.fault_line, FaultLines.fault_status, FaultLines.name_line, FaultLines.name_status, Derivation.judge_line, Derivation.text_line, Derivation.text_status, declared.source.Source.Source, declared.stop.Stop.Stop}
+use Rattle.pc_refusal_lines.specs.Lines.{longer_line, offset_line}
+use Rattle.pc_check.specs.declared.fault.CheckFault.TheVariants as check
+use Rattle.pc_deriv.specs.declared.fault.DerivFault.TheVariants as deriv
+use Rattle.pc_feed.specs.declared.parts.DerivationFault.TheVariants as parts
+use Rattle.pc_lex.specs.declared.fault.LexFault.TheVariants as lex
 use Rattle.pc_names.specs.declared.fault.NameFault.TheVariants as names
-use Rattle.pc_lists.specs.Texts.{Text}
-use Rattle.pc_refusals.specs.CoreFaults.{decl_offset, decl_text, method_start, node_start}
-use Rattle.pc_refusals.specs.Derivation.{judge_line, text_line, text_status}
-use Rattle.pc_refusals.specs.LexFaults.{fault_line, fault_status}
-use Rattle.pc_refusal_lines.specs.Lines.{longer_line}
-use Rattle.pc_refusals.specs.NameFaults.{name_line, name_status}
-use Rattle.pc_refusal_lines.specs.Refusal.{offset_line}
-use Rattle.pc_refusals.specs.declared.source.Source.{Source}
-use Rattle.pc_refusals.specs.declared.stop.Stop.{Stop}
 use Rattle.pc_refusals.specs.declared.stop.Stop.TheVariants as stop
 
 -- A refusal with this status and this line, or memory ran out.

@@ -1,13 +1,9 @@
 -- The results of the parts of a command.
 use Rattle.std.specs.Prelude.{ℕ, Result, Ok, Err, MatchResult}
 use Rattle.std.specs.Io.KnownBytes.{Appends, Keeps}
-use Rattle.pc_io.specs.Sink.{HasRisen, GrowsByPrefix}
-use Rattle.pc_lists.specs.Texts.{Text}
-use Rattle.pc_io.specs.Change.{Change}
-use Rattle.pc_refusals.specs.Named.{Reading, Named, IsReadingOf, FailedAt}
-use Rattle.pc_refusals.specs.Verdict.{Verdict, refused}
-use Rattle.pc_refusals.specs.declared.stop.Stop.{Stop}
-use Rattle.pc_refusals.specs.declared.stop.Stop.TheVariants.{Refused, File, Sink, Memory}
+use Rattle.pc_io.specs.Sink.{HasRisen, GrowsByPrefix, Change}
+use Rattle.pc_lists.specs.Lists.{Text}
+use Rattle.pc_refusals.specs.{Verdict.Reading, Verdict.Named, Verdict.IsReadingOf, Verdict.FailedAt, Verdict.Verdict, Verdict.refused, declared.stop.Stop.Stop, declared.stop.Stop.TheVariants.Refused, declared.stop.Stop.TheVariants.File, declared.stop.Stop.TheVariants.Sink, declared.stop.Stop.TheVariants.Memory}
 
 -- Why a part that reads one file and goes through its stages gave no value: a stage refused, the file's faults rose, or
 -- memory ran out.

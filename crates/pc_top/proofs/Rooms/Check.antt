@@ -1,12 +1,11 @@
 -- The room of `check`.
 use Rattle.std.proofs.Common.{◌≡◌, inl, refl, sym, ap, subst, ◌∙◌}
 use Rattle.std.specs.Io.KnownBytes.{Appends}
-use Rattle.pc_lists.specs.Texts.{Text}
+use Rattle.pc_lists.specs.Lists.{Text}
 use Rattle.pc_args.specs.Asked.{check}
 use Rattle.pc_deriv.specs.Text.{deriv_text}
 use Rattle.pc_deriv.specs.declared.version.Version.{Version}
-use Rattle.pc_refusals.specs.Named.{Files, named}
-use Rattle.pc_refusals.specs.Verdict.{Verdict, done}
+use Rattle.pc_refusals.specs.Verdict.{Files, named, Verdict, done}
 use Rattle.pc_refusals.specs.declared.typing.Accepted.{Accepted}
 use Rattle.pc_refusals.proofs.Statuses.{IsLate}
 use Rattle.pc_top.specs.Commands.Check.{Derived, WritesDerivation}

@@ -2,15 +2,14 @@
 use Rattle.std.proofs.Common.{◌≡◌, ◌⊎◌, ℕ, List, [], Ok, Err, inl, inr, refl, subst}
 use Rattle.std.specs.Prelude.{IfSome}
 use Rattle.std.specs.Io.KnownBytes.{Appends}
-use Rattle.pc_lists.specs.Texts.{Text}
+use Rattle.pc_lists.specs.Lists.{Text}
 use Rattle.pc_args.specs.Asked.{events}
 use Rattle.pc_core.specs.CoreData.{CoreData}
-use Rattle.pc_io.specs.Change.{Change}
+use Rattle.pc_io.specs.Sink.{Change}
 use Rattle.pc_run.specs.Spreading.{spread}
 use Rattle.pc_run_events.specs.Lines.{events_text_of_run}
 use Rattle.pc_run_events.specs.declared.events.RunEvent.{RunEvent}
-use Rattle.pc_refusals.specs.Named.{Files, Named, named}
-use Rattle.pc_refusals.specs.Verdict.{EndsWith, Verdict, IsAccepting, done}
+use Rattle.pc_refusals.specs.Verdict.{Files, Named, named, EndsWith, Verdict, IsAccepting, done}
 use Rattle.pc_refusals.proofs.LastStages.{ends_cases, ends_one, ends_status}
 use Rattle.pc_refusals.proofs.Statuses.{IsLate}
 use Rattle.pc_core_commands.specs.Events.{EventsTelling, AreEventsOfRun}

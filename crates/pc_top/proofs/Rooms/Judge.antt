@@ -2,22 +2,20 @@
 use Rattle.std.proofs.Common.{◌≡◌, ℕ, Option, Ok, Err, refl, sym, subst, arith}
 use Rattle.std.specs.Prelude.{Result}
 use Rattle.std.specs.Io.KnownBytes.{Appends}
-use Rattle.pc_lists.specs.Texts.{Text}
+use Rattle.pc_lists.specs.Lists.{Text}
 use Rattle.pc_args.specs.Asked.{judge}
 use Rattle.pc_referee.specs.Asked.{Pairs}
-use Rattle.pc_refusals.specs.Derivation.{in_parts}
+use Rattle.pc_refusals.specs.Derivation.{in_parts, JudgedFile}
 use Rattle.pc_refusals.specs.Inner.Answering.{Puts}
 use Rattle.pc_refusals.specs.Inner.Derivations.{NotDone}
 use Rattle.pc_refusals.specs.Inner.Stages.{PartGives, PartStops, StageWrote}
-use Rattle.pc_refusals.specs.Named.{Files, Named, named}
-use Rattle.pc_refusals.specs.Referee.{JudgedFile}
+use Rattle.pc_refusals.specs.Verdict.{Files, Named, named, Verdict}
 use Rattle.pc_refusals.specs.Source.{SourceStage, source_limit}
-use Rattle.pc_refusals.specs.Verdict.{Verdict}
 use Rattle.pc_refusals.specs.declared.source.Source.{Source}
 use Rattle.pc_refusals.specs.declared.stop.Stop.{Stop}
 use Rattle.pc_refusals.specs.declared.stop.Stop.TheVariants.{Refused, File, Sink, Memory}
 use Rattle.pc_refusals.proofs.Statuses.{IsOther, source_other}
-use Rattle.pc_io.specs.Change.{Change}
+use Rattle.pc_io.specs.Sink.{Change}
 use Rattle.pc_core_commands.specs.Judge.{accepted_text}
 use Rattle.pc_top.specs.Inner.Asking.{JudgeAsks}
 use Rattle.pc_top.specs.Referee.{JudgedAll}

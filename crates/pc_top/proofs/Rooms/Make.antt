@@ -2,17 +2,16 @@
 use Rattle.std.proofs.Common.{◌≡◌, ◌<◌, ℕ, ◌++◌, length, refl, sym, ap, ap₂, subst, ◌∙◌, arith}
 use Rattle.std.specs.Io.KnownBytes.{Appends}
 use Rattle.std.proofs.lemmas.Option.{none-some}
-use Rattle.pc_lists.specs.Texts.{Text}
+use Rattle.pc_lists.specs.Lists.{Text}
 use Rattle.pc_args.specs.Asked.{make}
 use Rattle.pc_core.specs.CoreData.{CoreData}
-use Rattle.pc_args.specs.Numbers.{IsSeed, IsSize}
-use Rattle.pc_gen.specs.Schedule.{schedule}
-use Rattle.pc_io.specs.Change.{Change}
+use Rattle.pc_args.specs.Line.{IsSeed, IsSize}
+use Rattle.pc_gen.specs.Program.{schedule}
+use Rattle.pc_io.specs.Sink.{Change}
 use Rattle.pc_run.specs.Spreading.{spread}
 use Rattle.pc_semantics.specs.Text.{run_text}
 use Rattle.pc_refusal_lines.specs.Lines.{counts_line}
-use Rattle.pc_refusals.specs.Named.{FailedAt, Files, text_as}
-use Rattle.pc_refusals.specs.Verdict.{Verdict, IsAccepting, headed}
+use Rattle.pc_refusals.specs.Verdict.{FailedAt, Files, text_as, Verdict, IsAccepting, headed}
 use Rattle.pc_refusals.specs.declared.typing.Accepted.{Accepted}
 use Rattle.pc_refusals.proofs.OneSource.{SourceLaws}
 use Rattle.pc_refusals.proofs.Statuses.{IsLate, IsOwn}

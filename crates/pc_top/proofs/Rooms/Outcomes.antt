@@ -2,10 +2,9 @@
 use Rattle.std.proofs.Common.{◌≡◌, ℕ, inl, inr, refl, subst}
 use Rattle.std.specs.Io.KnownBytes.{Appends}
 use Rattle.pc_args.specs.Asked.{outcomes}
-use Rattle.pc_lists.specs.Texts.{Text}
+use Rattle.pc_lists.specs.Lists.{Text}
 use Rattle.pc_outcomes.specs.Texts.{outcomes_text}
-use Rattle.pc_refusals.specs.Named.{Files, named}
-use Rattle.pc_refusals.specs.Verdict.{Verdict}
+use Rattle.pc_refusals.specs.Verdict.{Files, named, Verdict}
 use Rattle.pc_refusals.specs.declared.typing.Accepted.{Accepted}
 use Rattle.pc_refusals.proofs.LastStages.{ends_cases, ends_one, ends_status}
 use Rattle.pc_refusals.proofs.Statuses.{IsLate}

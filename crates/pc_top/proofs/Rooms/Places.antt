@@ -2,16 +2,15 @@
 use Rattle.std.proofs.Common.{◌≡◌, ◌≤◌, ℕ, List, length, Ok, refl, sym, ap, subst, ◌∙◌}
 use Rattle.std.specs.Prelude.{IfSome}
 use Rattle.std.specs.Io.KnownBytes.{Appends}
-use Rattle.pc_lists.specs.Texts.{Text}
+use Rattle.pc_lists.specs.Lists.{Text}
 use Rattle.pc_args.specs.Asked.{make, places}
-use Rattle.pc_io.specs.Change.{Change}
+use Rattle.pc_io.specs.Sink.{Change}
 use Rattle.pc_lex.specs.Laws.{OneList}
-use Rattle.pc_lex.specs.Limits.{bytes_limit}
+use Rattle.pc_lex.specs.Pieces.{bytes_limit}
 use Rattle.pc_places.specs.Text.{HasTokens, IsPlacesText, places_text}
 use Rattle.pc_token.specs.declared.kinds.Token.{Token}
-use Rattle.pc_refusals.specs.Named.{Files, Named, Reading, named}
+use Rattle.pc_refusals.specs.Verdict.{Files, Named, Reading, named, Verdict, IsAccepting, done}
 use Rattle.pc_refusals.specs.Source.{SourceStage, source_limit}
-use Rattle.pc_refusals.specs.Verdict.{Verdict, IsAccepting, done}
 use Rattle.pc_refusals.specs.declared.source.Source.{Source}
 use Rattle.pc_refusals.proofs.LastStages.{from_status, passed}
 use Rattle.pc_refusals.proofs.OneSource.{one_from, one_source}

@@ -2,11 +2,10 @@
 use Rattle.std.proofs.Common.{◌≡◌, ℕ, refl, subst}
 use Rattle.std.specs.Io.KnownBytes.{Appends}
 use Rattle.pc_args.specs.Asked.{play}
-use Rattle.pc_args.specs.Numbers.{IsSeed}
-use Rattle.pc_lists.specs.Texts.{Text}
+use Rattle.pc_args.specs.Line.{IsSeed}
+use Rattle.pc_lists.specs.Lists.{Text}
 use Rattle.pc_semantics.specs.Text.{run_text}
-use Rattle.pc_refusals.specs.Named.{Files, named}
-use Rattle.pc_refusals.specs.Verdict.{Verdict}
+use Rattle.pc_refusals.specs.Verdict.{Files, named, Verdict}
 use Rattle.pc_refusals.specs.declared.typing.Accepted.{Accepted}
 use Rattle.pc_refusals.proofs.Statuses.{IsLate}
 use Rattle.pc_core_commands.proofs.Chosen.{chosen_late, one_chosen}

@@ -1,11 +1,11 @@
 -- The room of `run`.
 use Rattle.std.proofs.Common.{inl, refl, subst}
 use Rattle.std.specs.Io.KnownBytes.{Appends}
-use Rattle.pc_lists.specs.Texts.{Text}
+use Rattle.pc_lists.specs.Lists.{Text}
 use Rattle.pc_args.specs.Asked.{run}
 use Rattle.pc_run.specs.Spreading.{spread}
 use Rattle.pc_semantics.specs.Text.{run_text}
-use Rattle.pc_refusals.specs.Named.{Files, named}
+use Rattle.pc_refusals.specs.Verdict.{Files, named}
 use Rattle.pc_core_commands.proofs.Ran.{one_ran, ran_late, ran_says}
 use Rattle.pc_core_commands.specs.Run.{Ran}
 use Rattle.pc_top.specs.Commands.Run.{WritesRun}

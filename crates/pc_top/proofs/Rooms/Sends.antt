@@ -1,10 +1,9 @@
 -- The room of `sends`.
 use Rattle.std.proofs.Common.{◌≡◌, List, ℕ, inl, refl, ap, subst, ◌∙◌}
 use Rattle.std.specs.Io.KnownBytes.{Appends}
-use Rattle.pc_lists.specs.Texts.{Text}
+use Rattle.pc_lists.specs.Lists.{Text}
 use Rattle.pc_args.specs.Asked.{sends}
-use Rattle.pc_refusals.specs.Named.{Files, named}
-use Rattle.pc_refusals.specs.Verdict.{Verdict}
+use Rattle.pc_refusals.specs.Verdict.{Files, named, Verdict}
 use Rattle.pc_refusals.specs.declared.typing.Accepted.{Accepted}
 use Rattle.pc_refusals.proofs.Statuses.{IsLate}
 use Rattle.pc_core_commands.specs.Sends.{table_text}

@@ -2,13 +2,12 @@
 use Rattle.std.proofs.Common.{◌≡◌, ℕ, refl, sym, ap, subst, ◌∙◌}
 use Rattle.std.specs.Prelude.{IfSome}
 use Rattle.std.specs.Io.KnownBytes.{Appends}
-use Rattle.pc_lists.specs.Texts.{Text}
+use Rattle.pc_lists.specs.Lists.{Text}
 use Rattle.pc_args.specs.Asked.{make, show}
-use Rattle.pc_io.specs.Change.{Change}
+use Rattle.pc_io.specs.Sink.{Change}
 use Rattle.pc_print.specs.Printing.{printed}
-use Rattle.pc_refusals.specs.Named.{Files, IsReadingOf, Named, Reading, named, whole}
+use Rattle.pc_refusals.specs.Verdict.{Files, IsReadingOf, Named, Reading, named, whole, Verdict, IsAccepting}
 use Rattle.pc_refusals.specs.Source.{FileStage, source_limit}
-use Rattle.pc_refusals.specs.Verdict.{Verdict, IsAccepting}
 use Rattle.pc_refusals.proofs.LastStages.{from_status, passed}
 use Rattle.pc_refusals.proofs.OneSource.{one_file, one_from}
 use Rattle.pc_refusals.proofs.Statuses.{IsOther, IsOwn, file_other, other_not_one, other_own, other_refuses}

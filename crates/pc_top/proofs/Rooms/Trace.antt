@@ -2,17 +2,16 @@
 use Rattle.std.proofs.Common.{◌≡◌, ◌⊎◌, ℕ, List, [], Ok, Err, inl, inr, refl, subst, arith}
 use Rattle.std.specs.Prelude.{IfSome}
 use Rattle.std.specs.Io.KnownBytes.{Appends}
-use Rattle.pc_lists.specs.Texts.{Text}
+use Rattle.pc_lists.specs.Lists.{Text}
 use Rattle.pc_args.specs.Asked.{trace}
 use Rattle.pc_core.specs.CoreData.{CoreData}
-use Rattle.pc_io.specs.Change.{Change}
+use Rattle.pc_io.specs.Sink.{Change}
 use Rattle.pc_run.specs.Spreading.{spread}
 use Rattle.pc_trace.specs.declared.touch.Touch.{Touch}
-use Rattle.pc_refusals.specs.Named.{Files, Named, named}
-use Rattle.pc_refusals.specs.Verdict.{EndsWith, Verdict, IsAccepting, done}
+use Rattle.pc_refusals.specs.Verdict.{Files, Named, named, EndsWith, Verdict, IsAccepting, done}
 use Rattle.pc_refusals.proofs.LastStages.{ends_cases, ends_one, ends_status}
 use Rattle.pc_refusals.proofs.Statuses.{IsLate}
-use Rattle.pc_run_events.specs.TouchLines.{trace_text}
+use Rattle.pc_run_events.specs.Lines.{trace_text}
 use Rattle.pc_core_commands.specs.Trace.{Traced, Tracing}
 use Rattle.pc_top.specs.Commands.Trace.{IsTrace, WritesTrace}
 use Rattle.pc_top.specs.Shapes.{LastOfTurns, OfTurns}

@@ -2,13 +2,12 @@
 use Rattle.std.proofs.Common.{refl, subst}
 use Rattle.std.specs.Prelude.{IfSome}
 use Rattle.std.specs.Io.KnownBytes.{Appends}
-use Rattle.pc_lists.specs.Texts.{Text}
+use Rattle.pc_lists.specs.Lists.{Text}
 use Rattle.pc_args.specs.Asked.{upgrade}
 use Rattle.pc_deriv.specs.Text.{deriv_text}
 use Rattle.pc_deriv.specs.declared.version.Version.TheVariants as version
-use Rattle.pc_io.specs.Change.{Change}
-use Rattle.pc_refusals.specs.Named.{Files, Named, named}
-use Rattle.pc_refusals.specs.Verdict.{Verdict}
+use Rattle.pc_io.specs.Sink.{Change}
+use Rattle.pc_refusals.specs.Verdict.{Files, Named, named, Verdict}
 use Rattle.pc_top.specs.Commands.Upgrade.{WritesUpgraded}
 use Rattle.pc_top.proofs.Accepted.{of_source, of_told}
 use Rattle.pc_top.proofs.Deriving.{source_says}

@@ -2,16 +2,13 @@
 use Rattle.std.specs.Prelude.{◌≡◌, List, Result, Ok, Err}
 use Rattle.std.specs.Io.KnownBytes.{Appends}
 use Rattle.pc_grammar.specs.FileAnswers.{IsFileAnswer, spelled}
-use Rattle.pc_io.specs.Change.{Change}
-use Rattle.pc_lex.specs.Answers.{TokenList}
-use Rattle.pc_lists.specs.Texts.{Text}
-use Rattle.pc_refusals.specs.FromFile.{FromFile}
-use Rattle.pc_refusals.specs.Named.{Named, Reading, whole}
-use Rattle.pc_refusals.specs.Source.{FileStage, source_limit}
-use Rattle.pc_refusals.specs.Verdict.{Verdict, done}
+use Rattle.pc_io.specs.Sink.{Change}
+use Rattle.pc_lex.specs.Pieces.{TokenList}
+use Rattle.pc_lists.specs.Lists.{Text}
+use Rattle.pc_refusals.specs.{Source.FromFile, Source.FileStage, Source.source_limit, Verdict.Named, Verdict.Reading, Verdict.whole, Verdict.Verdict, Verdict.done}
 use Rattle.pc_token.specs.declared.kinds.Token.{Token}
-use Rattle.pc_tree.specs.Tree as t
 use Rattle.pc_core_commands.specs.Explain.{Explaining}
+use Rattle.pc_tree.specs.Tree as t
 
 -- The stages of a source, one after another: its length, its tokens and its tree, and then the text for the tree.
 pub data ExplainedStage (name : Text) : Reading → Result Text Verdict → Type 0 where

@@ -1,7 +1,5 @@
 -- `judge SRC DERIV`.
-use Rattle.pc_refusals.specs.Derivation.{in_parts}
-use Rattle.pc_refusals.specs.Named.{Named}
-use Rattle.pc_refusals.specs.Verdict.{Verdict}
+use Rattle.pc_refusals.specs.{Derivation.in_parts, Verdict.Named, Verdict.Verdict}
 use Rattle.pc_core_commands.specs.Judge.{accepted_text}
 use Rattle.pc_top.specs.Shapes.{OfDerivation}
 

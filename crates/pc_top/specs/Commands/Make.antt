@@ -1,22 +1,18 @@
 -- `make SEED SIZE`.
 use Rattle.std.specs.Prelude.{ℕ, ◌≡◌, ◌++◌, length}
 use Rattle.std.specs.Io.KnownBytes.{Appends}
-use Rattle.pc_io.specs.Change.{Change}
+use Rattle.pc_io.specs.Sink.{Change}
 use Rattle.pc_core.specs.CoreData.{CoreData}
-use Rattle.pc_args.specs.Numbers.{IsSeed, IsSize}
-use Rattle.pc_gen.specs.Program.{program}
-use Rattle.pc_gen.specs.Schedule.{schedule}
+use Rattle.pc_args.specs.Line.{IsSeed, IsSize}
+use Rattle.pc_gen.specs.Program.{program, schedule}
 use Rattle.pc_print.specs.Printing.{printed}
 use Rattle.pc_run.specs.Spreading.{spread}
 use Rattle.pc_semantics.specs.Text.{run_text}
-use Rattle.pc_lists.specs.Texts.{Text}
+use Rattle.pc_lists.specs.Lists.{Text}
 use Rattle.pc_refusal_lines.specs.Lines.{counts_line, usage_line}
-use Rattle.pc_refusals.specs.Named.{text_as}
-use Rattle.pc_refusals.specs.Verdict.{Verdict, refused}
-use Rattle.pc_refusals.specs.declared.typing.Accepted.{Accepted}
+use Rattle.pc_refusals.specs.{Verdict.text_as, Verdict.Verdict, Verdict.refused, declared.typing.Accepted.Accepted}
 use Rattle.pc_core_commands.specs.Make.{RanMade, SpellsNone, made_name}
-use Rattle.pc_top.specs.CoreOf.{CoreOf}
-use Rattle.pc_top.specs.Shapes.{OfAccepted}
+use Rattle.pc_top.specs.{CoreOf.CoreOf, Shapes.OfAccepted}
 
 -- the printed text of the program that is generated from this seed and this size
 abbrev pub made_text : (seed size : ℕ) → Text

@@ -1,18 +1,13 @@
 -- `outcomes SRC COUNT`.
 use Rattle.std.specs.Prelude.{ℕ, List}
 use Rattle.std.specs.Io.KnownBytes.{Appends}
-use Rattle.pc_io.specs.Change.{Change}
+use Rattle.pc_io.specs.Sink.{Change}
 use Rattle.pc_core.specs.CoreData.{CoreData}
-use Rattle.pc_lists.specs.Texts.{Text}
-use Rattle.pc_outcomes.specs.Tables.{IsOutcomesTable}
-use Rattle.pc_outcomes.specs.Texts.{outcomes_text}
-use Rattle.pc_outcomes.specs.declared.entry.Entry.{Entry}
-use Rattle.pc_refusals.specs.Named.{Named}
-use Rattle.pc_refusals.specs.Verdict.{EndsWith, Verdict}
-use Rattle.pc_refusals.specs.declared.typing.Accepted.{Accepted}
+use Rattle.pc_lists.specs.Lists.{Text}
+use Rattle.pc_outcomes.specs.{Tables.IsOutcomesTable, Texts.outcomes_text, declared.entry.Entry.Entry}
+use Rattle.pc_refusals.specs.{Verdict.Named, Verdict.EndsWith, Verdict.Verdict, declared.typing.Accepted.Accepted}
 use Rattle.pc_core_commands.specs.Outcomes.{IsCount, OutcomesTelling}
-use Rattle.pc_top.specs.CoreOf.{CoreOf}
-use Rattle.pc_top.specs.Shapes.{ByNumber, OfAccepted}
+use Rattle.pc_top.specs.{CoreOf.CoreOf, Shapes.ByNumber, Shapes.OfAccepted}
 
 -- Done with this text, or refused. A line on err names the source by this name.
 abbrev pub Tabled : Text → (count : ℕ) → Accepted → Verdict → Type 0

@@ -1,15 +1,11 @@
 -- `places SRC`.
 use Rattle.std.specs.Prelude.{◌≡◌}
 use Rattle.std.specs.Io.KnownBytes.{Appends}
-use Rattle.pc_io.specs.Change.{Change}
-use Rattle.pc_lists.specs.Texts.{Text}
+use Rattle.pc_io.specs.Sink.{Change}
+use Rattle.pc_lists.specs.Lists.{Text}
 use Rattle.pc_core.specs.CoreData.{CoreData}
 use Rattle.pc_places.specs.Text.{IsPlacesText}
-use Rattle.pc_refusals.specs.FromFile.{FromFile}
-use Rattle.pc_refusals.specs.Named.{Named}
-use Rattle.pc_refusals.specs.Source.{SourceStage, source_limit}
-use Rattle.pc_refusals.specs.Verdict.{Verdict, done}
-use Rattle.pc_refusals.specs.declared.source.Source.{Source}
+use Rattle.pc_refusals.specs.{Source.FromFile, Source.SourceStage, Source.source_limit, Verdict.Named, Verdict.Verdict, Verdict.done, declared.source.Source.Source}
 use Rattle.pc_top.specs.CoreOf.{CoreOf}
 
 -- Done, with the text of the places of the source's core.

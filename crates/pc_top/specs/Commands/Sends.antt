@@ -1,20 +1,16 @@
 -- `sends SRC`.
 use Rattle.std.specs.Prelude.{◌≡◌}
 use Rattle.std.specs.Io.KnownBytes.{Appends}
-use Rattle.pc_io.specs.Change.{Change}
+use Rattle.pc_io.specs.Sink.{Change}
 use Rattle.pc_ann.specs.declared.annotation.Ann.{Ann}
 use Rattle.pc_core.specs.CoreData.{CoreData}
 use Rattle.pc_noted_receivers.specs.Noted.{noted_entities}
 use Rattle.pc_valid.specs.Valid.{Valid}
-use Rattle.pc_sends.specs.Tables.{IsTable}
-use Rattle.pc_sends.specs.declared.table.Table.{Table}
-use Rattle.pc_lists.specs.Texts.{Text}
-use Rattle.pc_top.specs.CoreOf.{CoreOf}
-use Rattle.pc_refusals.specs.Named.{Named}
-use Rattle.pc_refusals.specs.Verdict.{Verdict, done}
-use Rattle.pc_refusals.specs.declared.typing.Accepted.{Accepted}
+use Rattle.pc_sends.specs.{Tables.IsTable, declared.table.Table.Table}
+use Rattle.pc_lists.specs.Lists.{Text}
+use Rattle.pc_top.specs.{CoreOf.CoreOf, Shapes.OfAccepted}
+use Rattle.pc_refusals.specs.{Verdict.Named, Verdict.Verdict, Verdict.done, declared.typing.Accepted.Accepted}
 use Rattle.pc_core_commands.specs.Sends.{IsSendsText, NamesAreThere, TellsEveryRun, table_text}
-use Rattle.pc_top.specs.Shapes.{OfAccepted}
 
 -- Done, with this text of its core's valid annotation.
 abbrev pub Sent : Accepted → Verdict → Type 0

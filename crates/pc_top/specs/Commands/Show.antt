@@ -1,17 +1,14 @@
 -- `show SRC`.
 use Rattle.std.specs.Prelude.{◌≡◌, List}
 use Rattle.std.specs.Io.KnownBytes.{Appends}
-use Rattle.pc_io.specs.Change.{Change}
-use Rattle.pc_lists.specs.Texts.{Text}
+use Rattle.pc_io.specs.Sink.{Change}
+use Rattle.pc_lists.specs.Lists.{Text}
 use Rattle.pc_grammar.specs.FileAnswers.{IsFileAnswer, spelled}
-use Rattle.pc_lex.specs.Answers.{TokenList}
+use Rattle.pc_lex.specs.Pieces.{TokenList}
 use Rattle.pc_print.specs.Printing.{printed}
 use Rattle.pc_token.specs.declared.kinds.Token.{Token}
+use Rattle.pc_refusals.specs.{Source.FromFile, Source.FileStage, Source.source_limit, Verdict.Named, Verdict.Verdict, Verdict.done}
 use Rattle.pc_tree.specs.Tree as t
-use Rattle.pc_refusals.specs.FromFile.{FromFile}
-use Rattle.pc_refusals.specs.Named.{Named}
-use Rattle.pc_refusals.specs.Source.{FileStage, source_limit}
-use Rattle.pc_refusals.specs.Verdict.{Verdict, done}
 
 -- Done, with the printed text of the tree.
 abbrev pub Shown : t.File → Verdict → Type 0

@@ -1,17 +1,14 @@
 -- `upgrade SRC DERIV`.
 use Rattle.std.specs.Io.KnownBytes.{Appends}
-use Rattle.pc_io.specs.Change.{Change}
+use Rattle.pc_io.specs.Sink.{Change}
 use Rattle.pc_ann.specs.declared.annotation.Ann.{Ann}
-use Rattle.pc_lists.specs.Texts.{Text}
+use Rattle.pc_lists.specs.Lists.{Text}
 use Rattle.pc_core.specs.CoreData.{CoreData}
-use Rattle.pc_deriv.specs.Faults.{IsText}
-use Rattle.pc_deriv.specs.Text.{deriv_text}
-use Rattle.pc_deriv.specs.declared.version.Version.TheVariants as version
+use Rattle.pc_deriv.specs.Text.{IsText, deriv_text}
 use Rattle.pc_valid.specs.Valid.{Valid}
-use Rattle.pc_refusals.specs.Named.{Named}
-use Rattle.pc_refusals.specs.Verdict.{Verdict}
-use Rattle.pc_top.specs.CoreOf.{CoreOf}
-use Rattle.pc_top.specs.Shapes.{OfDerivation}
+use Rattle.pc_refusals.specs.Verdict.{Named, Verdict}
+use Rattle.pc_top.specs.{CoreOf.CoreOf, Shapes.OfDerivation}
+use Rattle.pc_deriv.specs.declared.version.Version.TheVariants as version
 
 -- The verdict of `upgrade` on this source and this derivation: the annotation's text in version 2, or the verdict on
 -- the first fault. Whatever `judge` refuses is refused here too, with the same line. The derivation is read as a whole.

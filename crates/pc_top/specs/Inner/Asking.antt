@@ -1,10 +1,9 @@
 -- What the referee was asked by a command that ended in this way.
 use Rattle.std.specs.Prelude.{◌≡◌, Option, Some, Result, Ok, Err}
 use Rattle.pc_referee.specs.Asked.{Pairs}
-use Rattle.pc_lists.specs.Texts.{Text}
+use Rattle.pc_lists.specs.Lists.{Text}
 use Rattle.pc_args.specs.Asked.{Asked, judge}
-use Rattle.pc_refusals.specs.Inner.Derivations.{NotDone}
-use Rattle.pc_refusals.specs.declared.stop.Stop.{Stop}
+use Rattle.pc_refusals.specs.{Inner.Derivations.NotDone, declared.stop.Stop.Stop}
 use Rattle.pc_top.specs.Referee.{IsNoJudge, JudgedAll}
 
 abbrev pub JudgeAsks : {T : Type 0} → Option Text → Option Text → Option Pairs → Option Pairs → Result T Stop → Type 0

@@ -1,13 +1,8 @@
 -- How reading a number among the words, and then a source that must be accepted, ended.
 use Rattle.std.specs.Prelude.{ℕ, ◌≡◌, Option, Some, None, Result, Ok, Err}
-use Rattle.pc_lists.specs.Texts.{Text}
-use Rattle.pc_refusals.specs.Accepting.{AcceptedStage}
-use Rattle.pc_refusals.specs.Inner.Refusals.{IsRefusal}
-use Rattle.pc_refusals.specs.Inner.Stages.{PartGives, PartStops}
+use Rattle.pc_lists.specs.Lists.{Text}
+use Rattle.pc_refusals.specs.{Source.AcceptedStage, Source.source_limit, Inner.Refusals.IsRefusal, Inner.Stages.PartGives, Inner.Stages.PartStops, Verdict.Files, Verdict.named, declared.stop.Stop.Stop}
 use Rattle.pc_refusal_lines.specs.Lines.{usage_line}
-use Rattle.pc_refusals.specs.Named.{Files, named}
-use Rattle.pc_refusals.specs.Source.{source_limit}
-use Rattle.pc_refusals.specs.declared.stop.Stop.{Stop}
 use Rattle.pc_top.specs.declared.numbered.Numbered.{Numbered}
 
 -- It stopped because there is no number, or because the source is not accepted.

@@ -1,8 +1,8 @@
 //! `events SRC SCHED`.
 ghost use Rattle.std.specs.Prelude.{◌≡◌, ◌≤◌};
-ghost use Rattle.pc_lists.specs.Texts.{Text};
+ghost use Rattle.pc_lists.specs.Lists.{Text};
 ghost use Rattle.pc_refusals.specs.Inner.Answering.{AnswersText};
-ghost use Rattle.pc_refusals.specs.Named.{files_change, named};
+ghost use Rattle.pc_refusals.specs.Verdict.{files_change, named};
 ghost use Rattle.pc_top.specs.Commands.Events.{IsEvents};
 ghost use Rattle.pc_top.specs.Shapes.{UnreadScheduled};
 

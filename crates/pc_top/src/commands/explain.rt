@@ -2,13 +2,13 @@
 ghost use Rattle.std.specs.Prelude.{◌≡◌, ◌≤◌, IfErr, IfOk, length};
 ghost use Rattle.pc_core_relation.specs.Files.{IsCoreOf};
 ghost use Rattle.pc_elab.specs.Cores.{IsSpelledFile};
-ghost use Rattle.pc_lex.specs.Limits.{bytes_limit};
-ghost use Rattle.pc_lists.specs.Texts.{Text};
-ghost use Rattle.pc_names.specs.Names.{IsNotMemory};
+ghost use Rattle.pc_lex.specs.Pieces.{bytes_limit};
+ghost use Rattle.pc_lists.specs.Lists.{Text};
+ghost use Rattle.pc_names.specs.Faults.{IsNotMemory};
 ghost use Rattle.pc_places.specs.Text.{HasTokens};
 ghost use Rattle.pc_refusals.specs.Inner.Answering.{AnswersText};
 ghost use Rattle.pc_refusals.specs.Inner.Stages.{StageEnds};
-ghost use Rattle.pc_refusals.specs.Named.{FailedAt, files_change, named, whole};
+ghost use Rattle.pc_refusals.specs.Verdict.{FailedAt, files_change, named, whole};
 ghost use Rattle.pc_tree.specs.View.{file_view};
 ghost use Rattle.pc_core_commands.specs.Explain.{Explaining, IsFileFault};
 ghost use Rattle.pc_top.specs.Commands.Explain.{ExplainedStage, IsExplain};

@@ -1,11 +1,10 @@
 //! `make SEED SIZE`.
 ghost use Rattle.std.specs.Prelude.{◌≤◌};
-ghost use Rattle.pc_io.specs.Change.{change};
-ghost use Rattle.pc_refusals.specs.Accepting.{AcceptedStage};
+ghost use Rattle.pc_io.specs.Sink.{change};
+ghost use Rattle.pc_refusals.specs.Source.{AcceptedStage, source_limit};
 ghost use Rattle.pc_refusals.specs.Inner.Answering.{EndsCommand};
 ghost use Rattle.pc_refusals.specs.Inner.Stages.{PartEnds};
-ghost use Rattle.pc_refusals.specs.Named.{text_as};
-ghost use Rattle.pc_refusals.specs.Source.{source_limit};
+ghost use Rattle.pc_refusals.specs.Verdict.{text_as};
 ghost use Rattle.pc_core_commands.specs.Make.{made_name};
 ghost use Rattle.pc_top.specs.Commands.Make.{IsMade, IsMake, made_text};
 

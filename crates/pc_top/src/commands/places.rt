@@ -1,8 +1,8 @@
 //! `places SRC`.
 ghost use Rattle.std.specs.Prelude.{◌≡◌, ◌≤◌};
-ghost use Rattle.pc_lists.specs.Texts.{Text};
+ghost use Rattle.pc_lists.specs.Lists.{Text};
 ghost use Rattle.pc_refusals.specs.Inner.Answering.{AnswersText};
-ghost use Rattle.pc_refusals.specs.Named.{FailedAt, files_change, named};
+ghost use Rattle.pc_refusals.specs.Verdict.{FailedAt, files_change, named};
 ghost use Rattle.pc_top.specs.Commands.Places.{IsPlaces};
 
 use crate::source::read_source;

@@ -1,10 +1,10 @@
 //! `play SRC SEED`.
 ghost use Rattle.std.specs.Prelude.{◌≡◌, ◌≤◌};
-ghost use Rattle.pc_lists.specs.Texts.{Text};
-ghost use Rattle.pc_args.specs.Numbers.{IsSeed};
-ghost use Rattle.pc_io.specs.Change.{change};
+ghost use Rattle.pc_lists.specs.Lists.{Text};
+ghost use Rattle.pc_args.specs.Line.{IsSeed};
+ghost use Rattle.pc_io.specs.Sink.{change};
 ghost use Rattle.pc_refusals.specs.Inner.Answering.{EndsCommand};
-ghost use Rattle.pc_refusals.specs.Named.{files_change, named};
+ghost use Rattle.pc_refusals.specs.Verdict.{files_change, named};
 ghost use Rattle.pc_top.specs.Commands.Play.{IsPlay};
 ghost use Rattle.pc_top.specs.Shapes.{UnreadNumbered};
 

@@ -1,9 +1,9 @@
 //! `schedule SRC SEED`.
 ghost use Rattle.std.specs.Prelude.{◌≡◌, ◌≤◌};
-ghost use Rattle.pc_lists.specs.Texts.{Text};
-ghost use Rattle.pc_args.specs.Numbers.{IsSeed};
+ghost use Rattle.pc_lists.specs.Lists.{Text};
+ghost use Rattle.pc_args.specs.Line.{IsSeed};
 ghost use Rattle.pc_refusals.specs.Inner.Answering.{AnswersText};
-ghost use Rattle.pc_refusals.specs.Named.{files_change, named};
+ghost use Rattle.pc_refusals.specs.Verdict.{files_change, named};
 ghost use Rattle.pc_top.specs.Commands.Schedule.{IsSchedule};
 ghost use Rattle.pc_top.specs.Shapes.{UnreadNumbered};
 

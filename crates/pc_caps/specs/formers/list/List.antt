@@ -11,12 +11,10 @@ use denote.Hole.Carrier.{listed, list-listed}
 use denote.Hole.Fix.{over}
 use denote.Param.Weighed.{Weighed, w_list}
 use denote.Model.Placed.{view_places}
+use Rattle.std.specs.{declared.alloc.Global.Global, contracts.impls.GlobalAllocator.TheImpl.ghosts}
+use Rattle.pc_caps.specs.{declared.list.List.TheInside.Inside, declared.list.List.TheView.view, declared.list.List.TheView.invariant}
 use Rattle.std.specs.formers.vec.Vec as vector
-use Rattle.std.specs.declared.alloc.Global.{Global}
 use Rattle.std.specs.contracts.alloc.Global as global
-use Rattle.std.specs.contracts.impls.GlobalAllocator.TheImpl.{ghosts}
-use Rattle.pc_caps.specs.declared.list.List.TheInside.{Inside}
-use Rattle.pc_caps.specs.declared.list.List.TheView.{view, invariant}
 use Rattle.pc_caps.specs.contracts.list.List as contract
 use Rattle.pc_caps.specs.contracts.list.List.TheInside as inside
 

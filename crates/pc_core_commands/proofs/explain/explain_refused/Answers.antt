@@ -1,5 +1,5 @@
 use Rattle.std.proofs.lemmas.Result.{IfOk-weaker}
-use Rattle.pc_lex.specs.Answers.{TokenList}
+use Rattle.pc_lex.specs.Pieces.{TokenList}
 use Rattle.pc_core_commands.specs.Explain.CoreText.{explained}
 use Rattle.pc_core_commands.proofs.explain.explain_refused.Goals as goal
 

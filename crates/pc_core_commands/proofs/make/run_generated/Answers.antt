@@ -2,11 +2,11 @@ use Rattle.std.proofs.Common.{◌≡◌, ◌∙◌, List, ap, length, subst}
 use Rattle.std.specs.Io.KnownBytes.{Appends}
 use Rattle.std.proofs.lemmas.Result.{err_from_is_err_and}
 use Rattle.pc_core.specs.declared.nodes.Node.{Node}
-use Rattle.pc_gen.specs.Schedule.{schedule}
-use Rattle.pc_io.specs.Change.{change}
+use Rattle.pc_gen.specs.Program.{schedule}
+use Rattle.pc_io.specs.Sink.{change}
 use Rattle.pc_run.specs.Spreading.{spread}
 use Rattle.pc_sched.specs.declared.turns.Turn.{Turn}
-use Rattle.pc_lists.specs.Texts.{Text}
+use Rattle.pc_lists.specs.Lists.{Text}
 use Rattle.pc_refusals.specs.Inner.Answering.{EndsCommand}
 use Rattle.pc_refusal_lines.specs.Lines.{counts_line}
 use Rattle.pc_core_commands.specs.Make.{made_line, made_name}

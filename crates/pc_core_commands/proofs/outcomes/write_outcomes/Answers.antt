@@ -1,5 +1,5 @@
 use Rattle.std.proofs.Common.{Err, sym, subst}
-use Rattle.pc_lists.specs.Texts.{Text}
+use Rattle.pc_lists.specs.Lists.{Text}
 use Rattle.pc_refusals.specs.Verdict.{refused}
 use Rattle.pc_core_commands.specs.Outcomes.{OutcomesTelling}
 use Rattle.pc_core_commands.specs.Outcomes.OutcomesTelling.{many_bytes, many_steps, tells}

@@ -1,6 +1,6 @@
 use Rattle.std.proofs.Common.{[], inr}
 use Rattle.std.proofs.lemmas.Result.{err_from_is_err_and}
-use Rattle.pc_io.specs.Change.{change}
+use Rattle.pc_io.specs.Sink.{change}
 use Rattle.pc_core_commands.proofs.Chosen.{chosen_part, chosen_told}
 use Rattle.pc_core_commands.proofs.RanEnds.{cut_part, cut_told, run_part, run_told}
 use Rattle.pc_core_commands.proofs.play.play_core.Goals as goal

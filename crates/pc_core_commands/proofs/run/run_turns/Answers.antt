@@ -3,8 +3,8 @@ use Rattle.std.proofs.lemmas.Result.{err_from_is_err_and}
 use Rattle.pc_core.specs.CoreData.{CoreData}
 use Rattle.pc_run.specs.Ends.{NeverLacks}
 use Rattle.pc_run.specs.Spreading.{spread}
-use Rattle.pc_io.specs.Change.{change}
-use Rattle.pc_refusals.specs.Ends.{TellsPart}
+use Rattle.pc_io.specs.Sink.{change}
+use Rattle.pc_refusals.specs.Verdict.{TellsPart}
 use Rattle.pc_refusals.specs.Inner.Answering.{WritesVerdict}
 use Rattle.pc_core_commands.specs.Run.{Ran}
 use Rattle.pc_core_commands.proofs.RanEnds.{cut_part, cut_told, run_part, run_told}

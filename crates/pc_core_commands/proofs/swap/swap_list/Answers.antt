@@ -1,6 +1,6 @@
 use Rattle.std.proofs.Common.{◌<◌, List, ℕ, Err, length, subst, sym, arith}
 use Rattle.pc_sched_lines.specs.Lines.{IsLine}
-use Rattle.pc_lists.specs.Texts.{Text}
+use Rattle.pc_lists.specs.Lists.{Text}
 use Rattle.pc_core_commands.specs.Swap.{Swapping}
 use Rattle.pc_core_commands.specs.Swap.Swapping.{no_place}
 use Rattle.pc_refusals.specs.Verdict.{refused}

@@ -1,6 +1,5 @@
 use Rattle.std.proofs.Common.{[], ◌∷◌, length, ap, sym, subst, arith, length-append}
-use Rattle.pc_deriv.specs.Text.{note_line, NoteFits}
-use Rattle.pc_deriv.specs.Faults.{BeginsLine}
+use Rattle.pc_deriv.specs.Text.{note_line, NoteFits, BeginsLine}
 use Rattle.pc_deriv.proofs.Reached.{note_more}
 use Rattle.pc_deriv.proofs.reading.read_notes.Goals as goal
 

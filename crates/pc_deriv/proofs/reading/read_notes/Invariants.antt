@@ -1,6 +1,5 @@
 use Rattle.std.proofs.Common.{length, ◌-◌, ◌≤◌}
-use Rattle.pc_deriv.specs.Text.{note_line, NoteFits}
-use Rattle.pc_deriv.specs.Faults.{BeginsLine}
+use Rattle.pc_deriv.specs.Text.{note_line, NoteFits, BeginsLine}
 use Rattle.pc_deriv.proofs.reading.read_notes.Given as goal
 
 abbrev pub invariant-notes : goal.invariant-notes

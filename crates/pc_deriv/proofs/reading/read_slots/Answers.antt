@@ -1,6 +1,5 @@
 use Rattle.std.proofs.Common.{[], ◌∷◌, length, ap, sym, subst, arith, length-append}
-use Rattle.pc_deriv.specs.Text.{slot_line, SlotFits}
-use Rattle.pc_deriv.specs.Faults.{BeginsLine}
+use Rattle.pc_deriv.specs.Text.{slot_line, SlotFits, BeginsLine}
 use Rattle.pc_deriv.proofs.Reached.{slot_more}
 use Rattle.pc_deriv.proofs.reading.read_slots.Goals as goal
 

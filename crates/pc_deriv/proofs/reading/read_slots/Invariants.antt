@@ -1,6 +1,5 @@
 use Rattle.std.proofs.Common.{length, ◌-◌, ◌≤◌}
-use Rattle.pc_deriv.specs.Text.{slot_line, SlotFits}
-use Rattle.pc_deriv.specs.Faults.{BeginsLine}
+use Rattle.pc_deriv.specs.Text.{slot_line, SlotFits, BeginsLine}
 use Rattle.pc_deriv.proofs.reading.read_slots.Given as goal
 
 abbrev pub invariant-loop-rest : goal.invariant-loop-rest

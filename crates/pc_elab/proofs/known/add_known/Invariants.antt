@@ -1,6 +1,6 @@
 use Rattle.std.proofs.Common.{◌≡◌, ◌++◌, drop, map}
 use Rattle.pc_tree.specs.View.{entity_view}
-use Rattle.pc_file_spec.specs.Known.{built_in_known}
+use Rattle.pc_file_spec.specs.Cores.{built_in_known}
 use Rattle.pc_elab.specs.Rows.{known_rows}
 use Rattle.pc_members.specs.Views.{table_view}
 use Rattle.pc_elab.proofs.known.add_known.Given as goal

@@ -1,5 +1,5 @@
 use Rattle.std.proofs.Common.{◌≡◌, ◌++◌, ◌+◌, drop}
-use Rattle.pc_file_spec.specs.Known.{constructors_from}
+use Rattle.pc_file_spec.specs.Cores.{constructors_from}
 use Rattle.pc_members.specs.Views.{members_view}
 use Rattle.pc_elab.proofs.known.list_constructors.Given as goal
 

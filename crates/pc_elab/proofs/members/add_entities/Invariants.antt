@@ -1,6 +1,6 @@
 use Rattle.std.proofs.Common.{◌≡◌, ◌+◌, drop, map}
 use Rattle.pc_tree.specs.View.{entity_view}
-use Rattle.pc_tree.specs.BuiltIn.{first_own}
+use Rattle.pc_tree.specs.Kinds.{first_own}
 use Rattle.pc_elab.specs.Outcomes.{row_members}
 use Rattle.pc_members.specs.Views.{table_view}
 use Rattle.pc_elab.specs.Views.{parts_view}

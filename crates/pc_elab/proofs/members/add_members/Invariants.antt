@@ -1,6 +1,6 @@
 use Rattle.std.proofs.Common.{◌≡◌, drop, map}
 use Rattle.pc_tree.specs.View.{entity_view}
-use Rattle.pc_file_spec.specs.Members.{owned}
+use Rattle.pc_file_spec.specs.Cores.{owned}
 use Rattle.pc_elab.specs.Outcomes.{own_members, with_slots}
 use Rattle.pc_members.specs.Views.{members_view}
 use Rattle.pc_elab.specs.Views.{parts_view}

@@ -1,5 +1,5 @@
 use Rattle.std.proofs.Common.{◌≡◌, ◌++◌, drop, map}
-use Rattle.pc_file_spec.specs.Signatures.{param_of}
+use Rattle.pc_file_spec.specs.Cores.{param_of}
 use Rattle.pc_elab.proofs.signature.list_params.Given as goal
 
 abbrev pub invariant-loop-param : goal.invariant-loop-param

@@ -1,5 +1,5 @@
 use Rattle.std.proofs.Common.{◌≡◌, ◌++◌, drop, map}
-use Rattle.pc_body_spec.specs.Slots.{local_slot}
+use Rattle.pc_body_spec.specs.Fold.{local_slot}
 use Rattle.pc_elab.proofs.slots.add_locals.Given as goal
 
 abbrev pub invariant-loop-local : goal.invariant-loop-local

@@ -1,5 +1,5 @@
 use Rattle.std.proofs.Common.{◌≡◌, ◌++◌, drop, map}
-use Rattle.pc_core.specs.MethodKinds.{param_slot}
+use Rattle.pc_core.specs.Entities.{param_slot}
 use Rattle.pc_elab.proofs.slots.add_params.Given as goal
 
 abbrev pub invariant-loop-param : goal.invariant-loop-param

@@ -1,8 +1,8 @@
 use Rattle.std.proofs.Common.{◌≡◌, ◌++◌, [], ◌∷◌, Some, map, refl, subst}
 use Rattle.pc_tree.specs.View.{field_view}
 use Rattle.pc_body_spec.specs.Bodies as spec
-use Rattle.pc_body_spec.specs.Expressions.{added_none}
-use Rattle.pc_body_spec.specs.Roses.{Roses, one, puts}
+use Rattle.pc_body_spec.specs.Bodies.{added_none, Roses, one}
+use Rattle.pc_body_spec.specs.Fold.{puts}
 use Rattle.pc_emit.specs.Giving.{GivesNodes}
 use Rattle.pc_emit.specs.Closing.{body_closes}
 use Rattle.pc_emit.proofs.Walks.{inner_gives}

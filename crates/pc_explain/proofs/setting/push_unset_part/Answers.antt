@@ -1,6 +1,6 @@
 use Rattle.std.proofs.Common.{◌++◌, ℕ, List, ap, ◌∙◌}
 use Rattle.pc_core.specs.CoreData.{CoreData}
-use Rattle.pc_core.specs.Lookup.{own_nodes}
+use Rattle.pc_core.specs.Further.{own_nodes}
 use Rattle.pc_window.specs.Quoting.{quoted}
 use Rattle.pc_words.specs.Forms.{name_text, place_words}
 use Rattle.pc_sentences.proofs.Pushed.{ok_seven}

@@ -1,5 +1,5 @@
 use Rattle.std.proofs.Common.{◌++◌, codes, ap, ◌∙◌}
-use Rattle.pc_lists.specs.Texts.{line_end}
+use Rattle.pc_lists.specs.Lists.{line_end}
 use Rattle.pc_tree.specs.View.{entity_view}
 use Rattle.pc_window.proofs.Appends.{ok_after}
 use Rattle.pc_window.specs.Places.{line_and_column}

@@ -1,6 +1,6 @@
 use Rattle.std.proofs.Common.{ℕ, List, ◌∙◌, sym, subst}
 use Rattle.pc_tree.specs.View.{file_view}
-use Rattle.pc_members.specs.Chains.{IsTransitiveClosure}
+use Rattle.pc_members.specs.Members.{IsTransitiveClosure}
 use Rattle.pc_names.proofs.Founded.{collected_founded}
 use Rattle.pc_explain_names.proofs.rows.members_of.Goals as goal
 

@@ -1,5 +1,5 @@
 use Rattle.std.proofs.Common.{◌++◌, codes}
-use Rattle.pc_lists.specs.Texts.{line_end}
+use Rattle.pc_lists.specs.Lists.{line_end}
 use Rattle.pc_window.proofs.Appends.{ok_after}
 use Rattle.pc_window.specs.Quoting.{piece}
 use Rattle.pc_explain_names.specs.NameLines.{call_line}

@@ -1,5 +1,5 @@
 use Rattle.std.proofs.Common.{◌++◌, codes}
-use Rattle.pc_lists.specs.Texts.{line_end}
+use Rattle.pc_lists.specs.Lists.{line_end}
 use Rattle.pc_members.specs.Views.{members_view}
 use Rattle.pc_window.proofs.Appends.{ok_after}
 use Rattle.pc_explain_names.specs.Rows.{member_names}

@@ -1,5 +1,5 @@
 use Rattle.std.proofs.Common.{◌≡◌, ℕ, ◌+◌, ◌-◌, ◌≤◌, List}
-use Rattle.pc_deriv.specs.Limits.{derivation_limit}
+use Rattle.pc_deriv.specs.Text.{derivation_limit}
 use Rattle.pc_feed.proofs.FileParts.{Fulls}
 use Rattle.pc_feed.proofs.parts.take_parts.Given as goal
 

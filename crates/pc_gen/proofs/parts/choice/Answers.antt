@@ -2,7 +2,7 @@ use Rattle.std.proofs.Common.{Some, ap, ap₂, ◌∙◌}
 use Rattle.pc_tree.specs.Tree as t
 use Rattle.pc_tree.specs.View.{seq_view, arms_view}
 use Rattle.pc_tree.proofs.Views.{view_if}
-use Rattle.pc_gen.specs.Parts.{without_place}
+use Rattle.pc_gen.specs.Program.{without_place}
 use Rattle.pc_gen.proofs.parts.choice.Goals as goal
 
 pub returns : goal.returns

@@ -1,7 +1,6 @@
 use Rattle.std.proofs.Common.{rules, ◌≡◌, ◌≤◌, ◌∙◌, List, sym, subst}
-use Rattle.pc_gen.specs.Schedule as spec
-use Rattle.pc_sched.specs.Limits.{turn_limit}
-use Rattle.pc_sched.specs.Schedules.{total}
+use Rattle.pc_gen.specs.Program as spec
+use Rattle.pc_sched.specs.Schedules.{turn_limit, total}
 use Rattle.pc_sched.specs.declared.turns.Turn.{Turn}
 use Rattle.pc_gen.proofs.Turns.{few, one_more}
 use Rattle.pc_gen.proofs.schedule.schedule_of.Goals as goal

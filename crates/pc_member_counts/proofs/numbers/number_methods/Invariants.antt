@@ -1,6 +1,6 @@
 use Rattle.std.proofs.Common.{◌≡◌, ◌++◌, map, drop}
 use Rattle.pc_tree.specs.View.{method_view}
-use Rattle.pc_members.specs.Words.{method_texts}
+use Rattle.pc_members.specs.Members.{method_texts}
 use Rattle.pc_member_counts.specs.Numbers.{numbers_in}
 use Rattle.pc_member_counts.proofs.numbers.number_methods.Given as goal
 

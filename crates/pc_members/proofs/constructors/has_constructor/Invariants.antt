@@ -2,7 +2,7 @@ use Rattle.std.proofs.Common.{◌≡◌, map, drop}
 use Rattle.std.specs.List.{list_any}
 use Rattle.pc_tree.specs.Tree as tree
 use Rattle.pc_tree.specs.View.{method_view}
-use Rattle.pc_members.specs.Words.{is_new}
+use Rattle.pc_members.specs.Members.{is_new}
 use Rattle.pc_members.proofs.constructors.has_constructor.Given as goal
 
 abbrev pub invariant-loop-method : goal.invariant-loop-method

@@ -1,6 +1,6 @@
 use Rattle.std.proofs.Common.{◌≡◌, ◌-◌, ◌≤◌, [], length}
 use Rattle.std.specs.Prelude.{replicate}
-use Rattle.pc_tree.specs.BuiltIn.{first_own}
+use Rattle.pc_tree.specs.Kinds.{first_own}
 use Rattle.pc_members.proofs.edges.add_built_in.Given as goal
 
 abbrev pub invariant-loop-alloc : goal.invariant-loop-alloc

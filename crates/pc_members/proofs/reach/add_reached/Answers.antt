@@ -1,5 +1,5 @@
 use Rattle.std.proofs.Common.{arith, ◌++◌, length}
-use Rattle.pc_members.specs.Reach.{above_all}
+use Rattle.pc_members.specs.Edges.{above_all}
 use Rattle.pc_members.proofs.Reaches.{above_goes}
 use Rattle.pc_members.proofs.reach.add_reached.Goals as goal
 

@@ -1,5 +1,5 @@
 use Rattle.std.proofs.Common.{◌≡◌, ◌++◌, ◌-◌, length}
-use Rattle.pc_members.specs.Reach.{above_from, above_all}
+use Rattle.pc_members.specs.Edges.{above_from, above_all}
 use Rattle.pc_members.proofs.reach.add_reached.Given as goal
 
 abbrev pub invariant-loop-from : goal.invariant-loop-from

@@ -1,5 +1,5 @@
 use Rattle.std.proofs.Common.{◌≡◌, ◌+◌, ◌-◌, length}
-use Rattle.pc_members.specs.Reach as spec
+use Rattle.pc_members.specs.Edges as spec
 use Rattle.pc_members.proofs.reach.grow.Given as goal
 
 abbrev pub invariant-loop-at : goal.invariant-loop-at

@@ -1,5 +1,5 @@
 use Rattle.std.proofs.Common.{sym, ◌∙◌, arith}
-use Rattle.pc_members.specs.Reach.{ascending}
+use Rattle.pc_members.specs.Edges.{ascending}
 use Rattle.pc_members.proofs.Reaches.{found_goes, missed_goes}
 use Rattle.pc_members.proofs.reach.sort_found.Goals as goal
 use Rattle.pc_members.proofs.reach.sort_found.Goals.{then-has+in_ok-push, else-has}

@@ -1,5 +1,5 @@
 use Rattle.std.proofs.Common.{◌≡◌, ◌++◌, ◌-◌}
-use Rattle.pc_members.specs.Reach.{ascending}
+use Rattle.pc_members.specs.Edges.{ascending}
 use Rattle.pc_members.proofs.reach.sort_found.Given as goal
 
 abbrev pub invariant-loop-number : goal.invariant-loop-number

@@ -1,5 +1,5 @@
 use Rattle.std.proofs.Common.{◌≡◌, ◌++◌, drop}
-use Rattle.pc_members.specs.Tables.{with_names}
+use Rattle.pc_members.specs.MemberLists.{with_names}
 use Rattle.pc_members.specs.Rounds.{first_members, member_texts}
 use Rattle.pc_members.specs.Numbered.{numbered_view}
 use Rattle.pc_members.proofs.traits.add_firsts.Given as goal

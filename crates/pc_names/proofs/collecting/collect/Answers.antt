@@ -1,7 +1,7 @@
 use Rattle.std.proofs.Common.{sym, ◌∙◌, subst}
 use Rattle.std.proofs.lemmas.Result.{err_from_is_err_and}
 use Rattle.pc_tree.specs.View.{file_view}
-use Rattle.pc_members.specs.Chains.{IsTransitiveClosure}
+use Rattle.pc_members.specs.Members.{IsTransitiveClosure}
 use Rattle.pc_members.proofs.Closings.{closes}
 use Rattle.pc_names.specs.Faults.{IsFirstNameFault}
 use Rattle.pc_names.proofs.Passes.{fault_of_names, fault_of_declarations, fault_of_above, want_of_memory, is_collected, own_faults}

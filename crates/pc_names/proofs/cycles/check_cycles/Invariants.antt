@@ -1,6 +1,6 @@
 use Rattle.std.proofs.Common.{◌≡◌, ◌+◌, map, drop}
 use Rattle.pc_tree.specs.View.{entity_view}
-use Rattle.pc_names.specs.Cycles.{cycle_faults}
+use Rattle.pc_names.specs.Faults.{cycle_faults}
 use Rattle.pc_names.proofs.cycles.check_cycles.Given as goal
 
 abbrev pub invariant-loop-at : goal.invariant-loop-at

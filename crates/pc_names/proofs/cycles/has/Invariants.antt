@@ -1,5 +1,5 @@
 use Rattle.std.proofs.Common.{◌≡◌, drop}
-use Rattle.pc_members.specs.Reach.{has_number}
+use Rattle.pc_members.specs.Edges.{has_number}
 use Rattle.pc_names.proofs.cycles.has.Given as goal
 
 abbrev pub invariant-loop-number : goal.invariant-loop-number

@@ -1,6 +1,6 @@
 use Rattle.std.proofs.Common.{◌≡◌, ◌++◌, map, drop}
 use Rattle.pc_tree.specs.View.{field_view}
-use Rattle.pc_members.specs.Words.{field_texts}
+use Rattle.pc_members.specs.Members.{field_texts}
 use Rattle.pc_names.specs.Faults as spec
 use Rattle.pc_names.proofs.declarations.add_fields.Given as goal
 

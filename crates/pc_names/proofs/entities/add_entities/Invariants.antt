@@ -1,7 +1,7 @@
 use Rattle.std.proofs.Common.{◌≡◌, ◌++◌, ◌≤◌, map, length, drop}
 use Rattle.pc_tree.specs.View.{entity_view}
 use Rattle.pc_names.specs.Faults.{entity_name_faults, known_limit}
-use Rattle.pc_members.specs.Words.{texts_of}
+use Rattle.pc_members.specs.Members.{texts_of}
 use Rattle.pc_names.proofs.entities.add_entities.Given as goal
 
 abbrev pub invariant-loop-entity : goal.invariant-loop-entity

@@ -1,6 +1,6 @@
 use Rattle.std.proofs.Common.{◌≡◌, map, drop}
 use Rattle.pc_tree.specs.View.{entity_view}
-use Rattle.pc_names.specs.Texts.{with_members}
+use Rattle.pc_names.specs.Faults.{with_members}
 use Rattle.pc_names.proofs.texts.add_member_texts.Given as goal
 
 abbrev pub invariant-loop-entity : goal.invariant-loop-entity

@@ -1,6 +1,6 @@
 use Rattle.std.proofs.Common.{refl}
 use Rattle.pc_run.specs.declared.report.RunFault.TheVariants.{Memory}
-use Rattle.pc_io.specs.Change.{change}
+use Rattle.pc_io.specs.Sink.{change}
 use Rattle.pc_play.proofs.UnderPlay.{played, refused}
 use Rattle.pc_play.proofs.playing.play.Goals as goal
 

@@ -1,4 +1,4 @@
-use Rattle.pc_refusals.specs.Named.{file_at}
+use Rattle.pc_refusals.specs.Verdict.{file_at}
 use Rattle.pc_refusals.proofs.Judged.{derivation_holds, derivation_stops, derivation_asked, not_accepted}
 use Rattle.pc_refusals.proofs.derivation.judge_derivation.Goals as goal
 

@@ -1,4 +1,4 @@
-use Rattle.pc_deriv.specs.Limits.{derivation_limit}
+use Rattle.pc_deriv.specs.Text.{derivation_limit}
 use Rattle.pc_refusals.specs.Derivation.{judge_line}
 use Rattle.pc_refusal_lines.specs.Lines.{longer_line}
 use Rattle.pc_refusals.proofs.Judged.{refused_by}

@@ -1,8 +1,8 @@
 use Rattle.std.proofs.lemmas.Result.{err_from_is_err_and}
-use Rattle.pc_sched.specs.Limits.{schedule_limit}
-use Rattle.pc_refusals.specs.After.After.{stops}
-use Rattle.pc_refusals.specs.Schedule.{ScheduleStage, Scheduling}
-use Rattle.pc_refusals.specs.Named.{file_at}
+use Rattle.pc_sched.specs.Schedules.{schedule_limit}
+use Rattle.pc_refusals.specs.Source.After.{stops}
+use Rattle.pc_refusals.specs.Source.{ScheduleStage, Scheduling}
+use Rattle.pc_refusals.specs.Verdict.{file_at}
 use Rattle.pc_refusals.specs.Source.Length.{is_longer}
 use Rattle.pc_refusals.proofs.Parts.{not_read, whole_ends}
 use Rattle.pc_refusals.proofs.schedule.read_schedule.Goals as goal

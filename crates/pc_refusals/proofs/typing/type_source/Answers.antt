@@ -1,4 +1,4 @@
-use Rattle.pc_refusals.specs.Accepting.Typing.{typed}
+use Rattle.pc_refusals.specs.Source.Typing.{typed}
 use Rattle.pc_refusals.proofs.Typed.{core_stops}
 use Rattle.pc_refusals.proofs.typing.type_source.Goals as goal
 

@@ -1,5 +1,5 @@
 use Rattle.std.proofs.Common.{◌≡◌, drop}
-use Rattle.pc_members.specs.Tables.{with_names}
+use Rattle.pc_members.specs.MemberLists.{with_names}
 use Rattle.pc_resolve.proofs.name_row.add_names.Given as goal
 
 abbrev pub invariant-loop-name : goal.invariant-loop-name

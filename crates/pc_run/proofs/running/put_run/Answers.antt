@@ -1,6 +1,6 @@
 use Rattle.std.proofs.Common.{◌∙◌, ◌++◌, [], ap, subst}
 use Rattle.pc_semantics.specs.Text.{lines}
-use Rattle.pc_io.specs.Change.{change}
+use Rattle.pc_io.specs.Sink.{change}
 use Rattle.pc_run.specs.declared.counts.Progress.{Progress}
 use Rattle.pc_run.specs.declared.counts.Progress.TheVariants.{Going, TooLong}
 use Rattle.pc_run.specs.Underway.{ReachedSoFar}

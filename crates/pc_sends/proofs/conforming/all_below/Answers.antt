@@ -1,5 +1,5 @@
 use Rattle.std.proofs.Common.{ℕ, length, ◌+◌, ap, sym, subst, ◌∙◌, arith}
-use Rattle.pc_sends.specs.Entities.{MayBe}
+use Rattle.pc_sends.specs.Tables.{MayBe}
 use Rattle.pc_sends.proofs.Filtered.{Filtered, filtered_none, filtered_push, filtered_skip, filtered_all}
 use Rattle.pc_sends.proofs.Listed.{may_be_below}
 use Rattle.pc_lists.proofs.Bools.{no_both}

@@ -1,4 +1,4 @@
-use Rattle.pc_sends.specs.Entities.{MayBe}
+use Rattle.pc_sends.specs.Tables.{MayBe}
 use Rattle.pc_sends.proofs.Filtered.{Filtered}
 use Rattle.pc_sends.proofs.conforming.all_below.Given as goal
 

@@ -1,6 +1,6 @@
 use Rattle.std.proofs.Common.{sym}
 use Rattle.pc_core.specs.declared.declarations.Method.{Method}
-use Rattle.pc_sends.specs.Reach.{is_message}
+use Rattle.pc_sends.specs.Tables.{is_message}
 use Rattle.pc_sends.proofs.Tests.{passes_there, passes_none}
 use Rattle.pc_sends.proofs.messages.is_message_at.Goals as goal
 

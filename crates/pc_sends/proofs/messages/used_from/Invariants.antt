@@ -1,6 +1,6 @@
 use Rattle.std.proofs.Common.{[]}
 use Rattle.pc_sends.specs.Growth.{Grown, TurnsBelow}
-use Rattle.pc_sends.specs.Uses.{CallsAreFound}
+use Rattle.pc_sends.specs.Found.{CallsAreFound}
 use Rattle.pc_sends.specs.Reached.{ReachedUses}
 use Rattle.pc_sends.proofs.messages.used_from.Given as goal
 

@@ -1,4 +1,4 @@
-use Rattle.pc_sends.specs.Uses.{CallsAreFound}
+use Rattle.pc_sends.specs.Found.{CallsAreFound}
 use Rattle.pc_sends.specs.Reached.{Found}
 use Rattle.pc_sends.proofs.reaching.reach.Given as goal
 

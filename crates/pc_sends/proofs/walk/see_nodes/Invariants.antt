@@ -1,5 +1,5 @@
 use Rattle.pc_sends.specs.Growth.{Grown, TurnsBelow}
-use Rattle.pc_sends.specs.Uses.{CallsAreFound}
+use Rattle.pc_sends.specs.Found.{CallsAreFound}
 use Rattle.pc_sends.proofs.Grows.{At}
 use Rattle.pc_sends.proofs.Walking.{NodeAims}
 use Rattle.pc_sends.proofs.walk.see_nodes.Given as goal

@@ -1,6 +1,6 @@
 use Rattle.std.proofs.Common.{◌≡◌, ◌+◌, drop}
 use Rattle.std.specs.Prelude.{slice_get}
-use Rattle.pc_sub.specs.Conforms as spec
+use Rattle.pc_sub.specs.DeclarationFaults as spec
 use Rattle.pc_sub.proofs.conforming.trait_fault.Given as goal
 
 abbrev pub invariant-loop-wanted : goal.invariant-loop-wanted

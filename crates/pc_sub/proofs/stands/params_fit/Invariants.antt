@@ -1,5 +1,5 @@
 use Rattle.std.proofs.Common.{◌≡◌, drop}
-use Rattle.pc_sub.specs.Conforms as spec
+use Rattle.pc_sub.specs.DeclarationFaults as spec
 use Rattle.pc_sub.proofs.stands.params_fit.Given as goal
 
 abbrev pub invariant-loop-param : goal.invariant-loop-param

@@ -1,5 +1,5 @@
 use Rattle.std.proofs.Common.{ℕ}
-use Rattle.pc_core.specs.Entities.{IsAbstract}
+use Rattle.pc_core.specs.Further.{IsAbstract}
 use Rattle.pc_sub.proofs.Looked.{HasTo}
 use Rattle.pc_sub.proofs.tables.any_abstract.Given as goal
 

@@ -1,7 +1,7 @@
 use Rattle.std.proofs.Common.{◌≡◌, ◌<◌, Some, ap, sym, subst, length, ◌∙◌, [], arith}
 use Rattle.std.specs.Prelude.{ℕ, List, None}
 use Rattle.std.proofs.lemmas.Option.{none-some, slice_get-get_or}
-use Rattle.pc_lists.specs.Places.{Has}
+use Rattle.pc_lists.specs.Lists.{Has}
 use Rattle.pc_lists.proofs.Bools.{no_both}
 use Rattle.pc_sub.specs.Groups.{IsGroup, first_of}
 use Rattle.pc_sub.proofs.Grouping.{first_within, list_some}

@@ -1,5 +1,5 @@
 use Rattle.std.proofs.Common.{rules, ◌≡◌, true, false}
-use Rattle.pc_swap.specs.Kept.{is_moving, one_receiver, two_spawns}
+use Rattle.pc_swap.specs.Ends.{is_moving, one_receiver, two_spawns}
 use Rattle.pc_swap.proofs.Telling.{second_stays, to_one, are_apart}
 use Rattle.pc_swap.proofs.parts.apart_others.Goals as goal
 

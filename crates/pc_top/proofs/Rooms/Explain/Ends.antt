@@ -2,20 +2,19 @@
 use Rattle.std.proofs.Common.{◌≡◌, ◌≤◌, length, Ok, Err, inr, refl, subst}
 use Rattle.std.specs.Prelude.{IfErr, Result}
 use Rattle.pc_elab.specs.Cores.{IsFirstFault}
-use Rattle.pc_lists.specs.Texts.{Text}
-use Rattle.pc_names.specs.Names.{IsNotMemory}
+use Rattle.pc_lists.specs.Lists.{Text}
+use Rattle.pc_names.specs.Faults.{IsNotMemory}
 use Rattle.pc_names.specs.declared.fault.NameFault.{NameFault}
 use Rattle.pc_places.specs.Text.{HasTokens}
 use Rattle.pc_tree.specs.Tree as t
-use Rattle.pc_refusals.specs.After.After.{goes}
-use Rattle.pc_refusals.specs.FromFile.FromFile.{goes_on, refuses}
+use Rattle.pc_refusals.specs.Source.After.{goes}
+use Rattle.pc_refusals.specs.Source.FromFile.{goes_on, refuses}
 use Rattle.pc_refusals.specs.Inner.Answering.{AnswersText}
 use Rattle.pc_refusals.specs.Inner.Stages.{StageEnds, StageStops}
-use Rattle.pc_refusals.specs.Named.{FailedAt, IsReadingOf, Named, whole}
+use Rattle.pc_refusals.specs.Verdict.{FailedAt, IsReadingOf, Named, whole, refused}
 use Rattle.pc_refusals.specs.Source.{SyntaxStage, source_limit}
 use Rattle.pc_refusals.specs.Source.Length.{fits}
 use Rattle.pc_refusals.specs.Source.Lexing.{lexed}
-use Rattle.pc_refusals.specs.Verdict.{refused}
 use Rattle.pc_refusals.specs.declared.stop.Stop.{Stop}
 use Rattle.pc_refusals.specs.declared.stop.Stop.TheVariants.{File, Memory, Refused, Sink}
 use Rattle.pc_refusals.proofs.Stops.{stops_as}

@@ -5,16 +5,14 @@ use Rattle.pc_core.specs.CoreData.{CoreData}
 use Rattle.pc_core.specs.Formed.{Formed}
 use Rattle.pc_core_relation.specs.Files.{IsCoreOf}
 use Rattle.pc_core_relation.proofs.Ones.{standing_cores_are_made, standing_cores_are_one}
-use Rattle.pc_lex.specs.Answers.{TokenList}
-use Rattle.pc_lists.specs.Texts.{Text}
-use Rattle.pc_names.specs.Names.{IsNotMemory}
+use Rattle.pc_lex.specs.Pieces.{TokenList}
+use Rattle.pc_lists.specs.Lists.{Text}
+use Rattle.pc_names.specs.Faults.{IsNotMemory}
 use Rattle.pc_names.specs.declared.fault.NameFault.{NameFault}
 use Rattle.pc_token.specs.declared.kinds.Token.{Token}
 use Rattle.pc_tree.specs.Tree as t
-use Rattle.pc_refusals.specs.After.{HasOneEnd}
-use Rattle.pc_refusals.specs.Named.{Reading, whole}
-use Rattle.pc_refusals.specs.Source.{FileStage}
-use Rattle.pc_refusals.specs.Verdict.{Verdict}
+use Rattle.pc_refusals.specs.Source.{HasOneEnd, FileStage}
+use Rattle.pc_refusals.specs.Verdict.{Reading, whole, Verdict}
 use Rattle.pc_refusals.proofs.OneSource.{differ, ok_same, one_file}
 use Rattle.pc_core_commands.specs.Explain.{CoreText, Explaining, IsFileFault, fault_end}
 use Rattle.pc_top.specs.Commands.Explain.{ExplainedStage}

@@ -2,24 +2,22 @@
 use Rattle.std.proofs.Common.{◌≡◌, ◌≤◌, ◌∙◌, ℕ, List, length, Option, Some, Ok, inl, refl, sym, ap, subst}
 use Rattle.std.specs.Prelude.{IfSome, IsSome}
 use Rattle.pc_args.specs.Asked.{Asked, play, run}
-use Rattle.pc_args.specs.Numbers.{IsSeed}
+use Rattle.pc_args.specs.Line.{IsSeed}
 use Rattle.pc_choose.specs.Lists.{Chosen}
 use Rattle.pc_core.specs.CoreData.{CoreData}
-use Rattle.pc_lists.specs.Texts.{Text}
+use Rattle.pc_lists.specs.Lists.{Text}
 use Rattle.pc_play.specs.Laws.{LinesFit}
 use Rattle.pc_run.specs.Ends.{NeverLacks}
 use Rattle.pc_run.specs.Spreading.{spread}
-use Rattle.pc_sched.specs.Limits.{schedule_limit}
+use Rattle.pc_sched.specs.Schedules.{schedule_limit}
 use Rattle.pc_sched_lines.specs.Lines.{IsLine}
 use Rattle.pc_types.specs.Laws.{AcceptedNeverLacks}
-use Rattle.pc_refusals.specs.Accepting.{AcceptedStage}
-use Rattle.pc_refusals.specs.After.After.{goes}
-use Rattle.pc_refusals.specs.FromFile.FromFile.{goes_on}
-use Rattle.pc_refusals.specs.Named.{Files, IsReadingOf, Reading, named, whole}
-use Rattle.pc_refusals.specs.Schedule.Scheduling.{scheduled}
-use Rattle.pc_refusals.specs.Source.{source_limit}
+use Rattle.pc_refusals.specs.Source.{AcceptedStage, source_limit}
+use Rattle.pc_refusals.specs.Source.After.{goes}
+use Rattle.pc_refusals.specs.Source.FromFile.{goes_on}
+use Rattle.pc_refusals.specs.Verdict.{Files, IsReadingOf, Reading, named, whole, Verdict, done}
+use Rattle.pc_refusals.specs.Source.Scheduling.{scheduled}
 use Rattle.pc_refusals.specs.Source.Length.{fits}
-use Rattle.pc_refusals.specs.Verdict.{Verdict, done}
 use Rattle.pc_refusals.specs.declared.typing.Accepted.{Accepted}
 use Rattle.pc_refusals.proofs.LastStages.{passed}
 use Rattle.pc_refusals.proofs.Statuses.{accepted_refuses}

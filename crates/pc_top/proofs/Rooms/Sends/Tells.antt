@@ -1,7 +1,7 @@
 -- What `sends` reports is right about every run.
 use Rattle.pc_noted_receivers.specs.Laws.{AcceptedHeld}
 use Rattle.pc_noted_receivers.specs.Noted.{noted_entities}
-use Rattle.pc_semantics.specs.Runs.{after}
+use Rattle.pc_semantics.specs.Step.{after}
 use Rattle.pc_sends.specs.Covering.{HeldCovers}
 use Rattle.pc_sends.proofs.Tabled.{table_tells}
 use Rattle.pc_core_commands.proofs.Tables.{names_there}

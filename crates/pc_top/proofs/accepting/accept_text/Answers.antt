@@ -1,7 +1,6 @@
 use Rattle.std.proofs.lemmas.Result.{err_from_is_err_and}
-use Rattle.pc_refusals.specs.Accepting.{Typing}
-use Rattle.pc_refusals.specs.Named.{text_as}
-use Rattle.pc_refusals.specs.Source.{SourceStage, source_limit}
+use Rattle.pc_refusals.specs.Source.{Typing, SourceStage, source_limit}
+use Rattle.pc_refusals.specs.Verdict.{text_as}
 use Rattle.pc_refusals.proofs.Parts.{ends_behind, stops_behind}
 use Rattle.pc_top.proofs.accepting.accept_text.Goals as goal
 

@@ -1,7 +1,7 @@
 use Rattle.std.proofs.Common.{ap}
 use Rattle.pc_args.specs.Asked.{asked_by, check, events, explain, judge, make, outcomes, places, play, run, schedule_of, sends, show, swap, trace, upgrade}
-use Rattle.pc_io.specs.Change.{change}
-use Rattle.pc_refusals.specs.Named.{files_change}
+use Rattle.pc_io.specs.Sink.{change}
+use Rattle.pc_refusals.specs.Verdict.{files_change}
 use Rattle.pc_top.proofs.Asking.{asks_judge, asks_other}
 use Rattle.pc_top.proofs.Ending.{command_ends, command_puts}
 use Rattle.pc_top.proofs.Rooms.Judge.{asks_put}

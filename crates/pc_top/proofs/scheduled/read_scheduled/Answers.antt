@@ -1,9 +1,7 @@
 use Rattle.std.proofs.Common.{inl}
 use Rattle.std.proofs.lemmas.Result.{err_from_is_err_and}
-use Rattle.pc_sched.specs.Limits.{schedule_limit}
-use Rattle.pc_refusals.specs.Accepting.{AcceptedStage}
-use Rattle.pc_refusals.specs.Schedule.{ScheduleStage}
-use Rattle.pc_refusals.specs.Source.{source_limit}
+use Rattle.pc_sched.specs.Schedules.{schedule_limit}
+use Rattle.pc_refusals.specs.Source.{AcceptedStage, ScheduleStage, source_limit}
 use Rattle.pc_refusals.proofs.TwoFiles.{both_later, both_same, second_gives, second_stops}
 use Rattle.pc_top.proofs.Deriving.{accepted_whole}
 use Rattle.pc_top.proofs.scheduled.read_scheduled.Goals as goal

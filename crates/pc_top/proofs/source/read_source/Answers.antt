@@ -1,6 +1,6 @@
 use Rattle.std.proofs.lemmas.Result.{err_from_is_err_and}
-use Rattle.pc_refusals.specs.After.After.{stops}
-use Rattle.pc_refusals.specs.Named.{file_at}
+use Rattle.pc_refusals.specs.Source.After.{stops}
+use Rattle.pc_refusals.specs.Verdict.{file_at}
 use Rattle.pc_refusals.specs.Source.{SourceStage, source_limit}
 use Rattle.pc_refusals.specs.Source.Length.{is_longer}
 use Rattle.pc_top.proofs.Facts.{core_given, core_stopped}

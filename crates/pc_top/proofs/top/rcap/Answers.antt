@@ -1,6 +1,6 @@
 use Rattle.pc_args.specs.Asked.{command_of, texts}
-use Rattle.pc_io.specs.Change.{change}
-use Rattle.pc_refusals.specs.Named.{files_change}
+use Rattle.pc_io.specs.Sink.{change}
+use Rattle.pc_refusals.specs.Verdict.{files_change}
 use Rattle.pc_refusals.proofs.Answers.{answer_of, completes}
 use Rattle.pc_top.specs.Asked.{IsVerdict, FailedIn}
 use Rattle.pc_top.specs.CoreOf.{HasSafeCore}

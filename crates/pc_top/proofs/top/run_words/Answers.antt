@@ -1,8 +1,8 @@
 use Rattle.std.proofs.Common.{Err, inl, refl}
 use Rattle.pc_args.specs.Asked.{asked_by, command_of, texts}
 use Rattle.pc_args.proofs.Refusals.{asks_nothing}
-use Rattle.pc_io.specs.Change.{change}
-use Rattle.pc_refusals.specs.Named.{files_change}
+use Rattle.pc_io.specs.Sink.{change}
+use Rattle.pc_refusals.specs.Verdict.{files_change}
 use Rattle.pc_refusals.proofs.Ending.{kept}
 use Rattle.pc_top.proofs.Asking.{asks_end, asks_nobody, asks_no_memory}
 use Rattle.pc_top.proofs.Ending.{words_end, words_refused}

@@ -1,6 +1,6 @@
 use Rattle.std.proofs.Common.{length, ◌-◌, ◌+◌, ◌≡◌, ◌≤◌, drop}
 use Rattle.std.specs.List.{prefix_len}
-use Rattle.pc_refusal_lines.specs.Place.{is_in_line}
+use Rattle.pc_refusal_lines.specs.Lines.{is_in_line}
 use Rattle.pc_window.proofs.window.to_line_end.Given as goal
 
 abbrev pub invariant-loop-end : goal.invariant-loop-end

@@ -1,5 +1,5 @@
 use Rattle.std.proofs.Common.{◌≡◌, drop}
-use Rattle.pc_sub.specs.Chain.{is_in}
+use Rattle.pc_sub.specs.DeclarationFaults.{is_in}
 use Rattle.pc_words.proofs.chains.is_in.Given as goal
 
 abbrev pub invariant-loop-other : goal.invariant-loop-other

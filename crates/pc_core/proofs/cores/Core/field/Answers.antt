@@ -3,11 +3,10 @@ use Rattle.std.specs.Prelude.{List, Some, Option, slice_get}
 use Rattle.std.specs.Option.{option_copied}
 use Rattle.pc_core.specs.declared.declarations.EntityDef.{EntityDef}
 use Rattle.pc_core.specs.declared.declarations.FieldInfo.{FieldInfo}
-use Rattle.pc_lists.specs.Options.{◌>>=◌}
-use Rattle.pc_core.specs.Lookup as spec
+use Rattle.pc_lists.specs.Lists.{◌>>=◌, place_of}
+use Rattle.pc_core.specs.CoreData as spec
 use Rattle.pc_core.specs.Members.{field_exact}
 use Rattle.pc_core.proofs.cores.Core.field.Goals as goal
-use Rattle.pc_lists.specs.Lookup.{place_of}
 
 there : (c : goal.After-as_slice) → slice_get c.args.self.now.entities c.args.entity ≡ Some c.in_ok-found.found.now
 there c = sym c.entity_at.ensures ∙ ap option_copied (c.in_ok-found.was)

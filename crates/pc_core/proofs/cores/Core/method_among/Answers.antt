@@ -3,11 +3,10 @@ use Rattle.std.specs.Prelude.{List, Option, slice_range}
 use Rattle.std.specs.Option.{option_copied}
 use Rattle.pc_core.specs.declared.declarations.EntityDef.{EntityDef}
 use Rattle.pc_core.specs.declared.declarations.Method.{Method}
-use Rattle.pc_lists.specs.Options.{◌>>=◌}
-use Rattle.pc_core.specs.Lookup as spec
+use Rattle.pc_lists.specs.Lists.{◌>>=◌, place_of}
+use Rattle.pc_core.specs.CoreData as spec
 use Rattle.pc_core.specs.Members.{methods_within, own_methods_within}
 use Rattle.pc_core.proofs.cores.Core.method_among.Goals as goal
-use Rattle.pc_lists.specs.Lookup.{place_of}
 
 pub part-methods-requires : goal.part-methods-requires
 part-methods-requires c =

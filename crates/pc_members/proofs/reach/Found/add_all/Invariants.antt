@@ -1,5 +1,5 @@
 use Rattle.std.proofs.Common.{◌≡◌, drop}
-use Rattle.pc_members.specs.Reach.{add_all}
+use Rattle.pc_members.specs.Edges.{add_all}
 use Rattle.pc_members.proofs.reach.Found.add_all.Given as goal
 
 abbrev pub invariant-loop-number : goal.invariant-loop-number

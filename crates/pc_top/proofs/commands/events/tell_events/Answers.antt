@@ -1,13 +1,10 @@
 use Rattle.std.proofs.Common.{List, inl, inr}
 use Rattle.std.proofs.lemmas.Result.{err_from_is_err_and}
 use Rattle.pc_run.specs.Spreading.{spread}
-use Rattle.pc_sched.specs.Limits.{schedule_limit}
+use Rattle.pc_sched.specs.Schedules.{schedule_limit}
 use Rattle.pc_sched.specs.declared.turns.Turn.{Turn}
-use Rattle.pc_refusals.specs.Accepting.{AcceptedStage}
-use Rattle.pc_refusals.specs.Named.{files_change, named}
-use Rattle.pc_refusals.specs.Schedule.{ScheduleStage}
-use Rattle.pc_refusals.specs.Source.{source_limit}
-use Rattle.pc_refusals.specs.Verdict.{EndsWith}
+use Rattle.pc_refusals.specs.Source.{AcceptedStage, ScheduleStage, source_limit}
+use Rattle.pc_refusals.specs.Verdict.{files_change, named, EndsWith}
 use Rattle.pc_refusals.specs.declared.typing.Accepted.{Accepted}
 use Rattle.pc_refusals.proofs.Ending.{both_answer, both_stop, last_ends}
 use Rattle.pc_refusals.proofs.Scheduled.{few_turns}

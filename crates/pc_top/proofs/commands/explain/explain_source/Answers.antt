@@ -1,6 +1,6 @@
 use Rattle.std.proofs.lemmas.Result.{err_from_is_err_and}
-use Rattle.pc_refusals.specs.After.After.{stops}
-use Rattle.pc_refusals.specs.Named.{FailedAt, files_change, named}
+use Rattle.pc_refusals.specs.Source.After.{stops}
+use Rattle.pc_refusals.specs.Verdict.{FailedAt, files_change, named}
 use Rattle.pc_refusals.specs.Source.{source_limit}
 use Rattle.pc_refusals.specs.Source.Length.{is_longer}
 use Rattle.pc_refusals.proofs.Ending.{part_stops}

@@ -1,7 +1,7 @@
 use Rattle.std.proofs.Common.{inl}
 use Rattle.std.proofs.lemmas.Result.{err_from_is_err_and}
 use Rattle.pc_refusals.specs.Derivation.{in_parts}
-use Rattle.pc_refusals.specs.Named.{file_at, files_change, named}
+use Rattle.pc_refusals.specs.Verdict.{file_at, files_change, named}
 use Rattle.pc_refusals.specs.Source.{SourceStage, source_limit}
 use Rattle.pc_core_commands.specs.Judge.{accepted_text}
 use Rattle.pc_top.specs.Shapes.{OfJudged, UnreadDerivation}

@@ -1,11 +1,10 @@
 use Rattle.std.proofs.Common.{◌≡◌, ◌∙◌, ap, subst}
 use Rattle.pc_print.specs.Printing.{printed}
-use Rattle.pc_lists.specs.Texts.{Text}
-use Rattle.pc_refusals.specs.Accepting.{AcceptedStage}
+use Rattle.pc_lists.specs.Lists.{Text}
+use Rattle.pc_refusals.specs.Source.{AcceptedStage, source_limit}
 use Rattle.pc_core_commands.specs.Make.{made_name}
 use Rattle.pc_top.specs.Commands.Make.{made_text}
-use Rattle.pc_refusals.specs.Named.{text_as}
-use Rattle.pc_refusals.specs.Source.{source_limit}
+use Rattle.pc_refusals.specs.Verdict.{text_as}
 use Rattle.pc_refusals.specs.Inner.Stages.{PartEnds}
 use Rattle.pc_top.proofs.commands.make.accept_made.Goals as goal
 

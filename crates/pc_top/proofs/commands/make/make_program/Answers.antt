@@ -1,5 +1,5 @@
 use Rattle.std.proofs.Common.{refl}
-use Rattle.pc_io.specs.Change.{change}
+use Rattle.pc_io.specs.Sink.{change}
 use Rattle.pc_refusal_lines.specs.Lines.{usage_line}
 use Rattle.pc_refusals.proofs.Ending.{ends_by, stop_ends, words_stop}
 use Rattle.pc_top.specs.Commands.Make.{IsMade, IsMake}

@@ -1,6 +1,6 @@
 use Rattle.std.proofs.lemmas.Result.{err_from_is_err_and}
 use Rattle.std.proofs.Common.{arith}
-use Rattle.pc_refusals.specs.Named.{files_change}
+use Rattle.pc_refusals.specs.Verdict.{files_change}
 use Rattle.pc_refusals.proofs.Ending.{last_ends}
 use Rattle.pc_core_commands.specs.Outcomes.{IsCount, OutcomesTelling}
 use Rattle.pc_top.specs.Commands.Outcomes.{Tabled}

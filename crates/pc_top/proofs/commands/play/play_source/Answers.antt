@@ -1,8 +1,8 @@
 use Rattle.std.proofs.Common.{refl}
 use Rattle.std.proofs.lemmas.Result.{err_from_is_err_and}
-use Rattle.pc_args.specs.Numbers.{IsSeed}
-use Rattle.pc_io.specs.Change.{change}
-use Rattle.pc_refusals.specs.Named.{files_change, named}
+use Rattle.pc_args.specs.Line.{IsSeed}
+use Rattle.pc_io.specs.Sink.{change}
+use Rattle.pc_refusals.specs.Verdict.{files_change, named}
 use Rattle.pc_refusals.proofs.Ending.{stop_ends}
 use Rattle.pc_top.specs.Commands.Play.{IsPlay, Played}
 use Rattle.pc_top.proofs.Deriving.{accepted_lacks_nothing}

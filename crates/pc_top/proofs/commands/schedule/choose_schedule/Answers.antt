@@ -1,8 +1,7 @@
 use Rattle.std.proofs.Common.{Ok, refl}
 use Rattle.std.proofs.lemmas.Result.{err_from_is_err_and}
-use Rattle.pc_args.specs.Numbers.{IsSeed}
-use Rattle.pc_refusals.specs.Named.{files_change}
-use Rattle.pc_refusals.specs.Verdict.{done}
+use Rattle.pc_args.specs.Line.{IsSeed}
+use Rattle.pc_refusals.specs.Verdict.{files_change, done}
 use Rattle.pc_top.specs.Commands.Schedule.{Scheduled}
 use Rattle.pc_top.proofs.NumberRoom.{number_answers, number_stops}
 use Rattle.pc_top.proofs.commands.schedule.choose_schedule.Goals as goal

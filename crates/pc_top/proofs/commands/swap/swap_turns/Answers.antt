@@ -1,6 +1,6 @@
 use Rattle.std.proofs.Common.{refl}
 use Rattle.pc_refusal_lines.specs.Lines.{usage_line}
-use Rattle.pc_refusals.specs.Named.{files_change, named}
+use Rattle.pc_refusals.specs.Verdict.{files_change, named}
 use Rattle.pc_refusals.proofs.Ending.{answers_by, words_stop}
 use Rattle.pc_top.specs.Commands.Swap.{IsSwap, IsSwapAt, UnreadSwap}
 use Rattle.pc_top.specs.Commands.Swap.IsSwap.{no_number, placed}

@@ -1,6 +1,0 @@
--- Counters of 64 bits.
-use Rattle.std.specs.Prelude.{ℕ, ◌+◌, ◌-◌, ◌^◌, min}
-
--- the next value of a counter, which stays at its last value
-abbrev pub one_more : ℕ → ℕ
-one_more count = min (count + 1) (2 ^ 64 - 1)
