@@ -197,6 +197,7 @@ HINTS = {
     "DeclareResult": "declare the result TYPE",
     "DeclareHat": r"declare the result of `NAME` ENTITY (?:iso|trn)\^: without `\^` a call gives an alias",
     "Compare": "`=` assigns and gives the old value; `==` compares",
+    "CompareNumber": "compare it with a number, as in `n != 0`",
     "ToString": r"`string\(\)` of it is a String",
     "CompareObjects": "compare objects with `is` or `isnt`",
     "UseBefore": "use it before it is consumed(?:, or assign to `NAME` again after that)?",

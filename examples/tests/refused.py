@@ -11,7 +11,7 @@ REFUSED = pages.TOP / "examples" / "refused"
 MORE = REFUSED / "more"
 
 # The folders, and how many sources each has. Those of the first are listed on the page; in the second are the other kinds.
-SOURCES = {REFUSED: 37, MORE: 158}
+SOURCES = {REFUSED: 37, MORE: 160}
 PAGE = "docs/explaining.md"
 
 # What the launcher says before the program's own line.

@@ -21,6 +21,7 @@ HINTS = {
     "declare the result": "DeclareResult",
     "declare the result with `^`": "DeclareHat",
     "`=` assigns, `==` compares": "Compare",
+    "compare it with a number": "CompareNumber",
     "`string()` of it is a String": "ToString",
     "compare objects with `is`": "CompareObjects",
     "let C say `is T`": "SayIs",

@@ -12,7 +12,7 @@ SECTIONS = ["Why it must be so", "What it rules out", "Try", "Exercises"]
 # The lesson on the theorem has sections of its own before the last two.
 LAST = "20-what-is-guaranteed"
 NEIGHBOURS = range(1, 4)
-EXERCISES = range(2, 4)
+EXERCISES = range(2, 5)
 
 CHECKED = re.compile(r"\./rcap check (\w+\.pony)\b")
 EXPLAINED = re.compile(r"\./rcap explain (\w+\.pony)$")
@@ -117,7 +117,7 @@ def look_at_exercises(lesson, results):
     numbers = exercises_of(lesson)
     files = sorted(f"{name}_{number}.{ending}" for number in numbers for name, ending in EXERCISE_FILES)
     found = [name for name in lesson.files("*") if EXERCISE_FILE.fullmatch(name)]
-    results.check(len(numbers) in EXERCISES, f"{lesson.page.name}: two exercises or three", numbers)
+    results.check(len(numbers) in EXERCISES, f"{lesson.page.name}: two to four exercises", numbers)
     results.check(found == files, f"{lesson.page.name}: each exercise has its files", sorted(set(found) ^ set(files)))
     for number in numbers if found == files else []:
         look_at_exercise(lesson, number, results)

@@ -8,7 +8,7 @@ use Rattle.pc_parts.specs.{Parts.child_role, declared.parts.Role.Role}
 use Rattle.pc_tree.specs.{Kinds.bool_entity, Kinds.first_own, Kinds.string_entity, Kinds.u64_entity, Kinds.is_abstract, declared.kinds.EntityKind.EntityKind}
 use Rattle.pc_words.specs.Scene.{is_param}
 use Rattle.pc_sentences.specs.{Sentences.is_assign, Slots.lost_slot, Stop.StopData, Stop.child_form, Stop.child_type, Stop.receiver_child_index}
-use Rattle.pc_hints.specs.{Nodes.called_hat, Nodes.child_node, Nodes.is_assigned, Nodes.is_box_this, Nodes.is_in_condition, Nodes.is_new_node, Nodes.is_tag_actor, Nodes.is_tag_this, Nodes.local_cap, Nodes.old_form, Nodes.own_method, Nodes.recovered_slot, declared.hint.Hint.Hint, declared.choice.Wanted.Wanted}
+use Rattle.pc_hints.specs.{Nodes.called_hat, Nodes.child_node, Nodes.is_assigned, Nodes.is_box_this, Nodes.is_in_condition, Nodes.is_new_node, Nodes.is_tag_actor, Nodes.is_tag_this, Nodes.local_cap, Nodes.old_form, Nodes.own_method, Nodes.recovered_slot, Nodes.end_slot, declared.hint.Hint.Hint, declared.choice.Wanted.Wanted}
 use Rattle.pc_caps.specs.declared.capability.Cap.TheVariants as cap
 use Rattle.pc_caps.specs.declared.capability.Form.TheVariants as form
 use Rattle.pc_conditions.specs.declared.condition.Condition.TheVariants as asks
@@ -184,8 +184,16 @@ is_number_or_truth (Some ty) = nat_eq ty.0 u64_entity || nat_eq ty.0 bool_entity
 abbrev pub string_hint : StopData → ℕ → ℕ → Option Hint
 string_hint st i e = hint_if (nat_eq e string_entity && is_number_or_truth (child_type st i)) hint.ToString
 
+abbrev pub is_of_numbers : Option (ℕ × Form) → Bool
+is_of_numbers None = false
+is_of_numbers (Some ty) = nat_eq ty.0 u64_entity
+
+-- In a condition, an assignment is meant to compare, and a number is to be compared.
+abbrev pub condition_hint : StopData → ℕ → Option Hint
+condition_hint st i = hint_or_else (hint_if (is_assigned st i) hint.Compare) (hint_if (is_of_numbers (child_type st i)) hint.CompareNumber)
+
 abbrev pub entity_hint : StopData → ℕ → ℕ → Option Hint
-entity_hint st i e = hint_or_else (hint_if (is_condition_role (child_role st.at i) && is_assigned st i) hint.Compare) (string_hint st i e)
+entity_hint st i e = if is_condition_role (child_role st.at i) then condition_hint st i else string_hint st i e
 
 abbrev pub is_trait_kind : EntityKind → Bool
 is_trait_kind kind.Trait = true
@@ -271,7 +279,7 @@ is_val_form f = false
 
 -- If the lifted form of the body is val, `recover val` takes it.
 abbrev pub lifted_hint : StopData → Option Hint
-lifted_hint st = hint_or_else (hint_if (is_val_form (lift (child_form st 0))) hint.RecoverValue) (end_if (recovered_slot st st.at))
+lifted_hint st = hint_or_else (hint_if (is_val_form (lift (child_form st 0))) hint.RecoverValue) (end_if (end_slot st st.at))
 
 -- What to do about a condition, if there is a hint.
 abbrev pub hint_for : StopData → Condition → Option Hint

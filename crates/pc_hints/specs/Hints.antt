@@ -113,6 +113,7 @@ hint_words st hint_of.DeclareBox = declare_box (named_member st)
 hint_words st (hint_of.DeclareResult i) = declare_result st i
 hint_words st (hint_of.DeclareHat i name f) = declare_hat st i (name_text st.scene.core name) f
 hint_words st hint_of.Compare = codes "`=` assigns and gives the old value; `==` compares"
+hint_words st hint_of.CompareNumber = codes "compare it with a number, as in `n != 0`"
 hint_words st hint_of.ToString = codes "`string()` of it is a String"
 hint_words st hint_of.CompareObjects = codes "compare objects with `is` or `isnt`"
 hint_words st (hint_of.UseBefore k) = use_before st k

@@ -183,10 +183,10 @@ end_slot st x = do
   iso_slot st e
 
 abbrev pub recovered_by : StopData → Node → NodeKind → Option ℕ
-recovered_by st x (node.Recover k) = end_slot st x
+recovered_by st x (node.Recover None) = end_slot st x
 recovered_by st x k = None
 
--- The same for any node: none if it is no `recover`.
+-- The same for any node: none if it is no `recover`, or one whose capability is written.
 unfoldable pub recovered_slot : StopData → Node → Option ℕ
 recovered_slot st x = recovered_by st x x.kind
 

@@ -6,8 +6,8 @@ ghost use Rattle.pc_sentences.specs.Sentences.{is_assign as is_assign_is};
 
 use crate::hint::Hint;
 use crate::nodes::{
-    called_hat, child_node, is_assigned, is_box_this, is_in_condition, is_new, is_tag_actor,
-    is_tag_this, local_cap, old_form, recovered_slot,
+    called_hat, child_node, end_slot, is_assigned, is_box_this, is_in_condition, is_new,
+    is_tag_actor, is_tag_this, local_cap, old_form, recovered_slot,
 };
 use pc_caps::{Cap, Form, below, fits, lift, sendable, unalias};
 use pc_conditions::Condition;
@@ -355,14 +355,33 @@ fn string_hint(stop: &Stop, index: usize, entity: u32) -> Option<Hint>
     )
 }
 
+fn is_of_numbers(ty: Option<(u32, Form)>) -> bool
+    ensures { result ≡ spec.is_of_numbers ty }
+{
+    match ty {
+        Some(found) => found.0 == U64_ENTITY,
+        None => false,
+    }
+}
+
+// What to do about a condition that is no truth value.
+fn condition_hint(stop: &Stop, index: usize) -> Option<Hint>
+    ensures { result ≡ spec.condition_hint stop.now index }
+{
+    or_else(
+        when(is_assigned(stop, index), Hint::Compare),
+        when(is_of_numbers(stop.child_type(index)), Hint::CompareNumber),
+    )
+}
+
 fn entity_hint(stop: &Stop, index: usize, entity: u32) -> Option<Hint>
     ensures { result ≡ spec.entity_hint stop.now index entity }
 {
-    let assigned = is_condition(child_role(stop.node(), index)) && is_assigned(stop, index);
-    or_else(
-        when(assigned, Hint::Compare),
-        string_hint(stop, index, entity),
-    )
+    if is_condition(child_role(stop.node(), index)) {
+        condition_hint(stop, index)
+    } else {
+        string_hint(stop, index, entity)
+    }
 }
 
 // Whether the entity with this number is a trait.
@@ -493,7 +512,7 @@ fn lifted(stop: &Stop) -> Option<Hint>
 {
     or_else(
         when(is_val_form(lift(stop.child_form(0))), Hint::RecoverValue),
-        end_if(recovered_slot(stop, stop.node())),
+        end_if(end_slot(stop, stop.node())),
     )
 }
 

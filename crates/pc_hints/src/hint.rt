@@ -29,6 +29,8 @@ pub enum Hint {
     DeclareHat(usize, u32, Form),
     /// `=` is not a comparison.
     Compare,
+    /// A number is no condition: compare it with another.
+    CompareNumber,
     /// `string()` gives a String.
     ToString,
     /// Objects are compared by `is`.

@@ -403,6 +403,7 @@ fn push_words(alloc: Global, out: &mut Vec<u8>, stop: &Stop, hint: Hint) -> Resu
             push_declare_hat(alloc, out, stop, child, name_text(core, name), form)
         }
         Hint::Compare => { push_bytes(out, b"`=` assigns and gives the old value; `==` compares") }
+        Hint::CompareNumber => push_bytes(out, b"compare it with a number, as in `n != 0`"),
         Hint::ToString => push_bytes(out, b"`string()` of it is a String"),
         Hint::CompareObjects => push_bytes(out, b"compare objects with `is` or `isnt`"),
         Hint::UseBefore(slot) => push_use_before(alloc, out, stop, slot),

@@ -370,9 +370,9 @@ fn iso_slot(stop: &Stop, node: &Node) -> Option<u32>
     }
 }
 
-// The local of iso with which the first child of a `recover` ends.
+/// The local of iso with which the first child of a `recover` ends.
 #[tactic(auto, unfolding(crate::specs::Nodes::end_slot))]
-fn end_slot(stop: &Stop, node: &Node) -> Option<u32>
+pub(crate) fn end_slot(stop: &Stop, node: &Node) -> Option<u32>
     ensures { result ≡ spec.end_slot stop.now node.now }
 {
     let core = stop.core();
@@ -381,13 +381,13 @@ fn end_slot(stop: &Stop, node: &Node) -> Option<u32>
     iso_slot(stop, end)
 }
 
-/// The local of iso with which the body ends, if the node is a `recover`.
+/// The local of iso with which the body ends, if the node is a `recover` without a written capability.
 #[tactic(auto, unfolding(crate::specs::Nodes::recovered_slot))]
 pub(crate) fn recovered_slot(stop: &Stop, node: &Node) -> Option<u32>
     ensures { result ≡ spec.recovered_slot stop.now node.now }
 {
     match &node.kind {
-        NodeKind::Recover(_) => end_slot(stop, node),
+        NodeKind::Recover(None) => end_slot(stop, node),
         NodeKind::Number(_)
         | NodeKind::Truth(_)
         | NodeKind::Text(_)
@@ -410,6 +410,7 @@ pub(crate) fn recovered_slot(stop: &Stop, node: &Node) -> Option<u32>
         | NodeKind::Seq
         | NodeKind::If
         | NodeKind::While
+        | NodeKind::Recover(Some(_))
         | NodeKind::Body => None,
     }
 }

@@ -1,0 +1,7 @@
+actor Main
+  new create(env: Env) =>
+    var left: U64 = 3
+    while left != 0 do
+      env.out.print(left.string())
+      left = left - 1
+    end
