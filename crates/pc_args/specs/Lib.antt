@@ -3,3 +3,6 @@ pub mod Forms
 pub mod Line
 pub mod ReadingEnds
 pub mod Refused
+pub mod Commands
+pub mod Numbers
+pub mod Subcommands

@@ -1,6 +1,7 @@
 //! Numbers among the words, read from texts.
 ghost use Rattle.std.specs.Prelude.{◌<◌, ◌^◌};
-ghost use Rattle.pc_args.specs.Line.{IsNumber, IsSeed, IsSize, Reads};
+ghost use Rattle.pc_args.specs.Line.{IsNumber, IsSeed, IsSize};
+ghost use Rattle.pc_args.specs.Numbers.{Reads};
 
 /// The greatest number of digits of a seed.
 const SEED_DIGITS: usize = 20;

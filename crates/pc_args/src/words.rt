@@ -5,7 +5,8 @@ ghost use Rattle.clap.specs.Matches.{first_value};
 ghost use Rattle.clap.specs.Simple.{new_shape, shape_of};
 ghost use Rattle.clap.specs.Words.{FailsBy, app_of, fault_of, found_of, kind_of, rows_of, rule_of, subcommand_of, subcommand_rows_of, takes, with_subcommand};
 ghost use Rattle.clap.specs.declared.builder.command.Command.TheViews.{out-Command as fields_of};
-ghost use Rattle.pc_args.specs.Asked.{asked_by, asked_by_name, texts, argument_value};
+ghost use Rattle.pc_args.specs.Asked.{asked_by_name, texts, argument_value};
+ghost use Rattle.pc_args.specs.Commands.{asked_by};
 ghost use Rattle.pc_args.specs.Line as line;
 ghost use Rattle.pc_args.specs.ReadingEnds.{ReadingEnds};
 

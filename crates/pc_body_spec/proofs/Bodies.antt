@@ -8,10 +8,11 @@ use Rattle.pc_tree.specs.declared.written_names.Name.{Name}
 use Rattle.pc_tree.specs.Tree as t
 use Rattle.pc_core.specs.declared.nodes.Node.{Node}
 use Rattle.pc_core.specs.declared.nodes.NodeKind.TheVariants as node
-use Rattle.pc_body_spec.specs.Bodies.{Rose, Roses, one, node_of, sequence, roses_of_items, added_none, initial_of, initials_then, initial_fields, gives_none, none_last, body_around, body_with, maybe_body}
+use Rattle.pc_body_spec.specs.Bodies.{Rose, Roses, one, node_of, sequence, roses_of_items, added_none, initials_then, initial_fields, gives_none, none_last, body_around, body_with, Context, params_scope}
+use Rattle.pc_body_spec.specs.Parts.{initial_of, maybe_body}
 use Rattle.pc_body_spec.specs.Fold.{put, puts, push}
-use Rattle.pc_body_spec.specs.Scopes.{Context, params_scope}
-use Rattle.pc_body_spec.specs.Faults.{value_faults, initial_faults, written_body_faults}
+use Rattle.pc_body_spec.specs.Faults.{initial_faults}
+use Rattle.pc_body_spec.specs.Parts.{value_faults, written_body_faults}
 use Rattle.pc_body_spec.specs.Shapes.{AllShaped}
 use Rattle.pc_body_spec.specs.Meanings.{EveryOf, NamesWhatIsThere}
 use Rattle.pc_body_spec.specs.Laws.{BodyStands, BodiesStand, AddedBodiesStand}

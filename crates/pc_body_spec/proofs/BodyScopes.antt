@@ -7,8 +7,8 @@ use Rattle.pc_tree.specs.declared.written_names.Name.{Name}
 use Rattle.pc_tree.specs.Tree as t
 use Rattle.pc_core.specs.declared.nodes.NodeKind.{NodeKind}
 use Rattle.pc_core.specs.declared.nodes.NodeKind.TheVariants as node
-use Rattle.pc_body_spec.specs.Bodies.{Rose, Roses, rose, one, more, no_roses, and_last, expr_of, roses_of_items, added_none, initial_of, initials_then, initial_fields, gives_none, none_last, body_with, maybe_body}
-use Rattle.pc_body_spec.specs.Scopes.{Context, params_scope}
+use Rattle.pc_body_spec.specs.Bodies.{Rose, Roses, rose, one, more, no_roses, and_last, expr_of, roses_of_items, added_none, initials_then, initial_fields, gives_none, none_last, body_with, Context, params_scope}
+use Rattle.pc_body_spec.specs.Parts.{initial_of, maybe_body}
 use Rattle.pc_body_spec.specs.Visibility.{AsksVisible, ItemAsks, Scoped, AllScoped, ItemsScoped, slots}
 use Rattle.pc_lists.specs.Lists.{IsIn}
 use Rattle.pc_body_spec.specs.Laws.{BodiesAreScoped, AddedBodiesAreScoped}

@@ -12,9 +12,8 @@ use Rattle.pc_core.specs.declared.nodes.NodeKind.{NodeKind}
 use Rattle.pc_core.specs.declared.nodes.NodeKind.TheVariants as node
 use Rattle.pc_lists.specs.Lists.{Each}
 use Rattle.pc_core.specs.Nodes.{HasArity, inner_depth}
-use Rattle.pc_body_spec.specs.Bodies.{Rose, Roses, rose, more, no_roses, node_of}
+use Rattle.pc_body_spec.specs.Bodies.{Rose, Roses, rose, more, no_roses, node_of, deeper}
 use Rattle.pc_body_spec.specs.Fold.{and_then, put, puts, push}
-use Rattle.pc_body_spec.specs.Scopes.{deeper}
 use Rattle.pc_body_spec.specs.Shapes.{count, depth_inside, Shaped, AllShaped}
 use Rattle.pc_body_spec.specs.Meanings.{Every, EveryOf}
 use Rattle.pc_body_spec.specs.Laws.{HasChildren, NodesHaveChildren, WasPut}

@@ -11,11 +11,13 @@ use Rattle.pc_core.specs.declared.nodes.Node.{Node}
 use Rattle.pc_core.specs.declared.nodes.NodeKind.{NodeKind}
 use Rattle.pc_core.specs.declared.nodes.NodeKind.TheVariants as node
 use Rattle.pc_lists.proofs.Gets.{append_get, get_append}
-use Rattle.pc_body_spec.specs.Bodies.{Rose, Roses, rose, more, no_roses, one, and_last, node_of, roses_of_items, added_none, initial_of, initials_then, initial_fields, gives_none, none_last, body_with, maybe_body, added_body}
+use Rattle.pc_body_spec.specs.Bodies.{Rose, Roses, rose, more, no_roses, one, and_last, node_of, roses_of_items, added_none, initials_then, initial_fields, gives_none, none_last, body_with, added_body, Context, slot_at, params_scope}
+use Rattle.pc_body_spec.specs.Parts.{initial_of, maybe_body}
 use Rattle.pc_body_spec.specs.Fold.{and_then, put, puts, push}
-use Rattle.pc_body_spec.specs.Scopes.{Context, slot_at, params_scope}
-use Rattle.pc_body_spec.specs.Faults.{value_faults, initial_faults, written_body_faults}
-use Rattle.pc_body_spec.specs.Slots.{Local, value_locals, initial_locals, body_locals, method_locals, placed_from}
+use Rattle.pc_body_spec.specs.Faults.{initial_faults}
+use Rattle.pc_body_spec.specs.Parts.{value_faults, written_body_faults}
+use Rattle.pc_body_spec.specs.Slots.{Local, initial_locals, method_locals, placed_from}
+use Rattle.pc_body_spec.specs.Parts.{value_locals, body_locals}
 use Rattle.pc_body_spec.specs.Places.{body_places, initial_places, local_start}
 use Rattle.pc_body_spec.specs.Counts.{kind_times, times, times_all, local_times, has_slot, has_place}
 use Rattle.pc_lists.specs.Counts.{one_if}

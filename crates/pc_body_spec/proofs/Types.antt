@@ -3,9 +3,9 @@ use Rattle.std.proofs.Common.{◌≡◌, ℕ, suc, ◌+◌, ◌<◌, length, Lis
 use Rattle.std.specs.Str.{bytes_eq}
 use Rattle.pc_caps.specs.declared.capability.Cap.{Cap}
 use Rattle.pc_tree.specs.declared.written_names.TypeRef.{TypeRef}
-use Rattle.pc_body_spec.specs.Scopes.{KnownEntity}
+use Rattle.pc_body_spec.specs.Bodies.{KnownEntity}
 use Rattle.pc_body_spec.specs.Faults.{unknown, is_entity}
-use Rattle.pc_body_spec.specs.Slots.{cap_or}
+use Rattle.pc_body_spec.specs.Parts.{cap_or}
 use Rattle.pc_body_spec.specs.Fold.{type_of_name}
 use Rattle.pc_body_spec.specs.Laws.{WrittenTypesAreThere}
 use Rattle.pc_body_spec.proofs.Meanings.{some_fault}

@@ -1,13 +1,143 @@
--- The nodes to which a body elaborates: those of its expressions, and then the whole body of a method.
-use Rattle.std.specs.Prelude.{ℕ, List, [], ◌∷◌, Option, Some, None, if◌then◌else◌, ◌-◌, Bool, true, false, codes}
-use Rattle.pc_caps.specs.declared.span.Span.{Span}
+-- The meaning of the names in a body, and the nodes to which it elaborates: those of its expressions, and then the whole
+-- body of a method.
+use Rattle.std.specs.Prelude.{ℕ, suc, ◌+◌, ◌-◌, ◌^◌, min, Bool, true, false, List, [], ◌∷◌, ◌++◌, Option, Some, None, if◌then◌else◌, nat_eq, nat_le, codes, option_map}
+use Rattle.std.specs.{Str.bytes_eq, Option.option_map_or}
+use Rattle.pc_caps.specs.{declared.capability.Cap.Cap, declared.span.Span.Span}
+use Rattle.pc_tree.specs.{declared.kinds.EntityKind.EntityKind, declared.written_names.Name.Name, declared.file.ParamDef.ParamDef, Kinds.none_entity, Kinds.first_own, Kinds.at_kind, declared.kinds.Op.Op, declared.kinds.MethodWord.MethodWord, declared.written_names.TypeRef.TypeRef}
 use Rattle.pc_core.specs.{declared.nodes.Node.Node, declared.nodes.NodeKind.NodeKind}
-use Rattle.pc_tree.specs.{declared.kinds.Op.Op, declared.written_names.Name.Name, Kinds.none_entity, declared.kinds.MethodWord.MethodWord, declared.written_names.TypeRef.TypeRef}
-use Rattle.pc_body_spec.specs.Scopes.{Context, Scope, Meaning, local, field, method, TypeMeaning, primitive, created, no_value, slot_named, slot_at, number_of_text, resolve, type_meaning, constructor_named, scope_after, deeper, params_scope}
-use Rattle.pc_tree.specs.declared.kinds.Op.TheVariants as op
 use Rattle.pc_tree.specs.Tree as t
+use Rattle.pc_tree.specs.declared.kinds.Op.TheVariants as op
 use Rattle.pc_core.specs.declared.nodes.NodeKind.TheVariants as node
 use Rattle.pc_tree.specs.declared.kinds.MethodWord.TheVariants as word
+
+-- A constructor of an entity: its name, and its number among the methods of the program.
+pub record Constructor : Type 0 where
+  pub name : List ℕ
+  pub method : ℕ
+
+-- What a body knows of an entity of the program. A constructor that is added because none is written is among the
+-- constructors.
+pub record KnownEntity : Type 0 where
+  pub name : List ℕ
+  pub kind : EntityKind
+  -- the capability of its type if none is written
+  pub cap : Cap
+  pub constructors : List Constructor
+
+-- The slot of a local, found by the place of its name in its definition.
+pub record PlacedLocal : Type 0 where
+  pub start : ℕ
+  pub slot : ℕ
+
+-- What stays the same throughout the body of a method.
+pub record Context : Type 0 where
+  -- the names of the fields and methods of the entity that the method belongs to
+  pub fields : List (List ℕ)
+  pub methods : List (List ℕ)
+  -- the entities of the program by their numbers, the built-in ones first
+  pub entities : List KnownEntity
+  -- the texts of the program by their numbers
+  pub texts : List (List ℕ)
+  -- the slots of the method's locals
+  pub slots : List PlacedLocal
+
+-- A local or parameter that is visible, and its slot.
+pub record Visible : Type 0 where
+  pub name : List ℕ
+  pub slot : ℕ
+
+-- The visible locals and parameters.
+abbrev pub Scope : Type 0
+Scope = List Visible
+
+abbrev pub is_among_names : List (List ℕ) → List ℕ → Bool
+is_among_names [] name = false
+is_among_names (x ∷ xs) name = if bytes_eq x name then true else is_among_names xs name
+
+abbrev pub slot_named : Scope → List ℕ → Option ℕ
+slot_named [] name = None
+slot_named (v ∷ vs) name = if bytes_eq v.name name then Some v.slot else slot_named vs name
+
+abbrev pub slot_at : List PlacedLocal → ℕ → ℕ
+slot_at [] start = 0
+slot_at (p ∷ ps) start = if nat_eq p.start start then p.slot else slot_at ps start
+
+-- The number of a text; it is one of the program's texts wherever fields and methods are named.
+abbrev pub text_from : ℕ → List (List ℕ) → List ℕ → ℕ
+text_from at [] name = 0
+text_from at (x ∷ xs) name = if bytes_eq x name then at else text_from (suc at) xs name
+
+abbrev pub number_of_text : Context → List ℕ → ℕ
+number_of_text c name = text_from 0 c.texts name
+
+-- The meaning of a bare name.
+pub data Meaning : Type 0 where
+  local : ℕ → Meaning
+  field : Meaning
+  method : Meaning
+  nothing : Meaning
+
+-- By whether the name is a field, and whether it is a method.
+abbrev pub member : Bool → Bool → Meaning
+member true is_method = field
+member false true = method
+member false false = nothing
+
+abbrev pub unless_local : Option ℕ → Meaning → Meaning
+unless_local (Some s) m = local s
+unless_local None m = m
+
+-- A bare name is a visible local or parameter, else a field of the entity, else, directly before arguments, a method of
+-- the entity.
+abbrev pub resolve : Context → Scope → List ℕ → Meaning
+resolve c scope name = unless_local (slot_named scope name) (member (is_among_names c.fields name) (is_among_names c.methods name))
+
+-- The meaning of a type name as an expression.
+pub data TypeMeaning : Type 0 where
+  -- the value of the primitive with this number
+  primitive : ℕ → TypeMeaning
+  -- an actor (`true`) or a class (`false`), with its constructors
+  created : Bool → List Constructor → TypeMeaning
+  no_value : TypeMeaning
+
+-- Of the built-in entities only None has a value that its name denotes.
+abbrev pub is_own : ℕ → Bool
+is_own e = if nat_eq e none_entity then true else nat_le first_own e
+
+abbrev pub by_kind : EntityKind → ℕ → List Constructor → TypeMeaning
+by_kind k e cs = at_kind (created false cs) (created true cs) (primitive e) no_value no_value k
+
+abbrev pub type_from : ℕ → List KnownEntity → List ℕ → TypeMeaning
+type_from at [] name = no_value
+type_from at (x ∷ xs) name = if bytes_eq x.name name then (if is_own at then by_kind x.kind at x.constructors else no_value) else type_from (suc at) xs name
+
+abbrev pub type_meaning : Context → List ℕ → TypeMeaning
+type_meaning c name = type_from 0 c.entities name
+
+abbrev pub constructor_named : List Constructor → List ℕ → Option ℕ
+constructor_named [] name = None
+constructor_named (x ∷ xs) name = if bytes_eq x.name name then Some x.method else constructor_named xs name
+
+-- The local that a definition introduces.
+abbrev pub defined_local : Context → Name → Visible
+defined_local c n = record { name = n.text; slot = slot_at c.slots n.span.start }
+
+-- A local is visible after its definition, up to the end of its sequence.
+abbrev pub scope_after : Context → Scope → t.Item → Scope
+scope_after c scope (t.local fixed n ty value s) = scope ++ defined_local c n ∷ []
+scope_after c scope (t.plain e) = scope
+
+-- The parameters, whose slots come after that of `this`.
+abbrev pub params_from : ℕ → List ParamDef → Scope
+params_from at [] = []
+params_from at (p ∷ ps) = record { name = p.name.text; slot = at } ∷ params_from (suc at) ps
+
+abbrev pub params_scope : List ParamDef → Scope
+params_scope ps = params_from 1 ps
+
+-- One `recover` further in. A depth fits in 32 bits.
+abbrev pub deeper : ℕ → ℕ
+deeper d = min (d + 1) (2 ^ 32 - 1)
 
 -- ---- part of a body, before its nodes have numbers
 
@@ -85,10 +215,6 @@ abbrev pub read_name : Context → Name → ℕ → Meaning → Rose
 read_name c n d (local x) = leaf (node.Local x) n.span d
 read_name c n d field = read_field c n.span n d (added_this n d)
 read_name c n d m = gap n.span d
-
-abbrev pub consumed : Span → ℕ → Option ℕ → Rose
-consumed s d (Some x) = leaf (node.Consume x) s d
-consumed s d None = gap s d
 
 -- Writing a bare name, by an assignment with span s.
 abbrev pub write_name : Context → Span → Name → ℕ → Rose → Meaning → Rose
@@ -203,7 +329,7 @@ abbrev mutual
   expr_of c sc d (t.name n) = read_name c n d (resolve c sc n.text)
   expr_of c sc d (t.type_name n) = read_type n d (type_meaning c n.text)
   expr_of c sc d (t.this s) = leaf node.This s d
-  expr_of c sc d (t.consume n s) = consumed s d (slot_named sc n.text)
+  expr_of c sc d (t.consume n s) = option_map_or (λ x. leaf (node.Consume x) s d) (slot_named sc n.text) (gap s d)
   expr_of c sc d (t.not_ e s) = rose node.Not s d (one (expr_of c sc d e))
   expr_of c sc d (t.infix_ o es s) = infix_of c sc d o s es
   expr_of c sc d (t.chain h ss s) = chain_of c sc d s read (chain_start c sc h) (expr_of c sc d h) ss
@@ -280,13 +406,10 @@ abbrev mutual
 
 -- The initial values of fields are written to the fields of `this`, in order, before what follows. No parameter is
 -- visible in them.
-abbrev pub initial_of : Context → Name → Option t.Expr → Roses → Roses
-initial_of c n None rest = rest
-initial_of c n (Some e) rest = more (write_field c n.span n 0 (expr_of c [] 0 e) (added_this n 0)) rest
-
 abbrev pub initials_then : Context → List t.Field → Roses → Roses
 initials_then c [] rest = rest
-initials_then c (f ∷ fs) rest = initial_of c f.name f.value (initials_then c fs rest)
+initials_then c (f ∷ fs) rest =
+    option_map_or (λ e. more (write_field c f.name.span f.name 0 (expr_of c [] 0 e) (added_this f.name 0)) (initials_then c fs rest)) f.value (initials_then c fs rest)
 
 -- Only constructors start with the initial values.
 abbrev pub initial_fields : MethodWord → List t.Field → List t.Field
@@ -313,13 +436,9 @@ body_around name s items = rose node.Body name 0 (one (sequence s 0 items))
 abbrev pub body_with : Context → List t.Field → t.Method → t.Seq → Rose
 body_with c fs m (t.seq is s) = body_around m.name.span s (initials_then c (initial_fields m.word fs) (none_last (gives_none m.word m.result) m.name.span (roses_of_items c (params_scope m.params) 0 is)))
 
-abbrev pub maybe_body : Context → List t.Field → t.Method → Option t.Seq → Option Rose
-maybe_body c fs m None = None
-maybe_body c fs m (Some b) = Some (body_with c fs m b)
-
 -- The body of a method of an entity with these fields, if one is written.
 abbrev pub body_of : Context → List t.Field → t.Method → Option Rose
-body_of c fs m = maybe_body c fs m m.body
+body_of c fs m = option_map (body_with c fs m) m.body
 
 -- The body of a `create` that is added to an entity with this name: the initial values, and then None.
 abbrev pub added_body : Context → List t.Field → Span → Rose

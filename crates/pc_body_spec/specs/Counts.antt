@@ -1,7 +1,7 @@
 -- How often locals are defined.
 use Rattle.std.specs.Prelude.{ℕ, ◌+◌, Bool, List, [], ◌∷◌, nat_eq, ◌&&◌}
 use Rattle.pc_core.specs.declared.nodes.NodeKind.{NodeKind}
-use Rattle.pc_body_spec.specs.{Bodies.Rose, Bodies.Roses, Bodies.rose, Bodies.more, Bodies.no_roses, Scopes.Context, Scopes.slot_at, Slots.Local, Places.local_start}
+use Rattle.pc_body_spec.specs.{Bodies.Rose, Bodies.Roses, Bodies.rose, Bodies.more, Bodies.no_roses, Bodies.Context, Bodies.slot_at, Slots.Local, Places.local_start}
 use Rattle.pc_lists.specs.Counts.{one_if}
 use Rattle.pc_core.specs.declared.nodes.NodeKind.TheVariants as node
 

@@ -1,9 +1,10 @@
 -- The faults of the names and texts of a body, in the order of the text.
-use Rattle.std.specs.Prelude.{ℕ, Bool, true, false, List, [], ◌∷◌, ◌++◌, length, Option, Some, None, if◌then◌else◌, nat_lt}
-use Rattle.std.specs.Str.{bytes_eq}
+use Rattle.std.specs.Prelude.{ℕ, Bool, true, false, List, [], ◌∷◌, ◌++◌, length, if◌then◌else◌, nat_lt, flat_map}
+use Rattle.std.specs.{Str.bytes_eq, Option.option_map_or, Option.is_none}
 use Rattle.pc_caps.specs.{declared.span.Span.Span, Limits.text_limit}
 use Rattle.pc_tree.specs.{declared.written_names.Name.Name, declared.written_names.TypeRef.TypeRef}
-use Rattle.pc_body_spec.specs.{Scopes.Context, Scopes.Scope, Scopes.KnownEntity, Scopes.Constructor, Scopes.Meaning, Scopes.local, Scopes.field, Scopes.TypeMeaning, Scopes.primitive, Scopes.created, Scopes.no_value, Scopes.slot_named, Scopes.resolve, Scopes.type_meaning, Scopes.constructor_named, Scopes.scope_after, Scopes.params_scope, Bodies.Start, Bodies.with_method, Bodies.with_type, Bodies.with_value, Bodies.chain_start, Bodies.create_name, Bodies.initial_fields}
+use Rattle.pc_body_spec.specs.{Bodies.Context, Bodies.Scope, Bodies.KnownEntity, Bodies.Constructor, Bodies.Meaning, Bodies.local, Bodies.field, Bodies.TypeMeaning, Bodies.primitive, Bodies.created, Bodies.no_value, Bodies.slot_named, Bodies.resolve, Bodies.type_meaning, Bodies.constructor_named, Bodies.scope_after, Bodies.params_scope, Bodies.Start, Bodies.with_method, Bodies.with_type, Bodies.with_value, Bodies.chain_start, Bodies.create_name, Bodies.initial_fields}
+use Rattle.pc_lists.specs.Lists.{one_if}
 use Rattle.pc_tree.specs.Tree as t
 
 pub data BodyNameFault : Type 0 where
@@ -14,15 +15,6 @@ pub data BodyNameFault : Type 0 where
   -- a text that is too long
   long_text : Span → BodyNameFault
 
-abbrev pub fault_if : Bool → BodyNameFault → List BodyNameFault
-fault_if true f = f ∷ []
-fault_if false f = []
-
--- A fault if there is nothing.
-abbrev pub unless_some : {A : Type 0} → Option A → BodyNameFault → List BodyNameFault
-unless_some (Some a) f = []
-unless_some None f = f ∷ []
-
 -- A bare name without arguments after it is a local or parameter, or a field.
 abbrev pub bare_name_faults : Meaning → Span → List BodyNameFault
 bare_name_faults (local x) s = []
@@ -32,7 +24,7 @@ bare_name_faults m s = unknown s ∷ []
 -- A type name without suffixes is that of a primitive, or of an entity with a constructor `create`.
 abbrev pub type_name_faults : TypeMeaning → Span → List BodyNameFault
 type_name_faults (primitive e) s = []
-type_name_faults (created actor cs) s = unless_some (constructor_named cs create_name) (unknown s)
+type_name_faults (created actor cs) s = one_if (is_none (constructor_named cs create_name)) (unknown s)
 type_name_faults no_value s = unknown s ∷ []
 
 -- Any entity of the program may be the type of a local.
@@ -40,9 +32,8 @@ abbrev pub is_entity : List KnownEntity → List ℕ → Bool
 is_entity [] name = false
 is_entity (x ∷ xs) name = if bytes_eq x.name name then true else is_entity xs name
 
-abbrev pub written_faults : Context → Option TypeRef → List BodyNameFault
-written_faults c None = []
-written_faults c (Some ty) = if is_entity c.entities ty.name.text then [] else unknown ty.name.span ∷ []
+abbrev pub written_type_faults : Context → TypeRef → List BodyNameFault
+written_type_faults c ty = if is_entity c.entities ty.name.text then [] else unknown ty.name.span ∷ []
 
 -- A local has the name of no visible local or parameter, and of no field.
 abbrev pub is_name_taken : Meaning → Bool
@@ -70,7 +61,7 @@ start_faults st next alone = alone
 
 -- After the name of a class or actor, `.m` names one of its constructors and is followed by arguments.
 abbrev pub constructor_faults : List Constructor → Name → Next → List BodyNameFault
-constructor_faults cs n arguments = unless_some (constructor_named cs n.text) (unknown n.span)
+constructor_faults cs n arguments = one_if (is_none (constructor_named cs n.text)) (unknown n.span)
 constructor_faults cs n next = unknown n.span ∷ []
 
 abbrev pub dot_faults : Start → Name → Next → List BodyNameFault
@@ -82,11 +73,11 @@ abbrev mutual
   pub faults_of : Context → Scope → t.Expr → List BodyNameFault
   faults_of c sc (t.number n s) = []
   faults_of c sc (t.truth b s) = []
-  faults_of c sc (t.text b s) = fault_if (nat_lt text_limit (length b)) (long_text s)
+  faults_of c sc (t.text b s) = one_if (nat_lt text_limit (length b)) (long_text s)
   faults_of c sc (t.name n) = bare_name_faults (resolve c sc n.text) n.span
   faults_of c sc (t.type_name n) = type_name_faults (type_meaning c n.text) n.span
   faults_of c sc (t.this s) = []
-  faults_of c sc (t.consume n s) = unless_some (slot_named sc n.text) (unknown n.span)
+  faults_of c sc (t.consume n s) = one_if (is_none (slot_named sc n.text)) (unknown n.span)
   faults_of c sc (t.not_ e s) = faults_of c sc e
   faults_of c sc (t.infix_ o es s) = exprs_faults c sc es
   faults_of c sc (t.chain h ss s) = start_faults (chain_start c sc h) (next_of ss) (faults_of c sc h) ++ suffixes_faults c sc (chain_start c sc h) ss
@@ -124,22 +115,14 @@ abbrev mutual
   items_faults c sc (t.item i is) = item_faults c sc i ++ items_faults c (scope_after c sc i) is
 
   pub item_faults : Context → Scope → t.Item → List BodyNameFault
-  item_faults c sc (t.local fixed n ty e s) = fault_if (is_name_taken (resolve c sc n.text)) (double n.span) ++ written_faults c ty ++ faults_of c sc e
+  item_faults c sc (t.local fixed n ty e s) =
+      one_if (is_name_taken (resolve c sc n.text)) (double n.span) ++ option_map_or (written_type_faults c) ty [] ++ faults_of c sc e
   item_faults c sc (t.plain e) = faults_of c sc e
-
-abbrev pub value_faults : Context → Option t.Expr → List BodyNameFault
-value_faults c None = []
-value_faults c (Some e) = faults_of c [] e
 
 -- The faults of the initial values.
 abbrev pub initial_faults : Context → List t.Field → List BodyNameFault
-initial_faults c [] = []
-initial_faults c (f ∷ fs) = value_faults c f.value ++ initial_faults c fs
-
-abbrev pub written_body_faults : Context → Scope → Option t.Seq → List BodyNameFault
-written_body_faults c sc None = []
-written_body_faults c sc (Some b) = seq_faults c sc b
+initial_faults c fs = flat_map (λ (f : t.Field). option_map_or (faults_of c []) f.value []) fs
 
 -- The faults of the body of a method of an entity with these fields. The initial values are a part of each constructor.
 abbrev pub body_faults : Context → List t.Field → t.Method → List BodyNameFault
-body_faults c fs m = initial_faults c (initial_fields m.word fs) ++ written_body_faults c (params_scope m.params) m.body
+body_faults c fs m = initial_faults c (initial_fields m.word fs) ++ option_map_or (seq_faults c (params_scope m.params)) m.body []

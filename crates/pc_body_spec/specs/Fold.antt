@@ -1,10 +1,10 @@
 -- What a fold over a file makes for each method: the slots of its locals, and nodes with numbers.
-use Rattle.std.specs.Prelude.{ℕ, List, [], ◌∷◌, ◌++◌, length, Option, Some, None, if◌then◌else◌, nat_lt, suc, ◌+◌}
+use Rattle.std.specs.Prelude.{ℕ, List, [], ◌∷◌, ◌++◌, length, Option, Some, None, if◌then◌else◌, nat_lt, suc, ◌+◌, unwrap_or}
 use Rattle.std.specs.Str.{bytes_eq}
 use Rattle.pc_caps.specs.{declared.span.Span.Span, Limits.node_limit, declared.capability.Cap.Cap}
 use Rattle.pc_core.specs.{declared.nodes.Node.Node, declared.nodes.NodeKind.NodeKind, declared.nodes.Slot.Slot}
 use Rattle.pc_tree.specs.declared.written_names.TypeRef.{TypeRef}
-use Rattle.pc_body_spec.specs.{Scopes.Context, Scopes.KnownEntity, Bodies.Rose, Bodies.rose, Bodies.Roses, Bodies.no_roses, Bodies.more, Bodies.node_of, Slots.Local, Slots.cap_or, Slots.local_kind}
+use Rattle.pc_body_spec.specs.{Bodies.Context, Bodies.KnownEntity, Bodies.Rose, Bodies.rose, Bodies.Roses, Bodies.no_roses, Bodies.more, Bodies.node_of, Slots.Local, Slots.local_kind}
 
 -- A result and the nodes so far, or none if there are too many nodes.
 abbrev pub Numbered : Type 0 → Type 0
@@ -31,7 +31,7 @@ abbrev mutual
 -- The type with this name among entities whose numbers start with this one.
 abbrev pub type_of_name : ℕ → List KnownEntity → TypeRef → Option (ℕ × Cap)
 type_of_name at [] ty = None
-type_of_name at (x ∷ xs) ty = if bytes_eq x.name ty.name.text then Some (at, cap_or ty.cap x.cap) else type_of_name (suc at) xs ty
+type_of_name at (x ∷ xs) ty = if bytes_eq x.name ty.name.text then Some (at, unwrap_or ty.cap x.cap) else type_of_name (suc at) xs ty
 
 abbrev pub written_of : Context → Option TypeRef → Option (ℕ × Cap)
 written_of c None = None

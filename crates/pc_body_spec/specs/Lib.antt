@@ -1,9 +1,7 @@
-pub mod Texts
-pub mod Scopes
 pub mod Bodies
 pub mod Faults
-pub mod Slots
 pub mod Methods
+pub mod Slots
 pub mod Places
 pub mod Counts
 pub mod Shapes
@@ -12,3 +10,4 @@ pub mod Meanings
 pub mod Laws
 pub mod Example
 pub mod Fold
+pub mod Parts

@@ -3,7 +3,7 @@ use Rattle.std.specs.Prelude.{◌≡◌, ◌⊎◌, ℕ, ◌<◌, ◌≤◌, tru
 use Rattle.pc_tree.specs.{declared.kinds.EntityKind.EntityKind, Kinds.none_entity, Kinds.first_own}
 use Rattle.pc_core.specs.{declared.nodes.NodeKind.NodeKind, Nodes.is_binary}
 use Rattle.pc_lists.specs.Lists.{Has}
-use Rattle.pc_body_spec.specs.{Bodies.Rose, Bodies.Roses, Bodies.rose, Bodies.more, Bodies.no_roses, Scopes.Context, Scopes.KnownEntity, Scopes.Constructor}
+use Rattle.pc_body_spec.specs.{Bodies.Rose, Bodies.Roses, Bodies.rose, Bodies.more, Bodies.no_roses, Bodies.Context, Bodies.KnownEntity, Bodies.Constructor}
 use Rattle.pc_tree.specs.declared.kinds.EntityKind.TheVariants as kind
 use Rattle.pc_core.specs.declared.nodes.NodeKind.TheVariants as node
 

@@ -3,7 +3,7 @@ use Rattle.std.specs.Prelude.{ℕ, List, [], ◌∷◌, ◌++◌, map, Option, S
 use Rattle.pc_caps.specs.{declared.span.Span.Span, Limits.slot_limit}
 use Rattle.pc_tree.specs.{declared.written_names.Name.Name, declared.file.ParamDef.ParamDef}
 use Rattle.pc_core.specs.declared.nodes.Node.{Node}
-use Rattle.pc_body_spec.specs.{Bodies.Rose, Bodies.body_of, Bodies.added_body, Fold.Numbered, Fold.put, Scopes.Context, Faults.BodyNameFault, Faults.body_faults, Faults.initial_faults, Slots.Local, Slots.initial_locals, Slots.method_locals}
+use Rattle.pc_body_spec.specs.{Bodies.Rose, Bodies.body_of, Bodies.added_body, Fold.Numbered, Fold.put, Bodies.Context, Faults.BodyNameFault, Faults.body_faults, Faults.initial_faults, Slots.Local, Slots.initial_locals, Slots.method_locals}
 use Rattle.pc_tree.specs.Tree as t
 
 pub data MethodFault : Type 0 where

@@ -1,9 +1,10 @@
--- The locals of a body, in the order in which their names are in the text, and their slots.
-use Rattle.std.specs.Prelude.{ℕ, suc, ◌+◌, Bool, true, false, List, [], ◌∷◌, ◌++◌, length, Option, Some, None}
-use Rattle.pc_caps.specs.declared.capability.Cap.{Cap}
+-- The locals of a body, in the order in which their names are in the text, and their slots; and the names after a `.` in a
+-- file, in the order of the text.
+use Rattle.std.specs.Prelude.{ℕ, suc, ◌+◌, Bool, true, false, List, [], ◌∷◌, ◌++◌, length, Option, flat_map}
+use Rattle.std.specs.Option.{option_map_or}
 use Rattle.pc_tree.specs.{declared.written_names.Name.Name, declared.written_names.TypeRef.TypeRef}
-use Rattle.pc_core.specs.{declared.nodes.Slot.Slot, declared.nodes.SlotKind.SlotKind}
-use Rattle.pc_body_spec.specs.{Scopes.PlacedLocal, Scopes.deeper, Bodies.initial_fields}
+use Rattle.pc_core.specs.declared.nodes.SlotKind.{SlotKind}
+use Rattle.pc_body_spec.specs.Bodies.{PlacedLocal, deeper, initial_fields}
 use Rattle.pc_tree.specs.Tree as t
 use Rattle.pc_core.specs.declared.nodes.SlotKind.TheVariants as slot
 
@@ -70,22 +71,14 @@ abbrev mutual
   item_locals d (t.local fixed n ty e s) = record { fixed = fixed; name = n; ty = ty; depth = d } ∷ locals_of d e
   item_locals d (t.plain e) = locals_of d e
 
-abbrev pub value_locals : Option t.Expr → List Local
-value_locals None = []
-value_locals (Some e) = locals_of 0 e
-
+-- Those of the initial values.
 abbrev pub initial_locals : List t.Field → List Local
-initial_locals [] = []
-initial_locals (f ∷ fs) = value_locals f.value ++ initial_locals fs
-
-abbrev pub body_locals : Option t.Seq → List Local
-body_locals None = []
-body_locals (Some b) = seq_locals 0 b
+initial_locals fs = flat_map (λ (f : t.Field). option_map_or (locals_of 0) f.value []) fs
 
 -- The locals of a method of an entity with these fields. In each constructor those of the initial values come before
 -- its own.
 abbrev pub method_locals : List t.Field → t.Method → List Local
-method_locals fs m = initial_locals (initial_fields m.word fs) ++ body_locals m.body
+method_locals fs m = initial_locals (initial_fields m.word fs) ++ option_map_or (seq_locals 0) m.body []
 
 -- Locals with the slots from this one on.
 abbrev pub placed_from : ℕ → List Local → List PlacedLocal
@@ -100,11 +93,65 @@ slots_of fs m = placed_from (1 + length m.params) (method_locals fs m)
 abbrev pub added_slots : List t.Field → List PlacedLocal
 added_slots fs = placed_from 1 (initial_locals fs)
 
--- The capability that is written, or else that of the entity.
-abbrev pub cap_or : Option Cap → Cap → Cap
-cap_or (Some k) own = k
-cap_or None own = own
-
 abbrev pub local_kind : Bool → SlotKind
 local_kind true = slot.Let
 local_kind false = slot.Var
+
+-- ---- the names after a `.`
+
+abbrev mutual
+  pub expr_texts : t.Expr → List (List ℕ)
+  expr_texts (t.number n s) = []
+  expr_texts (t.truth b s) = []
+  expr_texts (t.text b s) = []
+  expr_texts (t.name n) = []
+  expr_texts (t.type_name n) = []
+  expr_texts (t.this s) = []
+  expr_texts (t.consume n s) = []
+  expr_texts (t.not_ e s) = expr_texts e
+  expr_texts (t.infix_ o es s) = exprs_texts es
+  expr_texts (t.chain h ss s) = expr_texts h ++ suffixes_texts ss
+  expr_texts (t.group b s) = seq_texts b
+  expr_texts (t.if_ as' o s) = arms_texts as' ++ other_texts o
+  expr_texts (t.while_ cond b s) = seq_texts cond ++ seq_texts b
+  expr_texts (t.recover cap b s) = seq_texts b
+  expr_texts (t.assign l r s) = expr_texts l ++ expr_texts r
+
+  pub exprs_texts : t.Exprs → List (List ℕ)
+  exprs_texts t.no_exprs = []
+  exprs_texts (t.expr e es) = expr_texts e ++ exprs_texts es
+
+  pub suffix_texts : t.Suffix → List (List ℕ)
+  suffix_texts (t.dot n) = n.text ∷ []
+  suffix_texts (t.args es s) = exprs_texts es
+
+  pub suffixes_texts : t.Suffixes → List (List ℕ)
+  suffixes_texts t.no_suffixes = []
+  suffixes_texts (t.suffix x ss) = suffix_texts x ++ suffixes_texts ss
+
+  pub arm_texts : t.Arm → List (List ℕ)
+  arm_texts (t.arm_of cond b s) = seq_texts cond ++ seq_texts b
+
+  pub arms_texts : t.Arms → List (List ℕ)
+  arms_texts t.no_arms = []
+  arms_texts (t.arm a as') = arm_texts a ++ arms_texts as'
+
+  pub other_texts : t.Other → List (List ℕ)
+  other_texts t.no_other = []
+  other_texts (t.other b) = seq_texts b
+
+  pub seq_texts : t.Seq → List (List ℕ)
+  seq_texts (t.seq is s) = items_texts is
+
+  pub items_texts : t.Items → List (List ℕ)
+  items_texts t.no_items = []
+  items_texts (t.item i is) = item_texts i ++ items_texts is
+
+  pub item_texts : t.Item → List (List ℕ)
+  item_texts (t.local fixed n ty e s) = expr_texts e
+  item_texts (t.plain e) = expr_texts e
+
+-- Those of the initial values of fields, and of the bodies of methods.
+abbrev pub entities_texts : List t.Entity → List (List ℕ)
+entities_texts es =
+    flat_map (λ (e : t.Entity). flat_map (λ (f : t.Field). option_map_or expr_texts f.value []) e.fields ++ flat_map (λ (m : t.Method). option_map_or seq_texts m.body []) e.methods) es

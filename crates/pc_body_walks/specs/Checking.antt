@@ -2,7 +2,7 @@
 use Rattle.std.specs.Prelude.{◌≡◌, List, [], ◌∷◌, ◌++◌, Result, Ok, Err}
 use Rattle.pc_caps.specs.declared.span.Span.{Span}
 use Rattle.pc_tree.specs.declared.written_names.Name.{Name}
-use Rattle.pc_body_spec.specs.{Scopes.Context, Scopes.Scope, Scopes.Constructor, Scopes.constructor_named, Scopes.Meaning, Scopes.resolve, Scopes.TypeMeaning, Scopes.primitive, Scopes.created, Scopes.no_value, Scopes.type_meaning, Bodies.create_name, Bodies.start_with_name, Faults.BodyNameFault, Faults.unknown, Faults.double, Faults.long_text, Faults.unless_some, Faults.bare_name_faults, Faults.Next, Faults.arguments, Faults.name, Faults.end, Faults.next_of, Faults.start_faults, Faults.constructor_faults, Faults.faults_of, Faults.exprs_faults}
+use Rattle.pc_body_spec.specs.{Bodies.Context, Bodies.Scope, Bodies.Constructor, Bodies.constructor_named, Bodies.Meaning, Bodies.resolve, Bodies.TypeMeaning, Bodies.primitive, Bodies.created, Bodies.no_value, Bodies.type_meaning, Bodies.create_name, Bodies.start_with_name, Faults.BodyNameFault, Faults.unknown, Faults.double, Faults.long_text, Parts.unless_some, Faults.bare_name_faults, Faults.Next, Faults.arguments, Faults.name, Faults.end, Faults.next_of, Faults.start_faults, Faults.constructor_faults, Faults.faults_of, Faults.exprs_faults}
 use Rattle.pc_body_walks.specs.{declared.fault.BodyFault.BodyFault, declared.starts.Next.Next as CodeNext}
 use Rattle.pc_tree.specs.Tree as t
 use Rattle.pc_body_walks.specs.declared.fault.BodyFault.TheVariants as fault

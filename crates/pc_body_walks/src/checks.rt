@@ -1,9 +1,9 @@
 //! Which single names and texts are allowed in a body.
 ghost use Rattle.std.specs.Prelude.{◌∷◌, [], length, nat_lt, if◌then◌else◌};
 ghost use Rattle.pc_caps.specs.Limits.{text_limit};
-ghost use Rattle.pc_body_spec.specs.Scopes.{constructor_named as constructor_in, resolve, slot_named as slot_in, type_meaning};
-ghost use Rattle.pc_body_spec.specs.Bodies.{create_name};
+ghost use Rattle.pc_body_spec.specs.Bodies.{constructor_named as constructor_in, resolve, slot_named as slot_in, type_meaning, create_name};
 ghost use Rattle.pc_body_spec.specs.Faults as spec;
+ghost use Rattle.pc_body_spec.specs.Parts as parts;
 ghost use Rattle.pc_body_walks.specs.Checking.{TellsFirstBodyFault};
 
 use crate::fault::BodyFault;
@@ -13,7 +13,7 @@ use pc_tree::{Name, TypeRef};
 
 /// A text is not too long.
 pub(crate) fn check_text(bytes: &[u8], span: Span) -> Result<(), BodyFault>
-    ensures { TellsFirstBodyFault result (spec.fault_if (nat_lt text_limit (length bytes.now)) (spec.long_text span)) }
+    ensures { TellsFirstBodyFault result (parts.fault_if (nat_lt text_limit (length bytes.now)) (spec.long_text span)) }
 {
     if bytes.len() > TEXT_LIMIT as usize {
         Err(BodyFault::LongText(span))
@@ -45,7 +45,7 @@ pub(crate) fn check_type_name(context: &Context, name: &Name) -> Result<(), Body
 
 /// One of these constructors is `create`, which is called at this place.
 pub(crate) fn check_create(constructors: &Constructors, span: Span) -> Result<(), BodyFault>
-    ensures { TellsFirstBodyFault result (spec.unless_some (constructor_in constructors.now create_name) (spec.unknown span)) }
+    ensures { TellsFirstBodyFault result (parts.unless_some (constructor_in constructors.now create_name) (spec.unknown span)) }
 {
     match constructors.create() {
         Some(_) => Ok(()),
@@ -59,7 +59,7 @@ pub(crate) fn check_constructor(
     name: &[u8],
     span: Span,
 ) -> Result<(), BodyFault>
-    ensures { TellsFirstBodyFault result (spec.unless_some (constructor_in constructors.now name.now) (spec.unknown span)) }
+    ensures { TellsFirstBodyFault result (parts.unless_some (constructor_in constructors.now name.now) (spec.unknown span)) }
 {
     match constructors.find(name) {
         Some(_) => Ok(()),
@@ -69,7 +69,7 @@ pub(crate) fn check_constructor(
 
 /// What is consumed is a visible local or parameter.
 pub(crate) fn check_consumed(scope: &Scope, name: &Name) -> Result<(), BodyFault>
-    ensures { TellsFirstBodyFault result (spec.unless_some (slot_in scope.now name.now.text) (spec.unknown name.now.span)) }
+    ensures { TellsFirstBodyFault result (parts.unless_some (slot_in scope.now name.now.text) (spec.unknown name.now.span)) }
 {
     match scope.find(name.text.as_slice()) {
         Some(_) => Ok(()),
@@ -79,7 +79,7 @@ pub(crate) fn check_consumed(scope: &Scope, name: &Name) -> Result<(), BodyFault
 
 /// A new local has the name of no visible local or parameter, and of no field.
 pub(crate) fn check_new(context: &Context, scope: &Scope, name: &Name) -> Result<(), BodyFault>
-    ensures { TellsFirstBodyFault result (spec.fault_if (spec.is_name_taken (resolve context.now scope.now name.now.text)) (spec.double name.now.span)) }
+    ensures { TellsFirstBodyFault result (parts.fault_if (spec.is_name_taken (resolve context.now scope.now name.now.text)) (spec.double name.now.span)) }
 {
     match context.meaning(scope.find(name.text.as_slice()), name.text.as_slice()) {
         Meaning::Local(_) | Meaning::Field => Err(BodyFault::Double(name.span)),
@@ -89,7 +89,7 @@ pub(crate) fn check_new(context: &Context, scope: &Scope, name: &Name) -> Result
 
 /// The type of a local, if one is written, names an entity.
 pub(crate) fn check_written(context: &Context, ty: &Option<TypeRef>) -> Result<(), BodyFault>
-    ensures { TellsFirstBodyFault result (spec.written_faults context.now ty.now) }
+    ensures { TellsFirstBodyFault result (parts.written_faults context.now ty.now) }
 {
     match ty {
         None => Ok(()),

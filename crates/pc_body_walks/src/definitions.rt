@@ -2,6 +2,7 @@
 ghost use Rattle.std.specs.Prelude.{◌≡◌, ◌∷◌, [], ◌++◌, IfOk, OnOk, map};
 ghost use Rattle.pc_tree.specs.View.{arm_view, arms_view, expr_view, exprs_view, field_view, item_view, items_view, maybe_expr, maybe_seq, method_view, other_view, seq_view, suffix_view, suffixes_view};
 ghost use Rattle.pc_body_spec.specs.Slots as spec;
+ghost use Rattle.pc_body_spec.specs.Parts as parts;
 
 use crate::local::Local;
 use pc_caps::List;
@@ -66,7 +67,7 @@ fn initial_value(
     locals: &mut List<Local>,
     value: &Option<Expr>,
 ) -> Result<(), AllocError>
-    ensures { OnOk result (locals.new ≡ locals.old ++ spec.value_locals (maybe_expr value.now)) }
+    ensures { OnOk result (locals.new ≡ locals.old ++ parts.value_locals (maybe_expr value.now)) }
 {
     match value {
         None => Ok(()),
@@ -76,7 +77,7 @@ fn initial_value(
 
 // Those of a body, if one is written.
 fn body(alloc: Global, locals: &mut List<Local>, body: &Option<Seq>) -> Result<(), AllocError>
-    ensures { OnOk result (locals.new ≡ locals.old ++ spec.body_locals (maybe_seq body.now)) }
+    ensures { OnOk result (locals.new ≡ locals.old ++ parts.body_locals (maybe_seq body.now)) }
 {
     match body {
         None => Ok(()),

@@ -2,7 +2,7 @@
 ghost use Rattle.std.specs.Prelude.{◌≡◌, OnOk, map};
 ghost use Rattle.pc_tree.specs.View.{arm_view, arms_view, entity_view, expr_view, exprs_view, field_view, item_view, items_view, maybe_expr, maybe_seq, method_view, other_view, seq_view, suffix_view, suffixes_view};
 ghost use Rattle.pc_members.specs.MemberLists.{with_names};
-ghost use Rattle.pc_body_spec.specs.Texts.{entities_texts};
+ghost use Rattle.pc_body_spec.specs.Slots.{entities_texts};
 ghost use Rattle.pc_body_walks.specs.Gathering as spec;
 
 use pc_members::NameTable;

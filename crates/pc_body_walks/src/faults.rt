@@ -1,8 +1,9 @@
 //! The first fault of a body, in the order of the text.
 ghost use Rattle.std.specs.Prelude.{◌≡◌, IfOk, OnOk, length, map, take};
 ghost use Rattle.pc_tree.specs.View.{arm_view, arms_view, expr_view, exprs_view, field_view, item_view, items_view, maybe_expr, maybe_seq, method_view, other_view, seq_view, suffix_view, suffixes_view};
-ghost use Rattle.pc_body_spec.specs.Scopes.{params_scope as params_visible, scope_after};
+ghost use Rattle.pc_body_spec.specs.Bodies.{params_scope as params_visible, scope_after};
 ghost use Rattle.pc_body_spec.specs.Faults as spec;
+ghost use Rattle.pc_body_spec.specs.Parts as parts;
 ghost use Rattle.pc_body_walks.specs.Checking.{TellsFirstBodyFault, args_faults, head_faults, suffix_faults};
 
 use crate::checks::{
@@ -35,7 +36,7 @@ pub fn check(
 
 // The written body of a method, in which its parameters are visible.
 fn check_body(alloc: Global, context: &Context, method: &MethodDef) -> Result<(), BodyFault>
-    ensures { TellsFirstBodyFault result (spec.written_body_faults context.now (params_visible method.now.params) (maybe_seq method.now.body)) }
+    ensures { TellsFirstBodyFault result (parts.written_body_faults context.now (params_visible method.now.params) (maybe_seq method.now.body)) }
 {
     let mut scope = param_scope(alloc, context, method.params.as_slice())?;
     body(alloc, context, &mut scope, &method.body)
@@ -63,7 +64,7 @@ pub fn check_added(alloc: Global, context: &Context, fields: &[FieldDef]) -> Res
 
 // The initial value of a field, in which no parameter is visible.
 fn initial_value(alloc: Global, context: &Context, value: &Option<Expr>) -> Result<(), BodyFault>
-    ensures { TellsFirstBodyFault result (spec.value_faults context.now (maybe_expr value.now)) }
+    ensures { TellsFirstBodyFault result (parts.value_faults context.now (maybe_expr value.now)) }
 {
     match value {
         None => Ok(()),
@@ -81,7 +82,7 @@ fn body(
     scope: &mut Scope,
     body: &Option<Seq>,
 ) -> Result<(), BodyFault>
-    ensures { TellsFirstBodyFault result (spec.written_body_faults context.now scope.old (maybe_seq body.now)) }
+    ensures { TellsFirstBodyFault result (parts.written_body_faults context.now scope.old (maybe_seq body.now)) }
 {
     match body {
         None => Ok(()),

@@ -2,8 +2,7 @@
 ghost use Rattle.std.specs.Prelude.{◌≡◌, ◌∷◌, []};
 ghost use Rattle.pc_tree.specs.Tree as t;
 ghost use Rattle.pc_tree.specs.View.{suffix_view, suffixes_view};
-ghost use Rattle.pc_body_spec.specs.Bodies.{with_method};
-ghost use Rattle.pc_body_spec.specs.Scopes.{resolve, type_meaning};
+ghost use Rattle.pc_body_spec.specs.Bodies.{with_method, resolve, type_meaning};
 ghost use Rattle.pc_body_spec.specs.Faults as spec;
 ghost use Rattle.pc_body_walks.specs.Checking.{TellsFirstBodyFault, created_faults, name_head_faults, next_view, type_head_faults};
 

@@ -18,7 +18,8 @@ use Rattle.pc_names.specs.declared.fault.NameFault.TheVariants as naming
 use Rattle.pc_refusals.specs.Source.{Typing, TreeStage, CoreStage, source_limit}
 use Rattle.pc_refusals.specs.Source as stage
 use Rattle.pc_refusals.specs.Source.After.{goes, stops}
-use Rattle.pc_refusals.specs.FaultLines.{decl_offset, decl_text, entity_start, method_start, own_param_start, param_start, fault_line, many_text, name_line}
+use Rattle.pc_refusals.specs.FaultLines.{decl_offset, decl_text, fault_line, many_text, name_line}
+use Rattle.pc_refusals.specs.Parts.{entity_start, method_start, own_param_start, param_start}
 use Rattle.pc_refusal_lines.specs.Lines.{offset_line}
 use Rattle.pc_refusals.specs.Source.Elaborating.{elaborated, misnamed, misused}
 use Rattle.pc_refusals.specs.Source.Length.{fits}

@@ -1,7 +1,7 @@
 -- A source is refused at exactly one span, or at none.
 use Rattle.std.proofs.Common.{◌≡◌, ◌∙◌, ℕ, List, ◌∷◌, Option, Some, inl, inr, refl, sym, ap, subst, arith}
 use Rattle.std.specs.Prelude.{slice_get}
-use Rattle.std.proofs.lemmas.Option.{none-some, same_Some}
+use Rattle.std.proofs.lemmas.Option.{same_Some}
 use Rattle.pc_ann.specs.declared.annotation.Ann.{Ann}
 use Rattle.pc_caps.specs.declared.span.Span.{Span}
 use Rattle.pc_check.specs.Laws.{NoneWithFault, NoneWithUnset, NoneWithoutRule, OneConstructor, OneKindOfFault, OneNode}
@@ -9,18 +9,19 @@ use Rattle.pc_core.specs.CoreData.{CoreData}
 use Rattle.pc_core.specs.Formed.{Formed}
 use Rattle.pc_core.specs.declared.declarations.Method.{Method}
 use Rattle.pc_core.specs.declared.nodes.Node.{Node}
+use Rattle.pc_core_relation.specs.Files.{IsCoreOf}
+use Rattle.pc_core_relation.proofs.Ones.{standing_cores_are_made, standing_cores_are_one}
 use Rattle.pc_elab.specs.Cores.{CoresAreFormed, IsSpelledFile}
 use Rattle.pc_explain.specs.Explanation.{decl_span}
-use Rattle.pc_file_spec.specs.Cores.{Stands}
 use Rattle.pc_grammar.specs.FileAnswers as answer
 use Rattle.pc_lists.specs.Lists.{Ascends}
 use Rattle.pc_names.specs.Faults.{IsNotMemory}
 use Rattle.pc_names.specs.declared.fault.NameFault.{NameFault}
-use Rattle.pc_refusals.proofs.OneSource.{SourceLaws}
+use Rattle.pc_refusals.proofs.OneSource.{SourceLaws, never_misnamed, never_misused, not_both_faults, one_member_fault}
 use Rattle.pc_valid.specs.NoRule.{NoRule, Unset}
 use Rattle.pc_sub.specs.Declarations.{DeclOk}
-use Rattle.pc_sub.specs.DeclarationFaults.{first_fault}
-use Rattle.pc_sub.specs.DeclarationLaws.{NoFaultWhereFit}
+use Rattle.pc_sub.specs.DeclarationLaws.{NoFaultWhereFit, OneFirstFault}
+use Rattle.pc_sub.specs.FirstFault.{IsFirstDeclarationFault}
 use Rattle.pc_sub.specs.declared.faults.DeclFault.{DeclFault}
 use Rattle.pc_text_order.specs.Laws.{TokensAscend, starts}
 use Rattle.pc_token.specs.declared.kinds.Token.{Token}
@@ -38,6 +39,7 @@ pub record Laws : Type 0 where
   pub ascend : TokensAscend
   pub formed : CoresAreFormed
   pub fits : NoFaultWhereFit
+  pub one_declared : OneFirstFault
   pub ruleless : NoneWithoutRule
   pub setless : NoneWithUnset
   pub failing : NoneWithFault
@@ -67,8 +69,8 @@ module _ (laws : Laws) where
   -- ---- the core
 
   module _ (core : CoreData) (is : Formed core) where
-    no_fault : (f : DeclFault) → DeclOk core → first_fault core ≡ Some f → ⊥
-    no_fault f d e = none-some f (sym ((laws.fits core is).1 d) ∙ e)
+    no_fault : (f : DeclFault) → DeclOk core → IsFirstDeclarationFault core f → ⊥
+    no_fault f d e = (laws.fits core is).0 d f e
 
     node_same : (a b : Ann) (n m : ℕ) (s : NoRule core a n) (r : NoRule core b m) → n ≡ m → s.at ≡ r.at
     node_same a b n m s r e = same_Some s.at r.at (sym s.is_at ∙ (ap (slice_get core.nodes) e ∙ r.is_at))
@@ -82,7 +84,7 @@ module _ (laws : Laws) where
     one_core _ _ (derived d) (no_rule a n h) = absurd (laws.ruleless core a n is h d)
     one_core _ _ (derived d) (unset a m left) = absurd (laws.setless core a m is left d)
     one_core _ _ (declared f e) (derived d) = absurd (laws.failing core f is e d)
-    one_core _ _ (declared f e) (declared g h) = ap (λ (x : DeclFault). Some (decl_span core x)) (same_Some f g (sym e ∙ h))
+    one_core _ _ (declared f e) (declared g h) = ap (λ (x : DeclFault). Some (decl_span core x)) (laws.one_declared core f g is e h)
     one_core _ _ (declared f e) (no_rule a n h) = absurd (no_fault f h.declarations e)
     one_core _ _ (declared f e) (unset a m left) = absurd (no_fault f left.declarations e)
     one_core _ _ (no_rule a n h) (derived d) = absurd (laws.ruleless core a n is h d)
@@ -97,20 +99,20 @@ module _ (laws : Laws) where
   -- ---- the tree
 
   module _ (file : t.File) (spelled : IsSpelledFile file) where
-    not_both : {C : Type 0} (core : CoreData) (f : NameFault) → Stands file core → IsNotMemory f → IsFileFault file f → C
-    not_both core f s o (inl h) = absurd (laws.source.misnamed file f s.0 o h s.1)
-    not_both core f s o (inr h) = absurd (laws.source.misused file core f s h)
+    not_both : {C : Type 0} (core : CoreData) (f : NameFault) → IsCoreOf file core → IsNotMemory f → IsFileFault file f → C
+    not_both core f s o (inl h) = absurd (never_misnamed laws.source file core f s o h)
+    not_both core f s o (inr h) = absurd (never_misused laws.source file core f s h)
 
     one_fault : (f g : NameFault) → IsNotMemory f → IsNotMemory g → IsFileFault file f → IsFileFault file g → f ≡ g
     one_fault f g o p (inl h) (inl i) = laws.source.name_fault file f g o p h i
-    one_fault f g o p (inl h) (inr i) = absurd (laws.source.misnamed file f i.0 o h i.1)
-    one_fault f g o p (inr h) (inl i) = absurd (laws.source.misnamed file g h.0 p i h.1)
-    one_fault f g o p (inr h) (inr i) = laws.source.body_fault file f g h i
+    one_fault f g o p (inl h) (inr i) = absurd (not_both_faults laws.source file f g o h i)
+    one_fault f g o p (inr h) (inl i) = absurd (not_both_faults laws.source file g f p i h)
+    one_fault f g o p (inr h) (inr i) = one_member_fault laws.source file f g h i
 
     one_file : (x y : Option Span) → IsFileRefusedAt file x → IsFileRefusedAt file y → x ≡ y
     one_file x y (has_core {core = c} s h) (has_core {core = d} r k) =
-        let same : d ≡ c = laws.source.core file d c r s in
-        one_core c (laws.formed file c spelled s).0 x y h (subst (λ (q : CoreData). IsCoreRefusedAt q y) same k)
+        let same : d ≡ c = standing_cores_are_one file d c r s in
+        one_core c (laws.formed file c spelled (standing_cores_are_made file c s)).0 x y h (subst (λ (q : CoreData). IsCoreRefusedAt q y) same k)
     one_file _ _ (has_core {core = c} s h) (has_fault f o k) = not_both c f s o k
     one_file _ _ (has_fault f o k) (has_core {core = c} s h) = not_both c f s o k
     one_file _ _ (has_fault f o h) (has_fault g p k) = ap name_span (one_fault f g o p h k)

@@ -10,14 +10,15 @@ use Rattle.pc_check.specs.declared.fault.CheckFault.TheVariants as fault
 use Rattle.pc_core.specs.CoreData.{CoreData}
 use Rattle.pc_core.specs.declared.declarations.Method.{Method}
 use Rattle.pc_core.specs.declared.nodes.Node.{Node}
+use Rattle.pc_core_relation.specs.MemberFaults.{IsMemberFault}
+use Rattle.pc_core_relation.proofs.MemberFaults.{is_first}
 use Rattle.pc_elab.specs.Cores.{IsFirstFault}
 use Rattle.pc_explain.specs.Explanation.{method_span}
 use Rattle.pc_expr.specs.declared.fault.ParseFault.{ParseFault}
 use Rattle.pc_expr.specs.declared.fault.ParseFault.TheVariants as syntax
-use Rattle.pc_file_spec.specs.Cores.{IsElabFault}
 use Rattle.pc_grammar.specs.FileAnswers as answer
 use Rattle.pc_grammar.specs.FileAnswers.{IsFileAnswer}
-use Rattle.pc_lex.specs.Faults as lexer
+use Rattle.pc_lex.specs.Refusals as spec
 use Rattle.pc_lex.specs.declared.fault.LexFault.{LexFault}
 use Rattle.pc_lex.specs.declared.fault.LexFault.TheVariants as lexing
 use Rattle.pc_lists.proofs.Gets.{get_map}
@@ -47,13 +48,13 @@ core_refused core fault.Memory span r h = absurd h
 
 -- ---- a file
 
-member_fault : (file : t.File) (f : NameFault) → IsNotMemory f → IsFirstFault file f → IsElabFault file f
-member_fault file (naming.Double s) o r = r
-member_fault file (naming.Unknown s) o r = r
-member_fault file naming.NoMain o r = r
-member_fault file (naming.BadMain s) o r = r
-member_fault file (naming.Cycle s) o r = r
-member_fault file (naming.TooMany w s) o r = r
+member_fault : (file : t.File) (f : NameFault) → IsNotMemory f → IsFirstFault file f → IsMemberFault file f
+member_fault file (naming.Double s) o r = is_first file (naming.Double s) r
+member_fault file (naming.Unknown s) o r = is_first file (naming.Unknown s) r
+member_fault file naming.NoMain o r = is_first file naming.NoMain r
+member_fault file (naming.BadMain s) o r = is_first file (naming.BadMain s) r
+member_fault file (naming.Cycle s) o r = is_first file (naming.Cycle s) r
+member_fault file (naming.TooMany w s) o r = is_first file (naming.TooMany w s) r
 member_fault file naming.Memory o r = absurd (o refl)
 
 -- a fault of its methods
@@ -113,7 +114,7 @@ module _ (ts : List Token) (rising : Ascends (starts ts)) where
 -- ---- a text
 
 module _ (text : Text) (short : length text ≤ source_limit) (span : Option Span) where
-  pub lex_refused : (f : LexFault) → lexer.RefusesTokens text f → IsLexSpan text f span → IsRefusedAt text span
+  pub lex_refused : (f : LexFault) → spec.RefusesTokens text f → IsLexSpan text f span → IsRefusedAt text span
   lex_refused (lexing.BadByte p) r h = subst (IsRefusedAt text) (sym h) (faulty (lexing.BadByte p) short r)
   lex_refused (lexing.Unclosed p) r h = subst (IsRefusedAt text) (sym h) (faulty (lexing.Unclosed p) short r)
   lex_refused (lexing.BadNumber p) r h = subst (IsRefusedAt text) (sym h) (faulty (lexing.BadNumber p) short r)

@@ -1,19 +1,19 @@
 -- Where a source is refused: the bytes of the first thing at fault. Its refusal names the first of these bytes, and an
 -- explanation has carets under all of them. In each part, `None` means that the part is not at fault, or that its fault
 -- has no place.
-use Rattle.std.specs.Prelude.{ℕ, ◌≡◌, ◌<◌, ◌≤◌, ◌+◌, ◌⊎◌, List, ◌∷◌, length, min, Option, Some, None}
+use Rattle.std.specs.Prelude.{ℕ, ◌<◌, ◌≤◌, ◌+◌, ◌⊎◌, List, ◌∷◌, length, min, Option, Some, None}
 use Rattle.pc_ann.specs.declared.annotation.Ann.{Ann}
 use Rattle.pc_caps.specs.declared.span.Span.{Span}
 use Rattle.pc_core.specs.CoreData.{CoreData}
+use Rattle.pc_core_relation.specs.{Files.IsCoreOf, MemberFaults.IsMemberFault}
 use Rattle.pc_explain.specs.Explanation.{decl_span}
-use Rattle.pc_file_spec.specs.Cores.{IsElabFault, Stands}
 use Rattle.pc_grammar.specs.FileAnswers.{IsFileAnswer}
 use Rattle.pc_lex.specs.{Pieces.TokenList, Faults.FirstLexFault, declared.fault.LexFault.LexFault}
 use Rattle.pc_lists.specs.Lists.{Text}
 use Rattle.pc_names.specs.{Faults.IsNotMemory, Faults.IsNameFault, declared.fault.NameFault.NameFault}
 use Rattle.pc_refusals.specs.Source.{source_limit}
 use Rattle.pc_valid.specs.{Valid.Derivable, NoRule.NoRule, NoRule.Unset}
-use Rattle.pc_sub.specs.{DeclarationFaults.first_fault, declared.faults.DeclFault.DeclFault}
+use Rattle.pc_sub.specs.{FirstFault.IsFirstDeclarationFault, declared.faults.DeclFault.DeclFault}
 use Rattle.pc_token.specs.declared.kinds.Token.{Token}
 use Rattle.pc_grammar.specs.FileAnswers as answer
 use Rattle.pc_lex.specs.declared.fault.LexFault.TheVariants as lexing
@@ -26,7 +26,7 @@ use Rattle.pc_tree.specs.Tree as t
 -- the constructor that leaves a field unset.
 pub data IsCoreRefusedAt (core : CoreData) : Option Span → Type 0 where
   derived : Derivable core → IsCoreRefusedAt core None
-  declared : (f : DeclFault) → first_fault core ≡ Some f → IsCoreRefusedAt core (Some (decl_span core f))
+  declared : (f : DeclFault) → IsFirstDeclarationFault core f → IsCoreRefusedAt core (Some (decl_span core f))
   no_rule : (ann : Ann) (n : ℕ) (stop : NoRule core ann n) → IsCoreRefusedAt core (Some stop.at.span)
   unset : (ann : Ann) (m : ℕ) (left : Unset core ann m) → IsCoreRefusedAt core (Some left.method.span)
 
@@ -44,10 +44,10 @@ name_span naming.Memory = None
 
 -- The first fault of a file's names, or else of its methods.
 abbrev pub IsFileFault : t.File → NameFault → Type 0
-IsFileFault file f = IsNameFault file f ⊎ IsElabFault file f
+IsFileFault file f = IsNameFault file f ⊎ IsMemberFault file f
 
 pub data IsFileRefusedAt (file : t.File) : Option Span → Type 0 where
-  has_core : {core : CoreData} {span : Option Span} → Stands file core → IsCoreRefusedAt core span → IsFileRefusedAt file span
+  has_core : {core : CoreData} {span : Option Span} → IsCoreOf file core → IsCoreRefusedAt core span → IsFileRefusedAt file span
   has_fault : (f : NameFault) → IsNotMemory f → IsFileFault file f → IsFileRefusedAt file (name_span f)
 
 -- ---- the tokens

@@ -10,7 +10,7 @@ use pc_file_spec::cores_are_one;
 use pc_grammar::files_are_read;
 use pc_lex::{faults_are_told, tokens_are_one};
 use pc_names::names_are_one;
-use pc_sub::no_fault_where_declarations_fit;
+use pc_sub::{no_fault_where_declarations_fit, one_declaration_fails_first};
 use pc_text_order::tokens_are_in_order;
 
 /// A source is refused at exactly one span, or at none.
@@ -25,6 +25,7 @@ pub fn spans_are_one()
     cores_are_one();
     cores_are_formed();
     no_fault_where_declarations_fit();
+    one_declaration_fails_first();
     nothing_is_derivable_without_a_rule();
     nothing_is_derivable_with_a_field_unset();
     nothing_is_derivable_with_a_declaration_that_fails();

@@ -1,8 +1,8 @@
 //! Where a source is refused: its stages are repeated up to the first fault and its span.
 ghost use Rattle.std.specs.Prelude.{◌≡◌, ◌≤◌, IfErr, IfOk, length};
+ghost use Rattle.pc_core_relation.specs.Files.{IsCoreOf};
 ghost use Rattle.pc_elab.specs.Cores.{IsSpelledFile};
 ghost use Rattle.pc_expr.specs.Gives.{EndsWithEnd};
-ghost use Rattle.pc_file_spec.specs.Cores.{Stands};
 ghost use Rattle.pc_lex.specs.Pieces.{bytes_limit};
 ghost use Rattle.pc_lists.specs.Lists.{Ascends};
 ghost use Rattle.pc_names.specs.Faults.{IsNotMemory};
@@ -92,7 +92,7 @@ fn name_span(fault: NameFault) -> Result<Option<Span>, AllocError>
 // The core of a tree, or the fault because of which it has none.
 fn core_of(alloc: Global, file: &File) -> Result<Core, NameFault>
     requires { IsSpelledFile (file_view file.now) }
-    ensures core { IfOk result (Stands (file_view file.now)) }
+    ensures core { IfOk result (IsCoreOf (file_view file.now)) }
     ensures fault { IfErr result (λ f. IsNotMemory f → IsFileFault (file_view file.now) f) }
 {
     let names = collect(alloc, file)?;

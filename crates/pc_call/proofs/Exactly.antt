@@ -14,7 +14,8 @@ use Rattle.pc_io.specs.Entries.{held_or_empty}
 use Rattle.pc_lists.specs.Lists.{Text}
 use Rattle.pc_refusals.specs.Verdict.{Verdict}
 use Rattle.pc_top.specs.Asked.{OfFile, OfSource}
-use Rattle.pc_top.specs.Commands.{HasNumber, infers, source_of}
+use Rattle.pc_top.specs.Commands.{infers, source_of}
+use Rattle.pc_top.specs.Words.{HasNumber}
 use Rattle.pc_core_commands.specs.Outcomes.{IsCount, seeds_limit}
 use Rattle.pc_core_commands.specs.Swap.{IsPlace}
 use Rattle.pc_top.specs.CoreOf.{IsDerivable, IsUnderivable}

@@ -26,36 +26,6 @@ pub data IsBelow : Form → Form → Type 0 where
 
 -- ---- the tables
 
--- The form of a value read from a place of this capability.
-abbrev pub plain : Cap → Form
-plain cap.Iso = form.Iso
-plain cap.Trn = form.Trn
-plain cap.Ref = form.Ref
-plain cap.Val = form.Val
-plain cap.Box = form.Box
-plain cap.Tag = form.Tag
-
--- The form that a value must be below to be stored at this capability: `iso^` for `iso`, `trn^` for `trn`, and otherwise
--- the capability itself.
-abbrev pub unalias : Cap → Form
-unalias cap.Iso = form.IsoE
-unalias cap.Trn = form.TrnE
-unalias cap.Ref = form.Ref
-unalias cap.Val = form.Val
-unalias cap.Box = form.Box
-unalias cap.Tag = form.Tag
-
--- The capability of an alias of a value of this form.
-abbrev pub stored : Form → Cap
-stored form.IsoE = cap.Iso
-stored form.TrnE = cap.Trn
-stored form.Iso = cap.Tag
-stored form.Trn = cap.Box
-stored form.Ref = cap.Ref
-stored form.Val = cap.Val
-stored form.Box = cap.Box
-stored form.Tag = cap.Tag
-
 -- A row of a table: one entry for each capability, in the order iso, trn, ref, val, box, tag.
 abbrev pub at : {T : Type 0} → T → T → T → T → T → T → Cap → T
 at iso trn ref val box tag cap.Iso = iso
@@ -64,6 +34,30 @@ at iso trn ref val box tag cap.Ref = ref
 at iso trn ref val box tag cap.Val = val
 at iso trn ref val box tag cap.Box = box
 at iso trn ref val box tag cap.Tag = tag
+
+-- The same for forms: one entry for each, in the order iso^, trn^, iso, trn, ref, val, box, tag.
+abbrev pub at_form : {T : Type 0} → T → T → T → T → T → T → T → T → Form → T
+at_form iso_e trn_e iso trn ref val box tag form.IsoE = iso_e
+at_form iso_e trn_e iso trn ref val box tag form.TrnE = trn_e
+at_form iso_e trn_e iso trn ref val box tag form.Iso = iso
+at_form iso_e trn_e iso trn ref val box tag form.Trn = trn
+at_form iso_e trn_e iso trn ref val box tag form.Ref = ref
+at_form iso_e trn_e iso trn ref val box tag form.Val = val
+at_form iso_e trn_e iso trn ref val box tag form.Box = box
+at_form iso_e trn_e iso trn ref val box tag form.Tag = tag
+
+-- The form of a value read from a place of this capability.
+abbrev pub plain : Cap → Form
+plain = at form.Iso form.Trn form.Ref form.Val form.Box form.Tag
+
+-- The form that a value must be below to be stored at this capability: `iso^` for `iso`, `trn^` for `trn`, and otherwise
+-- the capability itself.
+abbrev pub unalias : Cap → Form
+unalias = at form.IsoE form.TrnE form.Ref form.Val form.Box form.Tag
+
+-- The capability of an alias of a value of this form.
+abbrev pub stored : Form → Cap
+stored = at_form cap.Iso cap.Trn cap.Tag cap.Box cap.Ref cap.Val cap.Box cap.Tag
 
 -- A row of forms, and a row without entries.
 abbrev pub seen : Form → Form → Form → Form → Form → Form → Cap → Option Form
@@ -109,23 +103,12 @@ taken form.Tag = nothing
 
 -- A capability is tag.
 abbrev pub is_tag : Cap → Bool
-is_tag cap.Tag = true
-is_tag cap.Iso = false
-is_tag cap.Trn = false
-is_tag cap.Ref = false
-is_tag cap.Val = false
-is_tag cap.Box = false
+is_tag = at false false false false false true
 
--- The values that may be written into an iso origin, by the field's capability.
+-- The values that may be written into an iso origin, by the field's capability: `iso^`, `val` and `tag`, and `iso` into a
+-- `tag` field.
 abbrev pub enters_iso : Form → Cap → Bool
-enters_iso form.IsoE k = true
-enters_iso form.Val k = true
-enters_iso form.Tag k = true
-enters_iso form.Iso k = is_tag k
-enters_iso form.TrnE k = false
-enters_iso form.Trn k = false
-enters_iso form.Ref k = false
-enters_iso form.Box k = false
+enters_iso f k = at_form true false (is_tag k) false false true false true f
 
 -- The values that may be written into a trn origin: those that an iso origin takes, and `trn^`.
 abbrev pub enters_trn : Form → Cap → Bool
@@ -147,31 +130,12 @@ enters form.Tag = λ f k. false
 -- The form of a `recover`'s value, by that of its body: `iso^`, `trn^` and `ref` become `iso^`, since nothing outside
 -- reaches what was made inside; `trn`, `box` and `val` become `val`; `iso` and `tag` become `tag`.
 abbrev pub lift : Form → Form
-lift form.IsoE = form.IsoE
-lift form.TrnE = form.IsoE
-lift form.Ref = form.IsoE
-lift form.Trn = form.Val
-lift form.Box = form.Val
-lift form.Val = form.Val
-lift form.Iso = form.Tag
-lift form.Tag = form.Tag
+lift = at_form form.IsoE form.IsoE form.Tag form.Val form.IsoE form.Val form.Val form.Tag
 
 -- The content of a place of this capability may be sent to another actor.
 abbrev pub sendable : Cap → Bool
-sendable cap.Iso = true
-sendable cap.Val = true
-sendable cap.Tag = true
-sendable cap.Trn = false
-sendable cap.Ref = false
-sendable cap.Box = false
+sendable = at true false false true false true
 
 -- A value of this form may be sent to another actor.
 abbrev pub sendable_form : Form → Bool
-sendable_form form.IsoE = true
-sendable_form form.Iso = true
-sendable_form form.Val = true
-sendable_form form.Tag = true
-sendable_form form.TrnE = false
-sendable_form form.Trn = false
-sendable_form form.Ref = false
-sendable_form form.Box = false
+sendable_form = at_form true false true false false true false true

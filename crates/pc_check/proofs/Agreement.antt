@@ -29,7 +29,7 @@ use Rattle.pc_rules.proofs.Threads.{then_way, else_way, is_branch, first_starts,
 use Rattle.pc_lists.proofs.Bools.{false_true}
 use Rattle.pc_rules.proofs.Alike.{looked_at, LooksAlike, slot_same, says_same}
 use Rattle.pc_rules.proofs.Agreeing.{Agree, body_says_at, body_starts, node_step, this_alike, use_alike}
-use Rattle.pc_sub.specs.Faults.{faulted}
+use Rattle.pc_sub.proofs.FirstFaults.{faulted}
 use Rattle.pc_rules.specs.Statements.{OneValid}
 use Rattle.pc_rules.proofs.Derivations.{to_valid, to_no_rule, to_unset}
 use Rattle.pc_check.specs.declared.fault.CheckFault.{CheckFault}

@@ -1,8 +1,8 @@
 -- What shows that a core has no annotation.
-use Rattle.std.specs.Prelude.{◌≡◌, ◌⊎◌, ℕ, ◌+◌, length, Some, Result, Err}
+use Rattle.std.specs.Prelude.{◌≡◌, ◌⊎◌, ℕ, ◌+◌, length, Result, Err}
 use Rattle.pc_core.specs.CoreData.{CoreData}
 use Rattle.pc_ann.specs.declared.annotation.Ann.{Ann}
-use Rattle.pc_sub.specs.DeclarationFaults.{first_fault}
+use Rattle.pc_sub.specs.FirstFault.{IsFirstDeclarationFault}
 use Rattle.pc_valid.specs.{Words.Masks, NoRule.NoRule, NoRule.Unset}
 use Rattle.pc_check.specs.declared.fault.CheckFault.{CheckFault}
 use Rattle.pc_check.specs.declared.fault.CheckFault.TheVariants as fault
@@ -19,7 +19,7 @@ InferenceLeavesUnset core m ann = (left : Unset core ann m) × (length ann.notes
 
 -- What each fault means for the core. Running out of memory means nothing.
 abbrev pub RefusesCore : CoreData → CheckFault → Type 0
-RefusesCore core (fault.Decl f) = first_fault core ≡ Some f
+RefusesCore core (fault.Decl f) = IsFirstDeclarationFault core f
 RefusesCore core (fault.NoRule n l s ann) = StopsAt core n (l, s) ann
 RefusesCore core (fault.Unset m ann) = InferenceLeavesUnset core m ann
 RefusesCore core fault.Memory = Unit {0}

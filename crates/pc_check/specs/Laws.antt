@@ -1,8 +1,8 @@
 -- What the faults mean.
-use Rattle.std.specs.Prelude.{◌≡◌, ℕ, ◌<◌, Some, slice_get}
+use Rattle.std.specs.Prelude.{◌≡◌, ℕ, ◌<◌, slice_get}
 use Rattle.pc_core.specs.{CoreData.CoreData, Formed.Formed}
 use Rattle.pc_ann.specs.declared.annotation.Ann.{Ann}
-use Rattle.pc_sub.specs.{declared.faults.DeclFault.DeclFault, DeclarationFaults.first_fault}
+use Rattle.pc_sub.specs.{declared.faults.DeclFault.DeclFault, FirstFault.IsFirstDeclarationFault}
 use Rattle.pc_valid.specs.{Valid.Derivable, Valid.KeepsWritten, NoRule.NoRule, NoRule.Unset, NoRule.MeetsReached}
 
 -- A core with a node to which no rule applies has no valid annotation.
@@ -15,7 +15,7 @@ NoneWithUnset = (core : CoreData) (ann : Ann) (m : ℕ) → Formed core → Unse
 
 -- Nor does one with a declaration that fails.
 abbrev pub NoneWithFault : Type 0
-NoneWithFault = (core : CoreData) (fault : DeclFault) → Formed core → first_fault core ≡ Some fault → Derivable core → ⊥
+NoneWithFault = (core : CoreData) (fault : DeclFault) → Formed core → IsFirstDeclarationFault core fault → Derivable core → ⊥
 
 -- There is at most one node to which no rule applies.
 abbrev pub OneNode : Type 0

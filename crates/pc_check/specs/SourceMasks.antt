@@ -19,5 +19,3 @@ masks_behind (Some t) = masks_after t
 abbrev pub masks_from : CoreData → Ann → Source → Masks
 masks_from core ann (source.Start m) = masks_in core (slice_get core.methods m)
 masks_from core ann (source.Behind s) = masks_behind (slice_get ann.notes s)
-
--- ---- notes

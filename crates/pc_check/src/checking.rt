@@ -1,9 +1,9 @@
 //! The walk through the nodes.
-ghost use Rattle.std.specs.Prelude.{◌≡◌, [], Some, Ok, Err, IfOk, IfErr};
+ghost use Rattle.std.specs.Prelude.{◌≡◌, [], Ok, Err, IfOk, IfErr};
 ghost use Rattle.pc_ann.specs.declared.annotation.Ann.{Ann};
 ghost use Rattle.pc_sub.specs.declared.faults.DeclFault.{DeclFault};
 ghost use Rattle.pc_sub.specs.Declarations.{DeclOk};
-ghost use Rattle.pc_sub.specs.DeclarationFaults.{first_fault};
+ghost use Rattle.pc_sub.specs.FirstFault.{IsFirstDeclarationFault};
 ghost use Rattle.pc_valid.specs.Valid.{Valid};
 ghost use Rattle.pc_check.specs.declared.fault.CheckFault.TheVariants as fault_of;
 ghost use Rattle.pc_check.specs.Faults.{RefusesCore, AnswersAnnotation};
@@ -90,8 +90,9 @@ fn infer(alloc: Global, core: &Core) -> Result<Ann, CheckFault>
 fn looked_through(alloc: Global, core: &Core) -> Result<Ann, CheckFault>
     ensures ok { IfOk result (Valid core.now) }
     ensures err { IfErr result (RefusesCore core.now) }
-    ensures declarations { (fault : DeclFault) → first_fault core.now ≡ Some fault → result ≡ Err (fault_of.Decl fault) }
+    ensures declarations { (fault : DeclFault) → IsFirstDeclarationFault core.now fault → result ≡ Err (fault_of.Decl fault) }
 {
+    core.formed();
     match declarations(core) {
         Ok(()) => infer(alloc, core),
         Err(fault) => Err(CheckFault::Decl(fault)),
@@ -112,7 +113,7 @@ pub fn check(alloc: Global, core: &Core) -> Result<Ann, CheckFault>
     // If an annotation is valid, it is returned, unless memory ran out.
     ensures exact { (ann : Ann) → Valid core.now ann → AnswersAnnotation result (Ok ann) }
     // If the declarations fail, their fault is returned, and memory does not run out before.
-    ensures declarations { (fault : DeclFault) → first_fault core.now ≡ Some fault → result ≡ Err (fault_of.Decl fault) }
+    ensures declarations { (fault : DeclFault) → IsFirstDeclarationFault core.now fault → result ≡ Err (fault_of.Decl fault) }
 {
     core.formed();
     one_annotation_is_valid();

@@ -9,7 +9,8 @@ use Rattle.pc_core.specs.CoreData.{CoreData}
 use Rattle.pc_core.specs.declared.declarations.Method.{Method}
 use Rattle.pc_semantics.specs.declared.ahead.Ahead.{Ahead}
 use Rattle.pc_semantics.specs.declared.ahead.Ahead.TheVariants as ahead
-use Rattle.pc_semantics.specs.Ahead.{by_move, by_outcome, of_tasks, of_frames, of_actor, ahead_of}
+use Rattle.pc_semantics.specs.Ahead.{by_move, by_outcome, of_frames, ahead_of}
+use Rattle.pc_semantics.specs.Parts.{of_tasks, of_actor, delivered, run_task, step_of, begin_method, begun}
 use Rattle.pc_semantics.specs.declared.actors.Actor.{Actor}
 use Rattle.pc_semantics.specs.declared.frames.Frame.{Frame}
 use Rattle.pc_semantics.specs.declared.frames.Task.{Task}
@@ -17,9 +18,8 @@ use Rattle.pc_semantics.specs.declared.mailbox.Message.{Message}
 use Rattle.pc_semantics.specs.declared.outcome.Lack.{Lack}
 use Rattle.pc_semantics.specs.declared.outcome.Outcome.{Outcome}
 use Rattle.pc_semantics.specs.declared.outcome.Outcome.TheVariants.{Moved, Skipped, Lacks, TooLong}
-use Rattle.pc_semantics.specs.Configurations.{Configuration, with_frames}
-use Rattle.pc_semantics.specs.Around.{Move, Stuck, Overflows, Goes, Writes, Makes, Spawns, Enters, Sends, Leaves}
-use Rattle.pc_semantics.specs.Step.{around, delivered, made, run_task, run_frames, step_of, step, take, take_first, printed_text, begin_method, begun}
+use Rattle.pc_semantics.specs.Configurations.{Configuration, with_frames, Move, Stuck, Overflows, Goes, Writes, Makes, Spawns, Enters, Sends, Leaves}
+use Rattle.pc_semantics.specs.Step.{around, made, run_frames, step, take, take_first, printed_text}
 use Rattle.pc_choose.specs.Able.{able, is_able, has_work}
 use Rattle.pc_choose.specs.Marks.{mark, mark_of, marks_of, marks_by, AreMarks}
 use Rattle.pc_choose.proofs.Places.{marks_set, marks_push}

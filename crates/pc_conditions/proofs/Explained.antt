@@ -25,7 +25,7 @@ use Rattle.pc_tree.specs.declared.kinds.Op.{Op}
 use Rattle.pc_rules.specs.declared.said.Said.{Said}
 use Rattle.pc_rules.specs.Parts.{through_notes, one_type, two_types, notes_of}
 use Rattle.pc_valid.specs.Words.{Ty, Masks, Slots, before}
-use Rattle.pc_valid.specs.Rules.{Means}
+use Rattle.pc_valid.specs.Valid.{Means}
 use Rattle.pc_valid.specs.NoRule.{NoRule, DifferAt}
 use Rattle.pc_rules.specs.Calls.{called, calls, recovers, sends, is_function, is_behaviour, same_text, has_text}
 use Rattle.pc_rules.specs.Fields.{incomplete}

@@ -4,7 +4,7 @@ use Rattle.pc_ann.specs.{declared.annotation.Ann.Ann, declared.annotation.Note.N
 use Rattle.pc_core.specs.{CoreData.CoreData, Formed.Formed, declared.nodes.Node.Node}
 use Rattle.pc_lists.specs.Lists.{Has}
 use Rattle.pc_rules.specs.{Parts.notes_of, Rules.rule_says}
-use Rattle.pc_valid.specs.{Words.Masks, Words.before, Rules.Means, Valid.KeepsWritten, NoRule.NoRule, NoRule.Reaches, NoRule.MeetsReached}
+use Rattle.pc_valid.specs.{Words.Masks, Words.before, Valid.Means, Valid.KeepsWritten, NoRule.NoRule, NoRule.Reaches, NoRule.MeetsReached}
 use Rattle.pc_check.specs.Inference.{rules_for, with_inferred}
 use Rattle.pc_conditions.specs.{Chosen.is_chosen, Failing.Because, Failing.failing, Failing.reasons, Failing.reasons_at, declared.condition.Condition.Condition}
 

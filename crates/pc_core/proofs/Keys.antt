@@ -7,7 +7,8 @@ use Rattle.std.proofs.lemmas.List.Sums.{passes_at_first, fails_before_first}
 use Rattle.std.proofs.lemmas.Option.{get_or_from_slice_get, same_Some, none-some}
 use Rattle.pc_core.specs.declared.declarations.EntityDef.{EntityDef}
 use Rattle.pc_core.specs.declared.declarations.Method.{Method}
-use Rattle.pc_core.specs.CoreData.{CoreData, own_methods, field_name, method_name, method_named, IsMethod}
+use Rattle.pc_core.specs.CoreData.{CoreData, own_methods, method_named, IsMethod}
+use Rattle.pc_core.specs.Parts.{field_name, method_name}
 use Rattle.pc_core.specs.Formed.{Formed}
 use Rattle.pc_core.specs.Members.{method_among, method_found, method_missed}
 use Rattle.pc_core.specs.MethodKeys.{method_key, is_key}

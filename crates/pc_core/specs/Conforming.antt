@@ -2,7 +2,7 @@
 use Rattle.std.specs.Prelude.{◌≡◌, List, length}
 use Rattle.pc_masks.specs.declared.mask.Mask.{Mask}
 use Rattle.pc_lists.specs.Lists.{Each}
-use Rattle.pc_core.specs.{CoreData.CoreData, Further.IsAbstract, Conforms.Conforms, EntitySets.IsSetOf}
+use Rattle.pc_core.specs.{CoreData.CoreData, Further.IsAbstract, Entities.Conforms, EntitySets.IsSetOf}
 
 -- A set for each entity, by its number: for a trait and an interface that of the entities that conform to it. The set of
 -- any other entity may be any.

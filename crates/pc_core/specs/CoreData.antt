@@ -26,23 +26,17 @@ abbrev pub node_end : ℕ → Option ℕ → ℕ
 node_end first None = first
 node_end first (Some body) = body + 1
 
-abbrev pub field_name : FieldInfo → ℕ
-field_name f = f.name
-
-abbrev pub method_name : Method → ℕ
-method_name m = m.name
-
 -- The index of the entity's field with this name.
 abbrev pub field_named : CoreData → (entity name : ℕ) → Option ℕ
 field_named core entity name = do
   x ← slice_get core.entities entity
-  place_of field_name name x.fields 0
+  place_of (λ (f : FieldInfo). f.name) name x.fields 0
 
 -- The number of the entity's method with this name.
 abbrev pub method_named : CoreData → (entity name : ℕ) → Option ℕ
 method_named core entity name = do
   x ← slice_get core.entities entity
-  place_of method_name name (own_methods core x) x.first_method
+  place_of (λ (m : Method). m.name) name (own_methods core x) x.first_method
 
 -- The entity has a method with this name, which is this one.
 abbrev pub IsMethod : CoreData → (entity name method : ℕ) → Type 0

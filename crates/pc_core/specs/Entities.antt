@@ -1,9 +1,11 @@
--- The built-in entities, chains of `is` in a core, the kinds of methods, and the slots that a declaration gives.
-use Rattle.std.specs.Prelude.{◌≡◌, ℕ, true, List, [], ◌∷◌, Some, None, slice_get, codes}
-use Rattle.pc_caps.specs.{declared.capability.Cap.Cap, declared.span.Span.Span}
-use Rattle.pc_tree.specs.{declared.kinds.EntityKind.EntityKind, Kinds.none_entity, Kinds.u64_entity, Kinds.bool_entity, Kinds.string_entity, Kinds.env_entity, Kinds.out_stream_entity, declared.kinds.MethodWord.MethodWord}
-use Rattle.pc_core.specs.{declared.declarations.EntityDef.EntityDef, declared.declarations.FieldInfo.FieldInfo, declared.declarations.Method.Method, CoreData.CoreData, declared.declarations.MethodKind.MethodKind, declared.declarations.ParamInfo.ParamInfo, declared.nodes.Slot.Slot}
-use Rattle.pc_lists.specs.Lists.{Has}
+-- The built-in entities, chains of `is` in a core, the kinds of methods, and the slots that a declaration gives; when two
+-- entities are the same, or the first is declared by `is` to be the second; and when an entity has what a trait or an
+-- interface declares.
+use Rattle.std.specs.Prelude.{◌≡◌, ℕ, true, List, [], ◌∷◌, Some, None, slice_get, codes, ◌⊎◌, length}
+use Rattle.pc_caps.specs.{declared.capability.Cap.Cap, declared.span.Span.Span, Tables.IsBelow, Tables.unalias}
+use Rattle.pc_tree.specs.{declared.kinds.EntityKind.EntityKind, Kinds.none_entity, Kinds.u64_entity, Kinds.bool_entity, Kinds.string_entity, Kinds.env_entity, Kinds.out_stream_entity, declared.kinds.MethodWord.MethodWord, Kinds.at_kind}
+use Rattle.pc_core.specs.{declared.declarations.EntityDef.EntityDef, declared.declarations.FieldInfo.FieldInfo, declared.declarations.Method.Method, CoreData.CoreData, declared.declarations.MethodKind.MethodKind, declared.declarations.ParamInfo.ParamInfo, declared.nodes.Slot.Slot, CoreData.own_methods, CoreData.IsMethod}
+use Rattle.pc_lists.specs.Lists.{Has, Each}
 use Rattle.pc_caps.specs.declared.capability.Cap.TheVariants as cap
 use Rattle.pc_caps.specs.declared.capability.Form.TheVariants as form
 use Rattle.pc_tree.specs.declared.kinds.EntityKind.TheVariants as kind
@@ -70,11 +72,7 @@ pub data Leads (core : CoreData) : (entity above : ℕ) → Type 0 where
 
 -- The kind of a constructor, and of a method with this keyword: an actor's constructor spawns it.
 abbrev pub constructor_kind : EntityKind → MethodKind
-constructor_kind kind.Class = method.New
-constructor_kind kind.Actor = method.Spawn
-constructor_kind kind.Primitive = method.New
-constructor_kind kind.Trait = method.New
-constructor_kind kind.Interface = method.New
+constructor_kind = at_kind method.New method.Spawn method.New method.New method.New
 
 abbrev pub word_kind : EntityKind → MethodWord → MethodKind
 word_kind e word.Fun = method.Fun
@@ -87,3 +85,32 @@ this_slot m x = record { method = m; kind = slot.This; depth = 0; written = Some
 
 abbrev pub param_slot : ℕ → ParamInfo → Slot
 param_slot m p = record { method = m; kind = slot.Param; depth = 0; written = Some (p.entity, p.cap) }
+
+-- The entities are the same, or a chain of `is` leads from the first to the second (nominal subtyping, in the Pony
+-- tutorial).
+abbrev pub Chain : CoreData → (entity above : ℕ) → Type 0
+Chain core a b = (a ≡ b) ⊎ Leads core a b
+
+-- ---- when an entity has what a trait or an interface declares
+
+-- A parameter of the entity's method accepts whatever the declared method's parameter accepts. Here and below entities
+-- are compared by chains of `is` alone, not by their methods.
+abbrev pub ParamFits : CoreData → ParamInfo → ParamInfo → Type 0
+ParamFits core p q = Chain core p.entity q.entity × IsBelow (unalias p.cap) (unalias q.cap)
+
+-- The entity's method y may replace the method t of a trait or an interface.
+pub record StandsFor (core : CoreData) (t y : Method) : Type 0 where
+  pub count : length y.params ≡ length t.params
+  pub receiver : IsBelow (unalias t.receiver) (unalias y.receiver)
+  pub params : Each (λ i p. (q : ParamInfo) → slice_get y.params i ≡ Some q → ParamFits core p q) t.params
+  pub entity : Chain core y.result.0 t.result.0
+  pub form : IsBelow y.result.1 t.result.1
+
+-- The entity has a method with the name and kind of method t, and it may replace t.
+abbrev pub HasFor : CoreData → ℕ → Method → Type 0
+HasFor core e t = (m : ℕ) × (y : Method) × (IsMethod core e t.name m) × (slice_get core.methods m ≡ Some y) × (y.kind ≡ t.kind) × StandsFor core t y
+
+-- An entity conforms to a trait or an interface: it has a method for each of the methods there. Every entity conforms
+-- to one without methods.
+abbrev pub Conforms : CoreData → (entity above : ℕ) → Type 0
+Conforms core e b = (x : EntityDef) → slice_get core.entities b ≡ Some x → Each (λ i t. HasFor core e t) (own_methods core x)

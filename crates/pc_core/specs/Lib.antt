@@ -8,8 +8,8 @@ pub mod Nodes
 pub mod Formed
 pub mod Members
 pub mod Growing
-pub mod Conforms
 pub mod EntitySets
 pub mod Conforming
 pub mod Whole
 pub mod Further
+pub mod Parts

@@ -6,7 +6,7 @@ use Rattle.pc_lists.proofs.Lookup.{place_found, place_missed}
 use Rattle.pc_lists.proofs.Ranges.{run_within, run_around}
 use Rattle.pc_lists.proofs.Options.{bind_some}
 use Rattle.std.specs.Prelude.{◌≡◌, ℕ, ◌+◌, ◌-◌, ◌<◌, ◌≤◌, ◌^◌, length, drop, MatchOption, Option, Some, None, slice_get}
-use Rattle.pc_core.specs.{declared.declarations.EntityDef.EntityDef, declared.declarations.Method.Method, CoreData.CoreData, CoreData.own_methods, CoreData.field_name, CoreData.method_name, CoreData.field_named, CoreData.method_named, CoreData.IsMethod, Further.IsField, Formed.Formed}
+use Rattle.pc_core.specs.{declared.declarations.EntityDef.EntityDef, declared.declarations.Method.Method, CoreData.CoreData, CoreData.own_methods, Parts.field_name, Parts.method_name, CoreData.field_named, CoreData.method_named, CoreData.IsMethod, Parts.IsField, Formed.Formed}
 use Rattle.pc_lists.specs.Lists.{◌>>=◌, place_of}
 
 -- An entity's methods are within the list.

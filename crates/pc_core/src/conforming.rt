@@ -1,7 +1,7 @@
 //! What conforms to what, by a table.
 ghost use Rattle.std.specs.Prelude.{◌≡◌, ◌↔◌, ◌<◌, IfSome, IsTrue, length};
 ghost use Rattle.pc_core.specs.Conforming.{TellsConforming};
-ghost use Rattle.pc_core.specs.Conforms.{Conforms};
+ghost use Rattle.pc_core.specs.Entities.{Conforms};
 ghost use Rattle.pc_core.specs.Further.{IsAbstract};
 
 use crate::cores::Core;

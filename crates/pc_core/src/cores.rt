@@ -27,7 +27,7 @@ pub struct Core {
 
 impl Model for Core {
     ghost use Rattle.pc_core.specs.CoreData.{CoreData};
-    ghost use Rattle.pc_core.specs.Further.{data_of};
+    ghost use Rattle.pc_core.specs.Parts.{data_of};
     ghost use Rattle.pc_core.specs.Whole.{IsWhole};
 
     ghost Value = { CoreData };

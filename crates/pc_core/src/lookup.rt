@@ -1,5 +1,5 @@
 //! Fields and methods by their names.
-ghost use Rattle.pc_core.specs.Further as further;
+ghost use Rattle.pc_core.specs.Parts as parts;
 ghost use Rattle.std.specs.Prelude.{◌≡◌, ℕ, ◌+◌, ◌<◌, ◌≤◌, ◌^◌, length, MatchOption, slice_range};
 ghost use Rattle.pc_caps.specs.Limits.{field_limit};
 ghost use Rattle.pc_core.specs.CoreData as spec;
@@ -13,7 +13,7 @@ impl Core {
     /// not allocate.
     pub fn field(&self, entity: u32, name: u32) -> Option<u32>
         ensures value { result ≡ spec.field_named self.now entity name }
-        ensures exact { MatchOption result ((i : ℕ) → ¬ (further.IsField self.now entity name i)) (λ i. further.IsField self.now entity name i) }
+        ensures exact { MatchOption result ((i : ℕ) → ¬ (parts.IsField self.now entity name i)) (λ i. parts.IsField self.now entity name i) }
     {
         self.formed();
         let found = self.entity_at(entity)?;
@@ -56,7 +56,7 @@ fn part(methods: &[Method], first: u32, count: u32) -> &[Method]
 // The index of the first field with this name.
 fn place_of_field(fields: &[FieldInfo], name: u32) -> Option<u32>
     requires { length fields.now ≤ field_limit }
-    ensures { result ≡ place_of spec.field_name name fields.now 0 }
+    ensures { result ≡ place_of parts.field_name name fields.now 0 }
 {
     let mut at = 0;
     for field in fields {
@@ -71,7 +71,7 @@ fn place_of_field(fields: &[FieldInfo], name: u32) -> Option<u32>
 // The number of the first method with this name, numbering them from `first` on.
 fn place_of_method(methods: &[Method], name: u32, first: u32) -> Option<u32>
     requires { first + length methods.now < 2 ^ 32 }
-    ensures { result ≡ place_of spec.method_name name methods.now first }
+    ensures { result ≡ place_of parts.method_name name methods.now first }
 {
     let mut at = first;
     for method in methods {

@@ -5,7 +5,7 @@ use Rattle.std.specs.Io.KnownBytes.{Appends}
 use Rattle.std.proofs.KnownBytes.{Appends-kept, Appends-trans}
 use Rattle.std.proofs.Math.Seq.{take-length}
 use Rattle.pc_core.specs.CoreData.{CoreData}
-use Rattle.pc_gen.specs.Program.{schedule}
+use Rattle.pc_gen.specs.Generated.{schedule}
 use Rattle.pc_io.specs.Sink.{Change, change, GrowsByPrefix}
 use Rattle.pc_io.proofs.Prefixes.{grows_more, grows_on, rose_before}
 use Rattle.pc_run.specs.Ends.{NeverLacks}

@@ -11,7 +11,7 @@ use Rattle.pc_run_events.proofs.One.{one_deed}
 use Rattle.pc_semantics.specs.Step.{outcomes}
 use Rattle.pc_semantics.specs.Text.{end_of}
 use Rattle.pc_semantics.specs.declared.outcome.Outcome.TheVariants as outcome
-use Rattle.pc_refusals.specs.Source.{HasOneEnd}
+use Rattle.pc_refusals.specs.Ends.{HasOneEnd}
 use Rattle.pc_refusal_lines.specs.Lines.{many_actors_line, too_long_line}
 use Rattle.pc_refusals.specs.Verdict.{refused}
 use Rattle.pc_core_commands.specs.Events.{EventsTelling}

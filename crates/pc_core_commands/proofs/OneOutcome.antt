@@ -9,7 +9,7 @@ use Rattle.pc_outcomes.specs.Texts.{outcomes_text}
 use Rattle.pc_outcomes.specs.declared.entry.Entry.{Entry}
 use Rattle.pc_outcomes.specs.declared.fault.OutcomesFault.{OutcomesFault}
 use Rattle.pc_outcomes.specs.declared.fault.OutcomesFault.TheVariants.{Memory, Steps, Texts}
-use Rattle.pc_refusals.specs.Source.{HasOneEnd}
+use Rattle.pc_refusals.specs.Ends.{HasOneEnd}
 use Rattle.pc_refusals.specs.Verdict.{Verdict, IsAccepting, done, refused}
 use Rattle.pc_refusals.proofs.Statuses.{IsOther, other_refuses}
 use Rattle.pc_core_commands.specs.Outcomes.{IsCount, OutcomesTelling, many_bytes_line, many_steps_line}

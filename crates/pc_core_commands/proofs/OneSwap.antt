@@ -13,7 +13,7 @@ use Rattle.pc_swap.specs.Laws.{KeptAreNotApart}
 use Rattle.pc_swap.specs.declared.kept.Kept.{Kept}
 use Rattle.pc_swap.specs.declared.kept.Kept.TheVariants.{SameActor, NotMoved, OneMailbox, BothSpawn}
 use Rattle.pc_lists.specs.Lists.{Text}
-use Rattle.pc_refusals.specs.Source.{HasOneEnd}
+use Rattle.pc_refusals.specs.Ends.{HasOneEnd}
 use Rattle.pc_refusal_lines.specs.Lines.{too_long_line}
 use Rattle.pc_core_commands.specs.Swap.{IsPlace, Neighbours, SwapText, Swapping, kept_line}
 use Rattle.pc_core_commands.specs.Swap.SwapText.{exchanged, stay}

@@ -4,7 +4,8 @@ use Rattle.pc_core.specs.CoreData.{CoreData}
 use Rattle.pc_sends.specs.Tables.{RowBefore, IsTable}
 use Rattle.pc_sends.specs.declared.table.Row.{Row}
 use Rattle.pc_sends.specs.declared.table.Table.{Table}
-use Rattle.pc_core_commands.specs.Sends.{never_text, rows_text, table_text}
+use Rattle.pc_core_commands.specs.Sends.{table_text}
+use Rattle.pc_core_commands.specs.SendsLines.{never_text, rows_text}
 use Rattle.pc_core_commands.proofs.InOrder.{less_apart, order_one}
 
 before_apart : (a b : Row) → RowBefore a b → RowBefore b a → ⊥

@@ -13,7 +13,7 @@ use Rattle.pc_semantics.specs.declared.access.Access.{Access}
 use Rattle.pc_semantics.specs.declared.outcome.Outcome.TheVariants as outcome
 use Rattle.pc_trace.specs.Traces.{AllTouches, TooManyAt, TouchAt, actor_limit}
 use Rattle.pc_trace.specs.declared.touch.Touch.{Touch}
-use Rattle.pc_refusals.specs.Source.{HasOneEnd}
+use Rattle.pc_refusals.specs.Ends.{HasOneEnd}
 use Rattle.pc_refusal_lines.specs.Lines.{many_actors_line, too_long_line}
 use Rattle.pc_run_events.specs.Lines.{trace_text}
 use Rattle.pc_core_commands.specs.Trace.{Tracing}

@@ -7,7 +7,8 @@ use Rattle.pc_core.specs.CoreData.{CoreData}
 use Rattle.pc_core.specs.Formed.{Formed}
 use Rattle.pc_core.specs.declared.declarations.Method.{Method}
 use Rattle.pc_lists.proofs.Gets.{get_within}
-use Rattle.pc_noted_receivers.specs.Noted.{noted_entities, noted_in}
+use Rattle.pc_noted_receivers.specs.Noted.{noted_entities}
+use Rattle.pc_noted_receivers.specs.Parts.{noted_in}
 use Rattle.pc_valid.specs.Valid.{Valid}
 use Rattle.pc_sends.specs.Tables.{Sends, next, IsTable}
 use Rattle.pc_sends.specs.declared.table.Table.{Table}

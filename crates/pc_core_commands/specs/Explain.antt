@@ -1,10 +1,9 @@
 -- `explain SRC`: the text for a core, and what comes of a fault of a tree.
 use Rattle.std.specs.Prelude.{◌⊎◌, Bool, true, false, List, Result, Ok, Err, if◌then◌else◌}
 use Rattle.pc_core.specs.CoreData.{CoreData}
-use Rattle.pc_core_relation.specs.Files.{IsCoreOf}
+use Rattle.pc_core_relation.specs.{Files.IsCoreOf, MemberFaults.IsMemberFault}
 use Rattle.pc_explain.specs.Explanation.{IsExplanation}
 use Rattle.pc_explain_names.specs.Names.{names_text}
-use Rattle.pc_file_spec.specs.Cores.{IsElabFault}
 use Rattle.pc_lex.specs.Pieces.{TokenList}
 use Rattle.pc_lists.specs.Lists.{Text}
 use Rattle.pc_names.specs.{Faults.IsNotMemory, Faults.IsNameFault, declared.fault.NameFault.NameFault}
@@ -33,7 +32,7 @@ fault_end name bytes file f = if is_not_explained f then Err (refused (name_stat
 
 -- The first fault of a file's names, or else of its methods.
 abbrev pub IsFileFault : t.File → NameFault → Type 0
-IsFileFault file f = IsNameFault file f ⊎ IsElabFault file f
+IsFileFault file f = IsNameFault file f ⊎ IsMemberFault file f
 
 -- The text for the tree of a source with these bytes: the text for its core, or for the fault because of which it has
 -- none.

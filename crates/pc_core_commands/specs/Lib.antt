@@ -10,3 +10,5 @@ pub mod Schedule
 pub mod Sends
 pub mod Swap
 pub mod Trace
+pub mod Numbers
+pub mod SendsLines

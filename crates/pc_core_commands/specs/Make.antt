@@ -1,8 +1,8 @@
 -- `make SEED SIZE`: the numbers among its words, and the run of the program that is made of them.
-use Rattle.std.specs.Prelude.{ℕ, ◌≡◌, Option, Some, None, length, codes}
+use Rattle.std.specs.Prelude.{ℕ, ◌≡◌, length, codes}
 use Rattle.pc_args.specs.Line.{IsSeed, IsSize}
 use Rattle.pc_core.specs.CoreData.{CoreData}
-use Rattle.pc_gen.specs.Program.{schedule}
+use Rattle.pc_gen.specs.Generated.{schedule}
 use Rattle.pc_run.specs.Spreading.{spread}
 use Rattle.pc_lists.specs.Lists.{Text}
 use Rattle.pc_refusal_lines.specs.Lines.{counts_line}
@@ -24,8 +24,3 @@ RanMade seed size core v = (w : Verdict) × Ran made_name core (spread (schedule
 -- The words are not a seed and a size.
 abbrev pub SpellsNone : Text → Text → Type 0
 SpellsNone seed size = (a b : ℕ) → IsSeed seed a → IsSize size b → ⊥
-
--- The seed and the size that the words denote, or none if they do not denote both.
-abbrev pub ReadsNumbers : Text → Text → Option (ℕ × ℕ) → Type 0
-ReadsNumbers seed size None = SpellsNone seed size
-ReadsNumbers seed size (Some p) = IsSeed seed p.0 × IsSize size p.1

@@ -14,8 +14,6 @@ seeds_limit = 10000
 abbrev pub IsCount : Text → ℕ → Type 0
 IsCount text n = IsNumber 5 text n × (1 ≤ n) × (n ≤ seeds_limit)
 
--- ---- lines
-
 -- `SRC: the plays of seeds 0 to S have more than 100000000 steps`
 abbrev pub many_steps_line : Text → (seed : ℕ) → Text
 many_steps_line name seed = name ++ (codes ": the plays of seeds 0 to " ++ (decimal seed ++ (codes " have more than 100000000 steps" ++ line_end)))
@@ -23,8 +21,6 @@ many_steps_line name seed = name ++ (codes ": the plays of seeds 0 to " ++ (deci
 -- `SRC: the texts of seeds 0 to S have more than 67108864 bytes`
 abbrev pub many_bytes_line : Text → (seed : ℕ) → Text
 many_bytes_line name seed = name ++ (codes ": the texts of seeds 0 to " ++ (decimal seed ++ (codes " have more than 67108864 bytes" ++ line_end)))
-
--- ---- the text
 
 -- The text of the table of the seeds below a count; or 8 at the first seed with which their plays have too many steps,
 -- or their different texts too many bytes.

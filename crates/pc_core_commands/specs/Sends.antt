@@ -1,5 +1,5 @@
 -- `sends SRC`: the lines of a table of who sends what.
-use Rattle.std.specs.Prelude.{ℕ, ◌≡◌, List, [], ◌∷◌, ◌++◌, IsSome, slice_get, codes}
+use Rattle.std.specs.Prelude.{ℕ, ◌≡◌, List, ◌++◌, IsSome, slice_get, codes, flat_map}
 use Rattle.pc_ann.specs.declared.annotation.Ann.{Ann}
 use Rattle.pc_core.specs.CoreData.{CoreData}
 use Rattle.pc_lists.specs.Lists.{Each, Text, line_end}
@@ -18,24 +18,13 @@ line_with words core t = words ++ (method_text core (slice_get core.methods t) +
 abbrev pub row_line : CoreData → Row → Text
 row_line core row = name_of_entity (slice_get core.entities row.from) ++ line_with (codes " sends ") core row.target
 
-abbrev pub rows_text : CoreData → List Row → Text
-rows_text core [] = []
-rows_text core (row ∷ rows) = row_line core row ++ rows_text core rows
-
--- `never B.m`
-abbrev pub never_text : CoreData → List ℕ → Text
-never_text core [] = []
-never_text core (t ∷ ts) = line_with (codes "never ") core t ++ never_text core ts
-
--- Who sends what, a line each, followed by what is never sent.
+-- Who sends what, a line each, followed by what is never sent, `never B.m`.
 abbrev pub table_text : CoreData → Table → Text
-table_text core table = rows_text core table.rows ++ never_text core table.never
+table_text core table = flat_map (row_line core) table.rows ++ flat_map (line_with (codes "never ") core) table.never
 
 -- The text of the table of who sends what, with the entities that the annotation notes at the nodes.
 abbrev pub IsSendsText : CoreData → Ann → Text → Type 0
 IsSendsText core ann text = (table : Table) × IsTable core (noted_entities ann) table × (text ≡ table_text core table)
-
--- ---- what holds of a table
 
 -- Everything that its lines name exists.
 pub record NamesAreThere (core : CoreData) (table : Table) : Type 0 where

@@ -1,6 +1,7 @@
 //! `check SRC`: the text of a derivation.
 ghost use Rattle.std.specs.Prelude.{◌≡◌, ◌≤◌, IfOk, length};
-ghost use Rattle.pc_deriv.specs.Text.{IsText, derivation_node_limit, derivation_slot_limit, deriv_text};
+ghost use Rattle.pc_deriv.specs.Text.{IsText, deriv_text};
+ghost use Rattle.pc_deriv.specs.Parts.{derivation_node_limit, derivation_slot_limit};
 ghost use Rattle.pc_deriv.specs.declared.version.Version.TheVariants as version;
 
 use pc_caps::List;

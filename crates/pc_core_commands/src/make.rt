@@ -3,7 +3,8 @@ ghost use Rattle.std.specs.Prelude.{◌≤◌};
 ghost use Rattle.pc_io.specs.Sink.{change};
 ghost use Rattle.pc_run.specs.Ends.{NeverLacks};
 ghost use Rattle.pc_refusals.specs.Inner.Answering.{EndsCommand};
-ghost use Rattle.pc_core_commands.specs.Make.{RanMade, ReadsNumbers};
+ghost use Rattle.pc_core_commands.specs.Make.{RanMade};
+ghost use Rattle.pc_core_commands.specs.Numbers.{ReadsNumbers};
 
 use crate::run::run_turns;
 use pc_args::{seed_of, size_of};

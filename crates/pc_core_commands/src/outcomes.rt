@@ -1,6 +1,6 @@
 //! `outcomes SRC COUNT`: the count among its words, and the table of a core's outcomes.
 ghost use Rattle.std.specs.Prelude.{◌≡◌, ◌<◌, ◌^◌, IfOk};
-ghost use Rattle.pc_args.specs.Line.{Reads};
+ghost use Rattle.pc_args.specs.Numbers.{Reads};
 ghost use Rattle.pc_run.specs.Ends.{NeverLacks};
 ghost use Rattle.pc_refusals.specs.Inner.Stages.{StageEnds};
 ghost use Rattle.pc_core_commands.specs.Outcomes as spec;

@@ -1,6 +1,7 @@
 //! The table of who sends what, as lines with names.
 ghost use Rattle.std.specs.Prelude.{◌≡◌, ◌++◌, IfOk, OnOk};
 ghost use Rattle.pc_core_commands.specs.Sends as spec;
+ghost use Rattle.pc_core_commands.specs.SendsLines as lines;
 
 use pc_caps::List;
 use pc_core::Core;
@@ -28,7 +29,7 @@ fn push_row(text: &mut Vec<u8>, core: &Core, row: Row) -> Result<(), AllocError>
 
 // Appends the lines of rows to a text.
 fn push_rows(text: &mut Vec<u8>, core: &Core, rows: &[Row]) -> Result<(), AllocError>
-    ensures { OnOk result (text.new.items ≡ text.old.items ++ spec.rows_text core.now rows.now) }
+    ensures { OnOk result (text.new.items ≡ text.old.items ++ lines.rows_text core.now rows.now) }
 {
     for row in rows {
         push_row(text, core, *row)?;
@@ -38,7 +39,7 @@ fn push_rows(text: &mut Vec<u8>, core: &Core, rows: &[Row]) -> Result<(), AllocE
 
 // Appends the lines of what is never sent to a text.
 fn push_never(text: &mut Vec<u8>, core: &Core, methods: &[u32]) -> Result<(), AllocError>
-    ensures { OnOk result (text.new.items ≡ text.old.items ++ spec.never_text core.now methods.now) }
+    ensures { OnOk result (text.new.items ≡ text.old.items ++ lines.never_text core.now methods.now) }
 {
     for method in methods {
         push_line(text, b"never ", core, *method)?;

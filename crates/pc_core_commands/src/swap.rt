@@ -1,6 +1,7 @@
 //! `swap SRC SCHED PLACE`: the place among its words, and the exchange of two turns.
 ghost use Rattle.std.specs.Prelude.{◌≡◌, ◌<◌, ◌≤◌, ◌^◌, IfOk, length};
-ghost use Rattle.pc_args.specs.Line.{IsNumber, Reads};
+ghost use Rattle.pc_args.specs.Line.{IsNumber};
+ghost use Rattle.pc_args.specs.Numbers.{Reads};
 ghost use Rattle.pc_run.specs.Spreading.{spread};
 ghost use Rattle.pc_sched.specs.Schedules.{turn_limit, total};
 ghost use Rattle.pc_semantics.specs.Safety.{Safe};

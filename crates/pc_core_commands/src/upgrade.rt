@@ -1,6 +1,7 @@
 //! `upgrade SRC DERIV`: the text in version 2 of an annotation that was read.
 ghost use Rattle.std.specs.Prelude.{◌≤◌, length};
-ghost use Rattle.pc_deriv.specs.Text.{derivation_node_limit, derivation_slot_limit, deriv_text};
+ghost use Rattle.pc_deriv.specs.Text.{deriv_text};
+ghost use Rattle.pc_deriv.specs.Parts.{derivation_node_limit, derivation_slot_limit};
 ghost use Rattle.pc_deriv.specs.declared.version.Version.TheVariants as version;
 ghost use Rattle.pc_refusals.specs.Derivation.{Judging};
 ghost use Rattle.pc_refusals.specs.Inner.Answering.{AnswersText};

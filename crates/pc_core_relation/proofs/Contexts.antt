@@ -16,10 +16,11 @@ use Rattle.pc_tree.specs.Tree as t
 use Rattle.pc_core.specs.declared.declarations.Method.{Method}
 use Rattle.pc_core.specs.CoreData.{CoreData}
 use Rattle.pc_core.specs.Entities.{constructor_kind, word_kind}
-use Rattle.pc_members.specs.Members.{is_new, field_texts, method_texts, built_in_names, entity_names, or_nil, Member, written, added, member_text}
+use Rattle.pc_members.specs.Members.{is_new, field_texts, method_texts, built_in_names, entity_names, Member, written, added, member_text}
+use Rattle.pc_members.specs.Parts.{or_nil}
 use Rattle.pc_tree.specs.Kinds.{first_own}
 use Rattle.pc_members.specs.MemberLists.{is_constructor, members}
-use Rattle.pc_body_spec.specs.Scopes.{Context, KnownEntity, Constructor}
+use Rattle.pc_body_spec.specs.Bodies.{Context, KnownEntity, Constructor}
 use Rattle.pc_file_spec.specs.Cores.{Owned, owned, constructors_from, known_from, known_value, known_of, kind_of, context_of, placed_of, Parts, built_in_parts, core_with, core_entity, entities_from}
 use Rattle.pc_file_spec.specs.Cores as known
 use Rattle.pc_file_spec.proofs.Tables.{member_there, language_kept, text_found}
@@ -29,7 +30,8 @@ use Rattle.pc_file_spec.proofs.Owners.{starts, entity_at, own_member, methods_ru
 use Rattle.pc_file_spec.proofs.Parts.{At, AllAt}
 use Rattle.pc_file_spec.proofs.Formation.{names_given}
 use Rattle.pc_file_spec.proofs.Settings.{all_members, method_at, at_get}
-use Rattle.pc_core_relation.specs.Methods.{Match, makes, text_at, constructors_among, seen_entity, seen_entities}
+use Rattle.pc_core_relation.specs.Files.{Match, makes, constructors_among, seen_entity}
+use Rattle.pc_core_relation.specs.Parts.{text_at, seen_entities}
 use Rattle.pc_core_relation.proofs.Lists.{match_rest, range_count}
 use Rattle.pc_core_relation.proofs.Mirror.{owned_context}
 use Rattle.pc_core_relation.proofs.Types.{entity_name}

@@ -17,13 +17,13 @@ use Rattle.pc_core.specs.declared.nodes.Slot.{Slot}
 use Rattle.pc_core.specs.declared.nodes.SlotKind.{SlotKind}
 use Rattle.pc_core.specs.CoreData.{CoreData}
 use Rattle.pc_members.specs.Members.{Member, written, added}
-use Rattle.pc_body_spec.specs.Scopes.{Context, KnownEntity, text_from}
+use Rattle.pc_body_spec.specs.Bodies.{Context, KnownEntity, text_from}
 use Rattle.pc_body_spec.specs.Slots.{Local}
 use Rattle.pc_body_spec.specs.Fold.{local_slot, type_of_name, written_of}
 use Rattle.pc_file_spec.specs.Cores.{Owned, or_value, type_in, param_of, params_of, result_form, written_result, word_result, result_of, core_field}
 use Rattle.pc_file_spec.proofs.Tables.{text_found}
-use Rattle.pc_core_relation.specs.Methods.{Match, IsType, IsWritten, seen_entities, ParamStands, LocalStands}
-use Rattle.pc_core_relation.specs.Files.{FieldStands}
+use Rattle.pc_core_relation.specs.Files.{Match, IsType, IsWritten, ParamStands, LocalStands, FieldStands}
+use Rattle.pc_core_relation.specs.Parts.{seen_entities}
 use Rattle.pc_core_relation.proofs.Lists.{match_one}
 use Rattle.pc_core_relation.proofs.Mirror.{params_in, AnswerIs, WordResultIs, ResultIs}
 use Rattle.pc_core_relation.proofs.Types.{entity_name, type_is, is_type}

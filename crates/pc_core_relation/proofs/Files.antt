@@ -14,7 +14,8 @@ use Rattle.pc_core.specs.declared.declarations.EntityDef.{EntityDef}
 use Rattle.pc_core.specs.declared.declarations.Method.{Method}
 use Rattle.pc_core.specs.CoreData.{CoreData}
 use Rattle.pc_core.specs.Entities.{HasBuiltIn}
-use Rattle.pc_members.specs.Members.{IsAbove, IsTransitiveClosure, LeadsInFile, Member, built_in_names, entity_names, field_texts, method_texts, or_nil}
+use Rattle.pc_members.specs.Members.{IsAbove, IsTransitiveClosure, LeadsInFile, Member, built_in_names, entity_names, field_texts, method_texts}
+use Rattle.pc_members.specs.Parts.{or_nil}
 use Rattle.pc_members.specs.Founded.{IsFounded}
 use Rattle.pc_tree.specs.Kinds.{first_own}
 use Rattle.pc_members.specs.Members as chains
@@ -31,8 +32,8 @@ use Rattle.pc_file_spec.proofs.Counts.{members_limited}
 use Rattle.pc_file_spec.proofs.Parts.{At, AllAt}
 use Rattle.pc_file_spec.proofs.Formation.{stands_with, parts_are}
 use Rattle.pc_file_spec.proofs.Settings.{all_members, entities_length, entity_get, entity_cases, method_at, at_get}
-use Rattle.pc_core_relation.specs.Files.{NamesAreRight, FieldStands, EntityStands, IsCoreOf, above_of}
-use Rattle.pc_core_relation.specs.Methods.{EntityHasName, MethodStands}
+use Rattle.pc_core_relation.specs.Files.{NamesAreRight, FieldStands, EntityStands, IsCoreOf, EntityHasName, MethodStands}
+use Rattle.pc_core_relation.specs.Parts.{above_of}
 use Rattle.pc_core_relation.specs.Laws.{MadeCoresStand}
 use Rattle.pc_core_relation.proofs.Lists.{map_matches}
 use Rattle.pc_core_relation.proofs.Texts.{texts_are_firsts}

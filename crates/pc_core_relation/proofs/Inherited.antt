@@ -6,9 +6,11 @@ use Rattle.pc_lists.proofs.Elements.{has_on}
 use Rattle.pc_tree.specs.declared.written_names.Name.{Name}
 use Rattle.pc_tree.specs.Kinds.{is_abstract}
 use Rattle.pc_tree.specs.Tree as t
-use Rattle.pc_members.specs.Members.{has_added, IsTransitiveClosure, Member, written, without_body, own_texts, added_if}
+use Rattle.pc_members.specs.Members.{has_added, IsTransitiveClosure, Member, written, without_body, own_texts}
+use Rattle.pc_members.specs.Parts.{added_if}
 use Rattle.pc_members.specs.Founded.{IsFounded}
-use Rattle.pc_members.specs.MemberLists.{firsts, entity_named, of_entity, of_each, trait_methods, abstract_methods, methods_taken_over, taken_over, abstract_members, concrete_members, members}
+use Rattle.pc_members.specs.MemberLists.{firsts, entity_named, of_each, trait_methods, abstract_methods, methods_taken_over, taken_over, abstract_members, concrete_members, members}
+use Rattle.pc_members.specs.Parts.{of_entity}
 use Rattle.pc_names.proofs.Founded.{collected_founded}
 use Rattle.pc_members.proofs.Named.{named_is, one_entity}
 use Rattle.pc_members.proofs.Ranks.{Target, target, named_by, rank_at, rank_less, rank_few, steady}

@@ -14,3 +14,8 @@ pub mod Equals
 pub mod Walks
 pub mod Ones
 pub mod Exists
+pub mod Alike
+pub mod Bare
+pub mod NodeCounts
+pub mod Knowing
+pub mod MemberFaults

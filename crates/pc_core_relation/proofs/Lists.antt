@@ -6,7 +6,7 @@ use Rattle.std.proofs.Math.Seq.{take-append-add}
 use Rattle.std.proofs.lemmas.List.{length-map, take-append-drop}
 use Rattle.pc_lists.specs.Lists.{Has}
 use Rattle.pc_lists.proofs.Gets.{get_map}
-use Rattle.pc_core_relation.specs.Methods.{Match}
+use Rattle.pc_core_relation.specs.Files.{Match}
 
 -- ---- lists that match
 

@@ -14,7 +14,7 @@ use Rattle.pc_core.specs.declared.nodes.Slot.{Slot}
 use Rattle.pc_core.specs.CoreData.{CoreData, own_slots}
 use Rattle.pc_members.specs.Members.{entity_names, Member, written, added, member_text}
 use Rattle.pc_members.specs.MemberLists.{members}
-use Rattle.pc_body_spec.specs.Scopes.{Context}
+use Rattle.pc_body_spec.specs.Bodies.{Context}
 use Rattle.pc_body_spec.specs.Fold.{local_slot, type_of_name, written_of}
 use Rattle.pc_file_spec.specs.Cores.{Owned, known_of, context_of, slots_from, param_of, params_of, member_locals, type_in, word_result, result_of, written_result, Parts, built_in_parts, core_with}
 use Rattle.pc_file_spec.specs.Cores as known
@@ -26,7 +26,7 @@ use Rattle.pc_file_spec.proofs.Declared.{types_are}
 use Rattle.pc_file_spec.proofs.Steps.{member_rose, member_faults, member_names, slots_count}
 use Rattle.pc_file_spec.proofs.Parts.{At, AllAt}
 use Rattle.pc_file_spec.proofs.Settings.{all_members, method_at}
-use Rattle.pc_core_relation.specs.Methods.{Match, IsType, IsWritten, IsNumbered, ParamStands, LocalStands, BodyIs, MethodStands}
+use Rattle.pc_core_relation.specs.Files.{Match, IsType, IsWritten, IsNumbered, ParamStands, LocalStands, BodyIs, MethodStands}
 use Rattle.pc_core_relation.proofs.Lists.{match_none, map_matches}
 use Rattle.pc_core_relation.proofs.Mirror.{params_in, AnswerIs, WordResultIs, ResultIs, rose_of, faults_in, owned_context, ByTables, said}
 use Rattle.pc_core_relation.proofs.Numbers.{numbered_in, what_is_put_is_numbered}

@@ -19,13 +19,11 @@ use Rattle.pc_core.specs.declared.declarations.ParamInfo.{ParamInfo}
 use Rattle.pc_core.specs.CoreData.{CoreData}
 use Rattle.pc_members.specs.Members.{Member, written, added, member_text}
 use Rattle.pc_members.specs.MemberLists.{member_span}
-use Rattle.pc_body_spec.specs.Bodies.{Rose, body_of, added_body}
-use Rattle.pc_body_spec.specs.Scopes.{Context}
+use Rattle.pc_body_spec.specs.Bodies.{Rose, body_of, added_body, Context}
 use Rattle.pc_body_spec.specs.Faults.{BodyNameFault, body_faults, initial_faults}
-use Rattle.pc_body_spec.specs.Slots.{cap_or}
+use Rattle.pc_body_spec.specs.Parts.{cap_or}
 use Rattle.pc_file_spec.specs.Cores.{Owned, owned, default_cap, kind_of, receiver_cap, word_receiver, result_form, object_of, member_locals, placed_of}
-use Rattle.pc_core_relation.specs.Methods.{Match, IsType, context_in, IsReceiver, ParamStands, IsForm, IsFunctionResult, IsObject, IsResult, SlotsStand, BodyIs, MethodStands}
-use Rattle.pc_core_relation.specs.Files.{IsOwnCap}
+use Rattle.pc_core_relation.specs.Files.{Match, IsType, context_in, IsReceiver, ParamStands, IsForm, IsFunctionResult, IsObject, IsResult, SlotsStand, BodyIs, MethodStands, IsOwnCap}
 use Rattle.pc_core_relation.proofs.Lists.{match_none}
 
 -- ---- by tables

@@ -4,7 +4,7 @@ use Rattle.std.specs.Prelude.{slice_get, nat_lt, codes}
 use Rattle.std.specs.Str.{bytes_eq}
 use Rattle.std.proofs.lemmas.Bool.{lt-ltb, le-ltb, and_parts}
 use Rattle.std.proofs.lemmas.Option.{same_Some, none-some}
-use Rattle.std.proofs.lemmas.List.{length_push, append_assoc}
+use Rattle.std.proofs.lemmas.List.{length_push, length-append, length-map, append_assoc}
 use Rattle.pc_caps.specs.Limits.{field_limit, method_limit}
 use Rattle.pc_lists.specs.Lists.{Has, Differ, Follow, Text}
 use Rattle.pc_lists.proofs.Bools.{true_false}
@@ -18,19 +18,23 @@ use Rattle.pc_tree.specs.Tree as t
 use Rattle.pc_names.specs.declared.fault.NameFault.{NameFault}
 use Rattle.pc_names.specs.declared.fault.NameFault.TheVariants as fault
 use Rattle.pc_names.specs.declared.fault.Which.TheVariants as which
-use Rattle.pc_members.specs.MemberLists.{is_among, with_name, with_traits, trait_names}
-use Rattle.pc_members.specs.Members.{built_in_names, texts_of, entity_names, field_texts, method_texts, has_added, IsTransitiveClosure, added_text, own_texts}
+use Rattle.pc_members.specs.MemberLists.{is_among, members, with_name, with_traits, trait_names}
+use Rattle.pc_members.specs.Members.{built_in_names, texts_of, entity_names, field_texts, method_texts, has_added, IsTransitiveClosure, own_texts}
+use Rattle.pc_members.specs.Parts.{added_text}
 use Rattle.pc_members.specs.Founded.{IsFounded}
 use Rattle.pc_members.specs.Edges.{has_number}
 use Rattle.pc_members.proofs.Completed.{among_parts}
 use Rattle.pc_members.proofs.Differences.{among_has, equal_texts, has_among, same_text}
 use Rattle.pc_members.proofs.Reaches.{has_in, in_get}
-use Rattle.pc_names.specs.Faults.{where_, either_fault, type_faults, result_faults, provided_faults, field_faults, param_faults, signature_faults, method_faults, is_member_name, added_faults, entity_faults, entities_faults, entity_name_faults, declaration_faults, known_limit, count_faults, method_count, cycle_faults, main_faults, name_faults}
+use Rattle.pc_names.specs.Faults.{either_fault, type_faults, provided_faults, field_faults, param_faults, signature_faults, method_faults, added_faults, entity_faults, entity_name_faults, declaration_faults, count_faults, cycle_faults, main_faults, name_faults}
+use Rattle.pc_names.specs.Parts.{where_, result_faults, is_member_name, entities_faults, known_limit, method_count}
 use Rattle.pc_names.specs.Mains.{is_main}
 use Rattle.pc_names.proofs.CycleFirsts.{bad}
 use Rattle.pc_names.proofs.Founded.{Adds}
+use Rattle.pc_file_spec.specs.Cores.{owned, members_from}
 use Rattle.pc_file_spec.proofs.Entities.{own_entity}
-use Rattle.pc_core_relation.specs.Files.{NamesTrait, param_texts, SignatureIsRight, DeclarationsAreRight, NamesAreRight}
+use Rattle.pc_core_relation.specs.Files.{NamesTrait, SignatureIsRight, DeclarationsAreRight, NamesAreRight}
+use Rattle.pc_core_relation.specs.Parts.{param_texts}
 
 -- ---- lists of no faults
 
@@ -247,6 +251,18 @@ no_counts all (e ∷ es) (run ∷ runs) n at last l f s few h =
     none_both (where_ (nat_lt method_limit (n + method_count all e)) (fault.TooMany which.Methods e.name.span)) (count_faults all (n + method_count all e) es)
     (no_where (nat_lt method_limit (n + method_count all e)) (fault.TooMany which.Methods e.name.span) (le-ltb method_limit (n + method_count all e) within))
     (no_counts all es runs (n + method_count all e) (at + run.1) last (omega (arith, l)) f.1 next few (λ i x r g k. h (suc i) x r g k))
+
+-- The same, given how many members they have together.
+pub few_counts : (all es : List t.Entity) (n k : ℕ) → n + length (members_from all k es) ≤ method_limit → count_faults all n es ≡ []
+few_counts all [] n k l = refl
+few_counts all (e ∷ es) n k l =
+    let own : length (map (owned k e) (members all e)) ≡ method_count all e = length-map (members all e) (owned k e) in
+    let sum : length (map (owned k e) (members all e) ++ members_from all (suc k) es) ≡ length (map (owned k e) (members all e)) + length (members_from all (suc k) es) = length-append (map (owned k e) (members all e)) (members_from all (suc k) es) in
+    let within : n + method_count all e ≤ method_limit = omega (arith, own, sum, l) in
+    let rest : n + method_count all e + length (members_from all (suc k) es) ≤ method_limit = omega (arith, own, sum, l) in
+    none_both (where_ (nat_lt method_limit (n + method_count all e)) (fault.TooMany which.Methods e.name.span)) (count_faults all (n + method_count all e) es)
+    (no_where (nat_lt method_limit (n + method_count all e)) (fault.TooMany which.Methods e.name.span) (le-ltb method_limit (n + method_count all e) within))
+    (few_counts all es (n + method_count all e) (suc k) rest)
 
 -- ---- Main
 

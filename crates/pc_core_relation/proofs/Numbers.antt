@@ -12,7 +12,7 @@ use Rattle.pc_body_spec.specs.Fold.{and_then, put, puts, push}
 use Rattle.pc_caps.specs.Limits.{node_limit}
 use Rattle.pc_body_spec.specs.Laws.{WasPut}
 use Rattle.pc_body_spec.proofs.PostOrders.{Parts, parts, Pushed, pushed, AllStand, post, posts}
-use Rattle.pc_core_relation.specs.Methods.{IsNumbered, AreNumbered}
+use Rattle.pc_core_relation.specs.Files.{IsNumbered, AreNumbered}
 use Rattle.pc_core_relation.proofs.Lists.{take_count}
 use Rattle.pc_core_relation.specs.Laws.{WhatIsPutIsNumbered, WhatIsNumberedIsPut}
 

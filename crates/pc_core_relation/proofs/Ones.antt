@@ -23,7 +23,8 @@ use Rattle.pc_core.specs.declared.nodes.Slot.{Slot}
 use Rattle.pc_core.specs.CoreData.{CoreData, own_methods}
 use Rattle.pc_core.specs.Entities.{print_method, built_in, built_in_value, out_field}
 use Rattle.pc_members.specs.Members as words
-use Rattle.pc_members.specs.Members.{built_in_names, entity_names, or_nil, Member}
+use Rattle.pc_members.specs.Members.{built_in_names, entity_names, Member}
+use Rattle.pc_members.specs.Parts.{or_nil}
 use Rattle.pc_members.specs.Founded.{IsFounded}
 use Rattle.pc_members.specs.Edges.{entity_numbers}
 use Rattle.pc_tree.specs.Kinds.{first_own}
@@ -35,8 +36,9 @@ use Rattle.pc_file_spec.proofs.Tables.{language_kept, texts_differ}
 use Rattle.pc_file_spec.proofs.Owners.{starts, entity_at, methods_run, members_follow, Owner, owner_of}
 use Rattle.pc_file_spec.proofs.Collects.{Collects, collects}
 use Rattle.pc_file_spec.proofs.Parts.{slots_run, nodes_run}
-use Rattle.pc_core_relation.specs.Methods.{Match, EntityHasName, constructors_among, seen_entity, seen_entities, MethodStands}
-use Rattle.pc_core_relation.specs.Files.{FieldStands, EntityStands, IsCoreOf, above_of}
+use Rattle.pc_core_relation.specs.Files.{Match, EntityHasName, constructors_among, seen_entity, MethodStands, FieldStands, EntityStands, IsCoreOf}
+use Rattle.pc_core_relation.specs.Parts.{seen_entities}
+use Rattle.pc_core_relation.specs.Parts.{above_of}
 use Rattle.pc_core_relation.specs.Laws.{StandingCoresAreMade, StandingCoresAreOne}
 use Rattle.pc_core_relation.proofs.Lists.{match_one, range_count}
 use Rattle.pc_core_relation.proofs.Texts.{firsts_are_texts}

@@ -14,15 +14,18 @@ use Rattle.pc_tree.specs.Tree as t
 use Rattle.pc_names.specs.declared.fault.NameFault.{NameFault}
 use Rattle.pc_names.specs.declared.fault.NameFault.TheVariants as fault
 use Rattle.pc_members.specs.MemberLists.{is_among, trait_names}
-use Rattle.pc_members.specs.Members.{built_in_names, entity_names, field_texts, method_texts, has_added, added_text, own_texts}
+use Rattle.pc_members.specs.Members.{built_in_names, entity_names, field_texts, method_texts, has_added, own_texts}
+use Rattle.pc_members.specs.Parts.{added_text}
 use Rattle.pc_members.proofs.Completed.{among_parts}
 use Rattle.pc_members.proofs.Differences.{differ_push, equal_texts}
 use Rattle.pc_members.proofs.Named.{is_trait_named}
-use Rattle.pc_names.specs.Faults.{where_, either_fault, type_faults, provided_faults, field_faults, param_faults, signature_faults, method_faults, added_faults, entity_faults, entities_faults, entity_name_faults, declaration_faults, main_faults, NamesData, Collected}
+use Rattle.pc_names.specs.Faults.{either_fault, type_faults, provided_faults, field_faults, param_faults, signature_faults, method_faults, added_faults, entity_faults, entity_name_faults, declaration_faults, main_faults, NamesData, Collected}
+use Rattle.pc_names.specs.Parts.{where_, entities_faults}
 use Rattle.pc_names.specs.Mains.{is_main}
 use Rattle.pc_names.proofs.Founded.{where_none, either_none, Adds, adds_differ, collected_founded}
 use Rattle.pc_file_spec.proofs.Collects.{Sound, Collects, collects}
-use Rattle.pc_core_relation.specs.Files.{param_texts, SignatureIsRight, DeclarationsAreRight, NamesAreRight}
+use Rattle.pc_core_relation.specs.Files.{SignatureIsRight, DeclarationsAreRight, NamesAreRight}
+use Rattle.pc_core_relation.specs.Parts.{param_texts}
 
 -- ---- names in an `is` list, and of parameters
 

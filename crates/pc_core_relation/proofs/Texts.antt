@@ -12,9 +12,10 @@ use Rattle.pc_members.specs.Members.{field_texts, method_texts}
 use Rattle.pc_members.proofs.Tables.{names_in_parts}
 use Rattle.pc_members.proofs.Differences.{among_has, has_among}
 use Rattle.pc_names.specs.Faults.{with_members}
-use Rattle.pc_body_spec.specs.Texts.{entities_texts}
+use Rattle.pc_body_spec.specs.Slots.{entities_texts}
 use Rattle.pc_file_spec.specs.Cores.{texts_of_file}
-use Rattle.pc_core_relation.specs.Files.{declared_texts, needed_texts, AppearsBefore, AreFirsts}
+use Rattle.pc_core_relation.specs.Files.{needed_texts, AppearsBefore, AreFirsts}
+use Rattle.pc_core_relation.specs.Parts.{declared_texts}
 use Rattle.pc_core_relation.proofs.Lists.{only_one, one_order}
 
 -- ---- a list that grows

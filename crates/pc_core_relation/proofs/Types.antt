@@ -12,13 +12,14 @@ use Rattle.pc_tree.specs.declared.written_names.TypeRef.{TypeRef}
 use Rattle.pc_core.specs.declared.declarations.EntityDef.{EntityDef}
 use Rattle.pc_core.specs.CoreData.{CoreData}
 use Rattle.pc_members.specs.Edges.{entity_numbers}
-use Rattle.pc_body_spec.specs.Scopes.{KnownEntity}
-use Rattle.pc_body_spec.specs.Slots.{cap_or}
+use Rattle.pc_body_spec.specs.Bodies.{KnownEntity}
+use Rattle.pc_body_spec.specs.Parts.{cap_or}
 use Rattle.pc_body_spec.specs.Fold.{type_of_name}
 use Rattle.pc_file_spec.specs.Cores.{or_value, type_in}
 use Rattle.pc_file_spec.proofs.Aboves.{get_position}
 use Rattle.pc_members.proofs.Differences.{equal_texts, same_text}
-use Rattle.pc_core_relation.specs.Methods.{Match, IsType, seen_entity, seen_entities}
+use Rattle.pc_core_relation.specs.Files.{Match, IsType, seen_entity}
+use Rattle.pc_core_relation.specs.Parts.{seen_entities}
 use Rattle.pc_core_relation.proofs.Lists.{match_none, match_cons, match_rest}
 
 -- ---- what is found

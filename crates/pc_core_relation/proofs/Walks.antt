@@ -19,15 +19,15 @@ use Rattle.pc_core.specs.CoreData.{CoreData, own_slots, node_end}
 use Rattle.pc_core.specs.Entities.{param_slot, this_slot}
 use Rattle.pc_members.specs.Members.{Member, written, added, member_text}
 use Rattle.pc_members.specs.MemberLists.{member_span, members}
-use Rattle.pc_body_spec.specs.Bodies.{Rose}
+use Rattle.pc_body_spec.specs.Bodies.{Rose, Context, KnownEntity, text_from}
 use Rattle.pc_body_spec.specs.Fold.{put, local_slot}
 use Rattle.pc_caps.specs.Limits.{node_limit}
-use Rattle.pc_body_spec.specs.Scopes.{Context, KnownEntity, text_from}
 use Rattle.pc_body_spec.specs.Methods.{unless_fault, unless_name, unless_full, numbered_or_full, put_body}
 use Rattle.pc_file_spec.specs.Cores.{Owned, texts_of_file, known_of, context_of, slots_from, member_locals, params_of, own_this, kind_of, receiver_cap, result_of, declared, Parts, outcome, with_outcome, and_member, and_members, if_ok}
 use Rattle.pc_file_spec.proofs.Steps.{member_rose, member_faults, member_names, slots_count}
 use Rattle.pc_file_spec.proofs.Parts.{slots_run, nodes_run}
-use Rattle.pc_core_relation.specs.Methods.{seen_entities, LocalStands, BodyIs}
+use Rattle.pc_core_relation.specs.Files.{LocalStands, BodyIs}
+use Rattle.pc_core_relation.specs.Parts.{seen_entities}
 use Rattle.pc_core_relation.proofs.Lists.{match_one, range_count, take_count, take_run}
 use Rattle.pc_core_relation.proofs.Numbers.{what_is_numbered_is_put, numbered_from}
 use Rattle.pc_core_relation.proofs.Types.{entity_name}

@@ -1,16 +1,165 @@
--- Which core a file has.
-use Rattle.std.specs.Prelude.{◌≡◌, ℕ, ◌≤◌, true, List, ◌++◌, map, length, Some, codes, ◌↔◌, ◌<◌, [], ◌∷◌, slice_get, false, ◌+◌, Option, ◌-◌, ◌^◌}
-use Rattle.pc_caps.specs.{Limits.entity_limit, Limits.field_limit, Limits.method_limit, Limits.node_limit, declared.capability.Cap.Cap}
-use Rattle.pc_lists.specs.Lists.{Has, Differ, Text, Each, Follow}
-use Rattle.pc_tree.specs.{declared.file.ParamDef.ParamDef, declared.written_names.Name.Name, declared.written_names.TypeRef.TypeRef, Kinds.is_abstract, Kinds.first_own, declared.kinds.EntityKind.EntityKind}
-use Rattle.pc_members.specs.Members.{entity_names, field_texts, InCycle, own_texts, method_texts, has_added, Member, written, without_body, is_takable, added_if, IsTransitiveClosure}
+-- Which core a file has, and which method of a finished core represents a member of an entity.
+use Rattle.std.specs.Prelude.{◌≡◌, ℕ, List, length, Some, slice_get, ◌↔◌, Option, None, ◌+◌, [], ◌∷◌, suc, Bool, true, false, map, if◌then◌else◌, ◌≤◌, ◌++◌, codes, unwrap_or, ◌<◌, ◌-◌, ◌^◌, flat_map}
+use Rattle.pc_caps.specs.{declared.capability.Cap.Cap, Tables.plain, Tables.unalias, declared.capability.Form.Form, Limits.slot_limit, Limits.entity_limit, Limits.field_limit, Limits.method_limit, Limits.node_limit}
+use Rattle.pc_tree.specs.{declared.written_names.Name.Name, declared.written_names.TypeRef.TypeRef, declared.kinds.EntityKind.EntityKind, declared.kinds.MethodWord.MethodWord, declared.file.ParamDef.ParamDef, Kinds.none_entity, Kinds.at_kind, Kinds.is_abstract, Kinds.first_own}
+use Rattle.pc_core.specs.{declared.declarations.EntityDef.EntityDef, CoreData.CoreData, CoreData.own_methods, CoreData.own_slots, declared.nodes.Node.Node, declared.declarations.Method.Method, declared.declarations.MethodKind.MethodKind, declared.declarations.ParamInfo.ParamInfo, declared.nodes.Slot.Slot, Entities.constructor_kind, Entities.word_kind, Entities.this_slot, Entities.param_slot, declared.declarations.FieldInfo.FieldInfo, CoreData.node_end, Entities.HasBuiltIn}
+use Rattle.pc_body_spec.specs.{Slots.Local, Slots.added_slots, Slots.initial_locals, Slots.local_kind, Slots.method_locals, Slots.slots_of, Bodies.Rose, Bodies.Roses, Bodies.rose, Bodies.more as and_more, Bodies.no_roses, Bodies.node_of, Bodies.body_of, Bodies.added_body, Bodies.Context, Bodies.KnownEntity, Bodies.Constructor, Bodies.PlacedLocal, Faults.body_faults, Faults.initial_faults, Slots.entities_texts}
+use Rattle.pc_lists.specs.Lists.{Text, Has, Differ, Each, Follow, one_if}
+use Rattle.pc_members.specs.Members.{field_texts, Member, member_text, written, added, entity_names, InCycle, own_texts, method_texts, has_added, without_body, is_takable, IsTransitiveClosure}
 use Rattle.pc_names.specs.Mains.{is_main}
-use Rattle.pc_body_spec.specs.{Texts.entities_texts, Slots.cap_or}
-use Rattle.pc_core.specs.{declared.declarations.EntityDef.EntityDef, declared.declarations.FieldInfo.FieldInfo, declared.declarations.Method.Method, CoreData.CoreData, CoreData.node_end, Entities.HasBuiltIn}
-use Rattle.pc_core_relation.specs.Methods.{Match, EntityHasName, IsType, MethodStands}
 use Rattle.pc_tree.specs.Tree as t
+use Rattle.pc_core.specs.declared.declarations.MethodKind.TheVariants as method
 use Rattle.pc_caps.specs.declared.capability.Cap.TheVariants as cap
-use Rattle.pc_tree.specs.declared.kinds.EntityKind.TheVariants as kind
+use Rattle.pc_caps.specs.declared.capability.Form.TheVariants as form
+use Rattle.pc_tree.specs.declared.kinds.MethodWord.TheVariants as word
+
+-- The lists are equally long, and their elements at each place are related in this way.
+abbrev pub Match : {A B : Type 0} → (A → B → Type 0) → List A → List B → Type 0
+Match {A} {B} R xs ys = (length xs ≡ length ys) × ((i : ℕ) (x : A) (y : B) → slice_get xs i ≡ Some x → slice_get ys i ≡ Some y → R x y)
+
+-- ---- what a type written in a file is in a finished core
+
+-- Entity number e has this name.
+abbrev pub EntityHasName : CoreData → Name → ℕ → Type 0
+EntityHasName core n e = (x : EntityDef) × (slice_get core.entities e ≡ Some x) × (x.name ≡ n.text)
+
+-- A type: the entity with its name, and the capability that is written, or else that of the entity.
+abbrev pub IsType : CoreData → TypeRef → ℕ × Cap → Type 0
+IsType core ty p = (x : EntityDef) × (slice_get core.entities p.0 ≡ Some x) × (x.name ≡ ty.name.text) × (p.1 ≡ unwrap_or ty.cap x.cap)
+
+-- The same for an optional type: if none is written, there is none.
+abbrev pub IsWritten : CoreData → Option TypeRef → Option (ℕ × Cap) → Type 0
+IsWritten core None w = w ≡ None
+IsWritten core (Some ty) w = (p : ℕ × Cap) → (w ≡ Some p) ↔ IsType core ty p
+
+-- The nodes of a rose of method m have exactly the numbers from `from` to n: first come those of its children, one
+-- child after the other in the order of evaluation, and then its own, number n, which has the rose's kind, span and
+-- depth, and refers to the children by their numbers.
+abbrev mutual
+  pub IsNumbered : List Node → (m from : ℕ) → Rose → (n : ℕ) → Type 0
+  IsNumbered nodes m from (rose k s d rs) n = (ks : List ℕ) × AreNumbered nodes m from rs ks n × (slice_get nodes n ≡ Some (node_of m k s d ks))
+
+  -- Roses whose own nodes have these numbers take the numbers from `from` up to, but not including, `next`.
+  pub AreNumbered : List Node → (m from : ℕ) → Roses → (ks : List ℕ) → (next : ℕ) → Type 0
+  AreNumbered nodes m from no_roses ks next = (ks ≡ []) × (from ≡ next)
+  AreNumbered nodes m from (and_more r rs) ks next = (k : ℕ) × (rest : List ℕ) × (ks ≡ k ∷ rest) × IsNumbered nodes m from r k × AreNumbered nodes m (k + 1) rs rest next
+
+-- ---- what the body of a method knows of a finished core
+
+-- A method of this kind makes an object.
+abbrev pub makes : MethodKind → Bool
+makes method.Fun = false
+makes method.Be = false
+makes method.New = true
+makes method.Spawn = true
+
+-- The constructors among these methods, the first of which has this number.
+abbrev pub constructors_among : List Text → ℕ → List Method → List Constructor
+constructors_among names at [] = []
+constructors_among names at (m ∷ ms) = if makes m.kind then record { name = unwrap_or (slice_get names m.name) []; method = at } ∷ constructors_among names (suc at) ms else constructors_among names (suc at) ms
+
+-- An entity of the core, with its constructors.
+abbrev pub seen_entity : CoreData → EntityDef → KnownEntity
+seen_entity core x = record { name = x.name; kind = x.kind; cap = x.cap; constructors = constructors_among core.names x.first_method (own_methods core x) }
+
+-- What the body of a member knows: the names of its entity's fields and of these members, the entities and texts of the
+-- core, and for each of its locals, by the place of its name, the slot.
+abbrev pub context_in : CoreData → List Member → t.Entity → List PlacedLocal → Context
+context_in core members e slots = record {
+  fields = field_texts e.fields;
+  methods = map member_text members;
+  entities = map (seen_entity core) core.entities;
+  texts = core.names;
+  slots = slots;
+}
+
+-- ---- receivers, parameters and results
+
+-- `this` is `box` in a function without a written capability, and `ref` in behaviours and constructors.
+abbrev pub IsReceiver : t.Method → MethodWord → Cap → Type 0
+IsReceiver w word.Fun k = k ≡ unwrap_or w.cap cap.Box
+IsReceiver w word.Be k = k ≡ cap.Ref
+IsReceiver w word.New k = k ≡ cap.Ref
+
+pub record ParamStands (core : CoreData) (p : ParamDef) (x : ParamInfo) : Type 0 where
+  pub ty : IsType core p.ty (x.entity, x.cap)
+  pub span : x.span ≡ p.name.span
+
+-- With `^` no place holds the value yet.
+abbrev pub IsForm : (hat : Bool) → Cap → Form → Type 0
+IsForm true k f = f ≡ unalias k
+IsForm false k f = f ≡ plain k
+
+-- A function returns what is written, or else None.
+abbrev pub IsFunctionResult : CoreData → Option TypeRef → ℕ × Form → Type 0
+IsFunctionResult core None r = r ≡ (none_entity, form.Val)
+IsFunctionResult core (Some ty) r = (k : Cap) × IsType core ty (r.0, k) × IsForm ty.hat k r.1
+
+-- A new object of entity n: an actor is `tag`, and an object of a class has the capability that its constructor gives
+-- it, and is in no place yet. Only classes and actors have constructors; the other kinds are never asked about.
+abbrev pub IsObject : EntityKind → (n : ℕ) → Cap → ℕ × Form → Type 0
+IsObject e n k r = r ≡ (n, at_kind (unalias k) form.Tag (unalias k) (unalias k) (unalias k) e)
+
+-- A behaviour returns None. A constructor returns a new object of its entity: with the capability that is written for
+-- it, or else as `ref`.
+abbrev pub IsResult : CoreData → EntityKind → (n : ℕ) → t.Method → MethodWord → ℕ × Form → Type 0
+IsResult core k n w word.Fun r = IsFunctionResult core w.result r
+IsResult core k n w word.Be r = r ≡ (none_entity, form.Val)
+IsResult core k n w word.New r = IsObject k n (unwrap_or w.cap cap.Ref) r
+
+-- Slot x represents a local of method m.
+pub record LocalStands (core : CoreData) (m : ℕ) (l : Local) (x : Slot) : Type 0 where
+  pub method : x.method ≡ m
+  pub kind : x.kind ≡ local_kind l.fixed
+  pub depth : x.depth ≡ l.depth
+  pub written : IsWritten core l.ty x.written
+
+-- The slots of method m, which is x: `this`, the parameters, and these locals in the order of the text.
+abbrev pub SlotsStand : CoreData → (m : ℕ) → Method → List Local → Type 0
+SlotsStand core m x locals = (slots : List Slot) × (own_slots core x ≡ this_slot m x ∷ map (param_slot m) x.params ++ slots) × Match (LocalStands core m) locals slots
+
+-- The nodes from the method's first one up to its body are those of the rose, and there is no body if there is no rose.
+abbrev pub BodyIs : CoreData → (m : ℕ) → Method → Option Rose → Type 0
+BodyIs core m x None = x.body ≡ None
+BodyIs core m x (Some r) = (b : ℕ) × (x.body ≡ Some b) × IsNumbered core.nodes m x.first_node r b
+
+-- ---- methods
+
+-- Method number m of the core, which is x, represents a written method that is a member of entity number n of the core,
+-- which has these members. Its body has no fault.
+pub record WrittenStands (core : CoreData) (members : List Member) (n : ℕ) (e : t.Entity) (w : t.Method) (m : ℕ) (x : Method) : Type 0 where
+  pub name : slice_get core.names x.name ≡ Some w.name.text
+  pub kind : x.kind ≡ word_kind e.kind w.word
+  pub receiver : IsReceiver w w.word x.receiver
+  pub params : Match (ParamStands core) w.params x.params
+  pub result : IsResult core e.kind n w w.word x.result
+  pub span : x.span ≡ w.name.span
+  pub slots : SlotsStand core m x (method_locals e.fields w)
+  pub no_fault : body_faults (context_in core members e (slots_of e.fields w)) e.fields w ≡ []
+  pub body : BodyIs core m x (body_of (context_in core members e (slots_of e.fields w)) e.fields w)
+
+-- It represents the `create` that is added to that entity: with the entity's name as its span, without parameters. An
+-- object of a class is returned as `iso^`, an actor as `tag`.
+pub record AddedStands (core : CoreData) (members : List Member) (n : ℕ) (e : t.Entity) (m : ℕ) (x : Method) : Type 0 where
+  pub name : slice_get core.names x.name ≡ Some (codes "create")
+  pub kind : x.kind ≡ constructor_kind e.kind
+  pub receiver : x.receiver ≡ cap.Ref
+  pub params : x.params ≡ []
+  pub result : IsObject e.kind n cap.Iso x.result
+  pub span : x.span ≡ e.name.span
+  pub slots : SlotsStand core m x (initial_locals e.fields)
+  pub no_fault : initial_faults (context_in core members e (added_slots e.fields)) e.fields ≡ []
+  pub body : BodyIs core m x (Some (added_body (context_in core members e (added_slots e.fields)) e.fields e.name.span))
+
+abbrev pub MemberStands : CoreData → List Member → (n : ℕ) → t.Entity → Member → (m : ℕ) → Method → Type 0
+MemberStands core members n e (written w) m x = WrittenStands core members n e w m x
+MemberStands core members n e added m x = AddedStands core members n e m x
+
+-- It represents that member.
+pub record MethodStands (core : CoreData) (members : List Member) (n : ℕ) (e : t.Entity) (member : Member) (m : ℕ) (x : Method) : Type 0 where
+  pub entity : x.entity ≡ n
+  pub few_slots : x.slots ≤ slot_limit
+  pub stands : MemberStands core members n e member m x
 
 -- ---- the names and declarations of a file without faults
 
@@ -22,12 +171,9 @@ NamesEntity file n = Has (entity_names file) n.text
 abbrev pub NamesTrait : t.File → Name → Type 0
 NamesTrait file n = (e : t.Entity) × Has file.entities e × (is_abstract e.kind ≡ true) × (e.name.text ≡ n.text)
 
-abbrev pub param_texts : List ParamDef → List Text
-param_texts ps = map (λ (p : ParamDef). p.name.text) ps
-
 -- A method of an entity with these fields. The names of its parameters differ, and none is that of a field.
 pub record SignatureIsRight (file : t.File) (fields : List t.Field) (m : t.Method) : Type 0 where
-  pub names : Differ (field_texts fields ++ param_texts m.params)
+  pub names : Differ (field_texts fields ++ map (λ (p : ParamDef). p.name.text) m.params)
   pub params : (p : ParamDef) → Has m.params p → NamesEntity file p.ty.name
   pub result : (ty : TypeRef) → m.result ≡ Some ty → NamesEntity file ty.name
 
@@ -51,14 +197,12 @@ pub record NamesAreRight (file : t.File) : Type 0 where
 
 -- ---- the texts that a file needs, and a list of them
 
--- The names of the fields and methods, entity by entity.
-abbrev pub declared_texts : List t.Entity → List Text
-declared_texts [] = []
-declared_texts (e ∷ es) = (field_texts e.fields ++ method_texts e.methods) ++ declared_texts es
-
--- All of them in order: the built-in ones, those that are declared, and the names after a `.`.
+-- All of them in order: the built-in ones, the names of the fields and methods, entity by entity, and the names after
+-- a `.`.
 abbrev pub needed_texts : t.File → List Text
-needed_texts file = (codes "out" ∷ codes "print" ∷ codes "create" ∷ codes "apply" ∷ []) ++ (declared_texts file.entities ++ entities_texts file.entities)
+needed_texts file =
+    (codes "out" ∷ codes "print" ∷ codes "create" ∷ codes "apply" ∷ [])
+    ++ (flat_map (λ (e : t.Entity). field_texts e.fields ++ method_texts e.methods) file.entities ++ entities_texts file.entities)
 
 -- In a list one text appears before another.
 abbrev pub AppearsBefore : List Text → Text → Text → Type 0
@@ -68,8 +212,6 @@ AppearsBefore all x y = (p : ℕ) × (slice_get all p ≡ Some x) × ((q : ℕ) 
 pub record AreFirsts (all names : List Text) : Type 0 where
   pub same : (x : Text) → Has names x ↔ Has all x
   pub order : (i j : ℕ) (x y : Text) → i < j → slice_get names i ≡ Some x → slice_get names j ≡ Some y → AppearsBefore all x y
-
--- ---- the first of several methods with the same name
 
 -- Of the methods with a property, the one at this place of a list is the first with its name.
 pub record IsFirstOfName (P : t.Method → Type 0) (all : List t.Method) (place : ℕ) (m : t.Method) : Type 0 where
@@ -102,8 +244,6 @@ mutual
     more : {n : Name} {ns : List Name} {ms rest : List t.Method} (f : t.Entity) → Has file.entities f → f.name.text ≡ n.text → HasMethods file f ms
         → Gives file ns rest → Gives file (n ∷ ns) (ms ++ rest)
 
--- ---- all entities
-
 -- Another entity takes over a method that has a body, is allowed in the entity, and has none of the entity's own names.
 abbrev pub MayTake : t.Entity → t.Method → Type 0
 MayTake e m = (is_takable e.kind m ≡ true) × (Has (own_texts e) m.name.text → ⊥)
@@ -114,17 +254,13 @@ MayTake e m = (is_takable e.kind m ≡ true) × (Has (own_texts e) m.name.text �
 pub data HasMembers (file : t.File) (e : t.Entity) : List Member → Type 0 where
   bodiless : {ms : List t.Method} → is_abstract e.kind ≡ true → HasMethods file e ms → HasMembers file e (map (λ m. written (without_body m)) ms)
   with_bodies : {given taken : List t.Method} → is_abstract e.kind ≡ false → Gives file e.provides given → AreFirstOfNames (MayTake e) given taken
-      → HasMembers file e (map written e.methods ++ (added_if (has_added e) ++ map written taken))
+      → HasMembers file e (map written e.methods ++ (one_if (has_added e) added ++ map written taken))
 
 -- ---- which entity of a finished core represents an entity of a file
 
 -- The capability of an entity's type: that of its declaration, for classes, traits and interfaces, or else `ref`.
 abbrev pub IsOwnCap : EntityKind → Option Cap → Cap → Type 0
-IsOwnCap kind.Class given k = k ≡ cap_or given cap.Ref
-IsOwnCap kind.Trait given k = k ≡ cap_or given cap.Ref
-IsOwnCap kind.Interface given k = k ≡ cap_or given cap.Ref
-IsOwnCap kind.Actor given k = k ≡ cap.Tag
-IsOwnCap kind.Primitive given k = k ≡ cap.Val
+IsOwnCap e given k = k ≡ at_kind (unwrap_or given cap.Ref) cap.Tag cap.Val (unwrap_or given cap.Ref) (unwrap_or given cap.Ref) e
 
 pub record FieldStands (core : CoreData) (f : t.Field) (x : FieldInfo) : Type 0 where
   pub name : slice_get core.names x.name ≡ Some f.name.text
@@ -146,16 +282,10 @@ pub record EntityStands (file : t.File) (core : CoreData) (n : ℕ) (e : t.Entit
   pub count : x.methods ≡ length members
   pub methods : Each (λ j member. (y : Method) × (slice_get core.methods (x.first_method + j) ≡ Some y) × MethodStands core members n e member (x.first_method + j) y) members
 
--- ---- the core of a file
-
--- For each entity of a core, those above it.
-abbrev pub above_of : CoreData → List (List ℕ)
-above_of core = map (λ x. x.above) core.entities
-
 -- This is the core of this file.
 pub record IsCoreOf (file : t.File) (core : CoreData) : Type 0 where
   -- there are the built-in entities and those of the file, and above each is what chains of `is` lead to
-  pub above : IsTransitiveClosure file (above_of core)
+  pub above : IsTransitiveClosure file (map (λ x. x.above) core.entities)
   -- the names and declarations of the file have no fault
   pub names_are_right : NamesAreRight file
   -- the texts, each once

@@ -7,7 +7,7 @@ use Rattle.pc_names.specs.{declared.fault.NameFault.NameFault, Faults.NamesData,
 use Rattle.pc_body_spec.specs.{Bodies.Rose, Fold.put}
 use Rattle.pc_caps.specs.Limits.{node_limit}
 use Rattle.pc_file_spec.specs.Cores.{texts_of_file, Stands, IsElabFault}
-use Rattle.pc_core_relation.specs.{Files.HasMembers, Files.IsCoreOf, Methods.IsNumbered}
+use Rattle.pc_core_relation.specs.{Files.HasMembers, Files.IsCoreOf, MemberFaults.IsMemberFault, Files.IsNumbered}
 use Rattle.pc_tree.specs.Tree as t
 
 -- A rose appended to some nodes is numbered there from their count on, and its own node is the last.
@@ -43,3 +43,7 @@ CoreStandsOrFault = (file : t.File) (names : NamesData) → Collected file names
 
 abbrev pub StandingHasNoFault : Type 0
 StandingHasNoFault = (file : t.File) (core : CoreData) (f : NameFault) → IsCoreOf file core → IsElabFault file f → ⊥
+
+-- The fault at which the making of a core stops, member by member, is the first fault of the file's members.
+abbrev pub MemberFaultsAreFirst : Type 0
+MemberFaultsAreFirst = (file : t.File) (f : NameFault) → IsElabFault file f ↔ IsMemberFault file f

@@ -1,3 +1,4 @@
-pub mod Methods
 pub mod Files
+pub mod MemberFaults
 pub mod Laws
+pub mod Parts

@@ -1,5 +1,5 @@
 //! Laws of the definitions. Each call does nothing, and its contract is the law.
-ghost use Rattle.pc_core_relation.specs.Laws.{CoreStandsOrFault, MadeCoresStand, MembersAreComputed, StandingCoresAreMade, StandingCoresAreOne, StandingHasNoFault, WhatIsNumberedIsPut, WhatIsPutIsNumbered};
+ghost use Rattle.pc_core_relation.specs.Laws.{CoreStandsOrFault, MadeCoresStand, MemberFaultsAreFirst, MembersAreComputed, StandingCoresAreMade, StandingCoresAreOne, StandingHasNoFault, WhatIsNumberedIsPut, WhatIsPutIsNumbered};
 
 use pc_file_spec::cores_are_one;
 
@@ -35,3 +35,8 @@ pub fn core_stands_or_fault()
 {
     cores_are_one();
 }
+
+/// The fault at which the making of a core stops is the first fault of the file's members.
+pub fn member_faults_are_first()
+    ensures { MemberFaultsAreFirst }
+{}

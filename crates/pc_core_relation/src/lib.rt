@@ -3,7 +3,8 @@
 //! Proved: `IsCoreOf` states, of the lists of a core, what each of their parts represents in a file, without saying how
 //! the lists are computed. The core computed from a file, member by member, is its core (`made_cores_stand`), and no
 //! other core is (`standing_cores_are_made`). A file whose names have no fault, with fewer than 2^32 texts, has a core
-//! or a fault of its members (`core_stands_or_fault`). The members of an entity are stated without a bound on chains of
+//! or a fault of its members (`core_stands_or_fault`). That fault is the first of all faults of its members, in the
+//! order of their numbers (`member_faults_are_first`). The members of an entity are stated without a bound on chains of
 //! `is`, and are those that are computed (`members_are_computed`). A body's nodes are numbered as they are appended
 //! (`nodes_are_numbered`).
 //!
@@ -13,6 +14,6 @@
 mod laws;
 
 pub use laws::{
-    core_stands_or_fault, made_cores_stand, members_are_computed, nodes_are_numbered,
-    standing_cores_are_made,
+    core_stands_or_fault, made_cores_stand, member_faults_are_first, members_are_computed,
+    nodes_are_numbered, standing_cores_are_made,
 };

@@ -5,7 +5,8 @@ use Rattle.std.specs.List.{AllByRecursion}
 use Rattle.std.proofs.lemmas.List.{drop_more}
 use Rattle.pc_ann.specs.declared.annotation.Ann.{Ann}
 use Rattle.pc_deriv.specs.declared.version.Version.{Version}
-use Rattle.pc_deriv.specs.Text.{each_line, deriv_text, SlotFits, NoteFits, Within, IsText}
+use Rattle.pc_deriv.specs.Text.{deriv_text, SlotFits, NoteFits, Within, IsText}
+use Rattle.pc_deriv.specs.Parts.{each_line}
 
 module _ {A : Type 0} where
   -- one more thing that fits

@@ -15,7 +15,8 @@ use Rattle.pc_ann.specs.declared.annotation.Rule.TheVariants as rule
 use Rattle.pc_ann.specs.declared.annotation.Note.{Note}
 use Rattle.pc_deriv.specs.declared.version.Version.{Version}
 use Rattle.pc_deriv.specs.declared.version.Version.TheVariants as version
-use Rattle.pc_deriv.specs.Text.{version_name, rule_name, cap_name, form_name, blank, slot_line, type_text, mask_text, shown_after, masks_text, note_line, SlotFits, TypeFits, MaskFits, NoteFits, NoLine}
+use Rattle.pc_deriv.specs.Text.{version_name, rule_name, cap_name, form_name, slot_line, type_text, mask_text, shown_after, masks_text, note_line, SlotFits, TypeFits, MaskFits, NoteFits, NoLine}
+use Rattle.pc_deriv.specs.Parts.{blank}
 use Rattle.pc_lists.specs.Lists.{line_end}
 use Rattle.pc_deriv.specs.Reading.{digit_of}
 use Rattle.pc_deriv.specs.Lines.{longest_line}

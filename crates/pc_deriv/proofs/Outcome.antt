@@ -9,7 +9,9 @@ use Rattle.pc_ann.specs.declared.annotation.Ann.{Ann}
 use Rattle.pc_deriv.specs.declared.version.Version.{Version}
 use Rattle.pc_deriv.specs.declared.fault.DerivFault.{DerivFault}
 use Rattle.pc_deriv.specs.declared.fault.DerivFault.TheVariants as fault
-use Rattle.pc_deriv.specs.Text.{derivation_slot_limit, derivation_node_limit, slot_line, note_line, each_line, CountsFit, SlotFits, NoteFits, Within, IsText, BeginsLine, NoLine, BeginsHead, IsBadLine, bad_head, bad_slot, bad_node, bad_end, IsFault, RefusesDerivation}
+use Rattle.pc_deriv.specs.Text.{slot_line, note_line, CountsFit, SlotFits, NoteFits, Within, IsText, BeginsLine, NoLine, BeginsHead, IsBadLine, bad_head, bad_slot, bad_node, bad_end, IsFault}
+use Rattle.pc_deriv.specs.Parts.{derivation_slot_limit, derivation_node_limit, each_line}
+use Rattle.pc_deriv.specs.Parts.{RefusesDerivation}
 use Rattle.pc_deriv.specs.Reading.{head_at, read_slot, note_at}
 use Rattle.pc_deriv.specs.Answers.{AnswersDerivation}
 use Rattle.pc_deriv.proofs.LineReading.{Reads, head_text, HeadFits, head_reads, slot_reads, note_reads}

@@ -4,7 +4,9 @@ use Rattle.std.proofs.lemmas.Bool.{true≢false, eqb-true}
 use Rattle.std.specs.List.{AllByRecursion}
 use Rattle.pc_caps.specs.declared.capability.Cap.{Cap}
 use Rattle.pc_ann.specs.declared.annotation.Note.{Note}
-use Rattle.pc_deriv.specs.Text.{head_line, slot_line, note_line, each_line, SlotFits, NoteFits, Within, IsText, BeginsLine, NoLine, BeginsHead, IsBadLine, bad_head, bad_slot, bad_node, bad_end, IsTooMany, RefusesDerivation}
+use Rattle.pc_deriv.specs.Text.{head_line, slot_line, note_line, SlotFits, NoteFits, Within, IsText, BeginsLine, NoLine, BeginsHead, IsBadLine, bad_head, bad_slot, bad_node, bad_end, IsTooMany}
+use Rattle.pc_deriv.specs.Parts.{each_line}
+use Rattle.pc_deriv.specs.Parts.{RefusesDerivation}
 use Rattle.pc_deriv.specs.Reading.{head_at, read_slot, note_at}
 use Rattle.pc_deriv.specs.declared.version.Version.{Version}
 use Rattle.pc_deriv.specs.declared.fault.DerivFault.{DerivFault}

@@ -13,7 +13,9 @@ use Rattle.pc_deriv.specs.declared.version.Version.TheVariants as version
 use Rattle.pc_deriv.specs.declared.line.Line.{Line}
 use Rattle.pc_deriv.specs.declared.line.Line.TheVariants as line
 use Rattle.pc_deriv.specs.declared.line.LineFault.TheVariants as fault
-use Rattle.pc_deriv.specs.Text.{derivation_slot_limit, derivation_node_limit, version_number, head_line, slot_line, note_line, each_line, CountsFit, SlotFits, NoteFits, Within, IsText, NoLine, IsBadLine, bad_head, bad_slot, bad_node, bad_end, IsTooMany}
+use Rattle.pc_deriv.specs.Text.{head_line, slot_line, note_line, CountsFit, SlotFits, NoteFits, Within, IsText, NoLine, IsBadLine, bad_head, bad_slot, bad_node, bad_end, IsTooMany}
+use Rattle.pc_deriv.specs.Parts.{derivation_slot_limit, derivation_node_limit, each_line}
+use Rattle.pc_deriv.specs.Parts.{version_number}
 use Rattle.pc_deriv.specs.Reading.{head_at, read_slot, note_at}
 use Rattle.pc_deriv.specs.Lines.{longest_line, head_in, slot_line_in, node_in, line_in, within_limits, version_of, version_with, counts_with, is_whole, line_of_slot, lines_of}
 use Rattle.pc_deriv.specs.Pieces.{NoEnd}

@@ -7,3 +7,4 @@ pub mod Front
 pub mod Laws
 pub mod LineState
 pub mod Pieces
+pub mod Parts

@@ -1,35 +1,22 @@
 -- The derivation text of an annotation, in each version.
-use Rattle.std.specs.Prelude.{ℕ, List, codes, ◌<◌, ◌^◌, false, [], ◌∷◌, ◌++◌, length, Option, None, Some, decimal, bit_xor, ⊤, ◌≡◌, ◌+◌, ◌≤◌}
+use Rattle.std.specs.Prelude.{ℕ, List, codes, ◌<◌, ◌^◌, false, ◌++◌, length, Option, None, Some, decimal, bit_xor, ⊤, ◌≡◌, ◌+◌, ◌≤◌, flat_map}
 use Rattle.std.specs.{Fmt.digits, List.AllByRecursion}
-use Rattle.pc_caps.specs.{declared.capability.Cap.Cap, declared.capability.Form.Form}
+use Rattle.pc_caps.specs.{declared.capability.Cap.Cap, declared.capability.Form.Form, Limits.program_slot_limit, Limits.node_limit}
 use Rattle.pc_ann.specs.{declared.annotation.Rule.Rule, declared.annotation.Note.Note, declared.annotation.Ann.Ann}
 use Rattle.pc_deriv.specs.{declared.version.Version.Version, declared.fault.DerivFault.DerivFault}
 use Rattle.pc_lists.specs.Lists.{line_end}
 use Rattle.pc_masks.specs.declared.mask.Mask.{Mask}
-use Rattle.pc_caps.specs.Limits as program
 use Rattle.pc_caps.specs.declared.capability.Cap.TheVariants as cap
 use Rattle.pc_caps.specs.declared.capability.Form.TheVariants as form
 use Rattle.pc_ann.specs.declared.annotation.Rule.TheVariants as rule
 use Rattle.pc_deriv.specs.declared.version.Version.TheVariants as version
 use Rattle.pc_deriv.specs.declared.fault.DerivFault.TheVariants as fault
 
--- ---- the limits of an annotation's text: its bytes, and as many slots and nodes as a program may have
-
 -- the greatest number of bytes of a derivation
 abbrev pub derivation_limit : ℕ
 derivation_limit = 33554432
 
-abbrev pub derivation_slot_limit : ℕ
-derivation_slot_limit = program.program_slot_limit
-
-abbrev pub derivation_node_limit : ℕ
-derivation_node_limit = program.node_limit
-
 -- ---- the names of versions, rules, capabilities and forms
-
-abbrev pub version_number : Version → ℕ
-version_number version.One = 1
-version_number version.Two = 2
 
 abbrev pub version_name : Version → List ℕ
 version_name version.One = codes "1"
@@ -88,21 +75,18 @@ form_name form.Tag = codes "tag"
 
 -- ---- the text
 
-abbrev pub blank : List ℕ
-blank = 32 ∷ []
-
 -- the first line: the format's name and version, the number of slots and that of nodes
 abbrev pub head_line : Version → ℕ × ℕ → List ℕ
-head_line version (slots, nodes) = codes "rcap-derivation " ++ (version_name version ++ (blank ++ (decimal slots ++ (blank ++ (decimal nodes ++ line_end)))))
+head_line version (slots, nodes) = codes "rcap-derivation " ++ (version_name version ++ (codes " " ++ (decimal slots ++ (codes " " ++ (decimal nodes ++ line_end)))))
 
 -- the line of a slot: the number of its entity, and its capability
 abbrev pub slot_line : ℕ × Cap → List ℕ
-slot_line (entity, cap) = codes "s " ++ (decimal entity ++ (blank ++ (cap_name cap ++ line_end)))
+slot_line (entity, cap) = codes "s " ++ (decimal entity ++ (codes " " ++ (cap_name cap ++ line_end)))
 
 -- the type of a node: the number of its entity and its form, or `-` for none
 abbrev pub type_text : Option (ℕ × Form) → List ℕ
 type_text None = codes "-"
-type_text (Some (entity, form)) = decimal entity ++ (blank ++ form_name form)
+type_text (Some (entity, form)) = decimal entity ++ (codes " " ++ form_name form)
 
 -- a mask in hexadecimal
 abbrev pub mask_text : Mask → List ℕ
@@ -117,21 +101,16 @@ shown_after version.Two before after = record { 0 = bit_xor before.0 after.0 }
 -- the masks of a node: live and set before it, and what is written for live and set after it
 abbrev pub masks_text : Version → Note → List ℕ
 masks_text version note =
-    blank ++ (mask_text note.live_before ++ (blank ++ (mask_text note.set_before
-    ++ (blank ++ (mask_text (shown_after version note.live_before note.live_after) ++ (blank ++ (mask_text (shown_after version note.set_before note.set_after) ++ line_end)))))))
+    codes " " ++ (mask_text note.live_before ++ (codes " " ++ (mask_text note.set_before
+    ++ (codes " " ++ (mask_text (shown_after version note.live_before note.live_after) ++ (codes " " ++ (mask_text (shown_after version note.set_before note.set_after) ++ line_end)))))))
 
 -- the line of a node: its rule, its type and its masks
 abbrev pub note_line : Version → Note → List ℕ
-note_line version note = codes "n " ++ (rule_name note.rule ++ (blank ++ (type_text note.ty ++ masks_text version note)))
-
--- the lines of several things, one after the other
-abbrev pub each_line : {A : Type 0} → (A → List ℕ) → List A → List ℕ
-each_line line [] = []
-each_line line (x ∷ xs) = line x ++ each_line line xs
+note_line version note = codes "n " ++ (rule_name note.rule ++ (codes " " ++ (type_text note.ty ++ masks_text version note)))
 
 -- the whole text
 abbrev pub deriv_text : Version → Ann → List ℕ
-deriv_text version ann = head_line version (length ann.slots, length ann.notes) ++ (each_line slot_line ann.slots ++ each_line (note_line version) ann.notes)
+deriv_text version ann = head_line version (length ann.slots, length ann.notes) ++ (flat_map slot_line ann.slots ++ flat_map (note_line version) ann.notes)
 
 -- What can be written: counts and entities' numbers are below 2^32, masks below 2^64.
 abbrev pub CountsFit : ℕ × ℕ → Type 0
@@ -155,9 +134,9 @@ NoteFits note = TypeFits note.ty × MasksFit note
 
 -- ---- when bytes are the text of an annotation, and otherwise the first line that is malformed
 
--- The counts of slots and of nodes are within their limits.
+-- The counts of slots and of nodes are within their limits: as many as a program may have.
 abbrev pub Within : ℕ × ℕ → Type 0
-Within (slots, nodes) = (slots ≤ derivation_slot_limit) × (nodes ≤ derivation_node_limit)
+Within (slots, nodes) = (slots ≤ program_slot_limit) × (nodes ≤ node_limit)
 
 -- The bytes are the annotation's text in some version, and the annotation is within the limits.
 pub record IsText (bytes : List ℕ) (ann : Ann) : Type 0 where
@@ -170,7 +149,7 @@ pub record IsText (bytes : List ℕ) (ann : Ann) : Type 0 where
 -- The text is the lines of these things, followed by the rest.
 pub record BeginsLine {A : Type 0} (line : A → List ℕ) (Fits : A → Type 0) (text : List ℕ) (xs : List A) (rest : List ℕ) : Type 0 where
   pub fit : AllByRecursion Fits xs
-  pub cut : text ≡ each_line line xs ++ rest
+  pub cut : text ≡ flat_map line xs ++ rest
 
 -- The text does not begin with a line of this form.
 abbrev pub NoLine : {A : Type 0} → (A → List ℕ) → (A → Type 0) → List ℕ → Type 0
@@ -207,8 +186,3 @@ abbrev pub IsFault : List ℕ → DerivFault → Type 0
 IsFault bytes (fault.BadLine n) = IsBadLine bytes n
 IsFault bytes fault.TooMany = IsTooMany bytes
 IsFault bytes fault.Memory = ⊥
-
--- The fault of the bytes, or memory ran out.
-abbrev pub RefusesDerivation : List ℕ → DerivFault → Type 0
-RefusesDerivation bytes fault.Memory = ⊤
-RefusesDerivation bytes f = IsFault bytes f

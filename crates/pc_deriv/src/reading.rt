@@ -2,7 +2,9 @@
 ghost use Rattle.std.specs.Prelude.{◌≡◌, ◌≤◌, length, Ok, Err, IfOk, IfErr};
 ghost use Rattle.pc_ann.specs.declared.annotation.Ann.{Ann};
 ghost use Rattle.pc_deriv.specs.declared.fault.DerivFault.{DerivFault};
-ghost use Rattle.pc_deriv.specs.Text.{derivation_slot_limit, derivation_node_limit, slot_line, note_line, SlotFits, NoteFits, IsText, IsFault, RefusesDerivation, BeginsLine};
+ghost use Rattle.pc_deriv.specs.Text.{slot_line, note_line, SlotFits, NoteFits, IsText, IsFault, BeginsLine};
+ghost use Rattle.pc_deriv.specs.Parts.{derivation_slot_limit, derivation_node_limit};
+ghost use Rattle.pc_deriv.specs.Parts.{RefusesDerivation};
 ghost use Rattle.pc_deriv.specs.Stops.{SlotsStop, NotesStop};
 ghost use Rattle.pc_deriv.specs.Answers.{AnswersDerivation};
 

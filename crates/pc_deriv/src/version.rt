@@ -2,6 +2,7 @@
 ghost use Rattle.std.specs.Prelude.{◌≡◌};
 ghost use Rattle.pc_deriv.specs.Lines as lines;
 ghost use Rattle.pc_deriv.specs.Text as text;
+ghost use Rattle.pc_deriv.specs.Parts as parts;
 
 use pc_masks::Mask;
 
@@ -17,7 +18,7 @@ pub enum Version {
 impl Version {
     /// The number that names the version: 1 or 2.
     pub fn number(self) -> u32
-        ensures { result ≡ text.version_number self }
+        ensures { result ≡ parts.version_number self }
     {
         match self {
             Version::One => 1,

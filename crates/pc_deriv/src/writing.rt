@@ -3,8 +3,10 @@ ghost use Rattle.std.specs.Prelude.{◌≡◌, ◌≤◌, ◌++◌, length, Some
 ghost use Rattle.pc_ann.specs.declared.annotation.Note.{Note};
 ghost use Rattle.std.specs.List.{AllByRecursion};
 ghost use Rattle.pc_deriv.specs.Text as text;
+ghost use Rattle.pc_deriv.specs.Parts as parts;
 ghost use Rattle.pc_deriv.specs.declared.version.Version.TheVariants as version;
-ghost use Rattle.pc_deriv.specs.Text.{IsText, derivation_slot_limit, derivation_node_limit};
+ghost use Rattle.pc_deriv.specs.Text.{IsText};
+ghost use Rattle.pc_deriv.specs.Parts.{derivation_slot_limit, derivation_node_limit};
 
 use crate::number_writing::{push_decimal, push_hex};
 use crate::version::{Version, shown_after};
@@ -63,7 +65,7 @@ fn push_type(out: &mut Vec<u8>, ty: Option<(u32, Form)>) -> Result<(), AllocErro
 
 /// Appends a mask, after a blank.
 fn push_mask(out: &mut Vec<u8>, mask: Mask) -> Result<(), AllocError>
-    ensures { OnOk result (out.new.items ≡ out.old.items ++ (text.blank ++ text.mask_text mask)) }
+    ensures { OnOk result (out.new.items ≡ out.old.items ++ (parts.blank ++ text.mask_text mask)) }
 {
     out.push(b' ')?;
     push_hex(out, mask.0)
@@ -71,7 +73,7 @@ fn push_mask(out: &mut Vec<u8>, mask: Mask) -> Result<(), AllocError>
 
 /// Appends a live and a set mask, each after a blank.
 fn push_pair(out: &mut Vec<u8>, live: Mask, set: Mask) -> Result<(), AllocError>
-    ensures { OnOk result (out.new.items ≡ out.old.items ++ (text.blank ++ (text.mask_text live ++ (text.blank ++ text.mask_text set)))) }
+    ensures { OnOk result (out.new.items ≡ out.old.items ++ (parts.blank ++ (text.mask_text live ++ (parts.blank ++ text.mask_text set)))) }
 {
     push_mask(out, live)?;
     push_mask(out, set)
@@ -151,7 +153,7 @@ fn push_note(
 
 /// Appends the lines of slots.
 fn push_slots(out: &mut Vec<u8>, slots: &[(u32, Cap)]) -> Result<(), AllocError>
-    ensures puts { OnOk result (out.new.items ≡ out.old.items ++ text.each_line text.slot_line slots.now) }
+    ensures puts { OnOk result (out.new.items ≡ out.old.items ++ parts.each_line text.slot_line slots.now) }
     ensures fit { OnOk result (AllByRecursion text.SlotFits slots.now) }
 {
     for slot in slots {
@@ -167,7 +169,7 @@ fn push_notes(
     version: Version,
     notes: &[Note],
 ) -> Result<(), AllocError>
-    ensures puts { OnOk result (out.new.items ≡ out.old.items ++ text.each_line (text.note_line version) notes.now) }
+    ensures puts { OnOk result (out.new.items ≡ out.old.items ++ parts.each_line (text.note_line version) notes.now) }
     ensures fit { OnOk result (AllByRecursion text.NoteFits notes.now) }
 {
     let mut masks: Vec<u8> = Vec::new(alloc);

@@ -6,9 +6,8 @@ use Rattle.pc_caps.specs.declared.span.Span.{Span}
 use Rattle.pc_tree.specs.declared.written_names.Name.{Name}
 use Rattle.pc_tree.specs.Tree as t
 use Rattle.pc_core.specs.declared.nodes.Node.{Node}
-use Rattle.pc_body_spec.specs.Bodies.{Rose}
+use Rattle.pc_body_spec.specs.Bodies.{Rose, Context}
 use Rattle.pc_body_spec.specs.Fold.{Numbered, and_then, put}
-use Rattle.pc_body_spec.specs.Scopes.{Context}
 use Rattle.pc_body_spec.specs.Faults.{BodyNameFault, unknown, double, long_text}
 use Rattle.pc_body_spec.specs.Slots.{Local}
 use Rattle.pc_body_spec.specs.Methods.{in_body, slots_full, nodes_full, MethodOutcome, local_names, unless_fault, unless_name, numbered_or_full, put_body}

@@ -8,7 +8,8 @@ use Rattle.pc_tree.specs.declared.file.File.{File}
 use Rattle.pc_tree.specs.View.{entity_view, file_view}
 use Rattle.pc_tree.specs.Tree as t
 use Rattle.pc_token.specs.declared.kinds.Token.{Token}
-use Rattle.pc_grammar.specs.SpellsFile as s
+use Rattle.pc_grammar.specs.Spells as spec
+use Rattle.pc_grammar.specs.Parts as helpers
 use Rattle.pc_tree.specs.declared.kinds.EntityKind.{EntityKind}
 use Rattle.pc_core.specs.declared.declarations.EntityDef.{EntityDef}
 use Rattle.pc_core.specs.Formed.{Formed}
@@ -18,7 +19,7 @@ use Rattle.pc_names.specs.declared.fault.NameFault.TheVariants as fault
 use Rattle.pc_tree.specs.Kinds.{first_own}
 use Rattle.pc_names.specs.Faults.{NamesData, Collected}
 use Rattle.pc_text_order.specs.Laws.{BodiesAscend}
-use Rattle.pc_body_spec.specs.Scopes.{Context}
+use Rattle.pc_body_spec.specs.Bodies.{Context}
 use Rattle.pc_members.specs.Members.{Member}
 use Rattle.pc_members.specs.MemberLists.{members}
 use Rattle.pc_file_spec.specs.Cores.{members_from, known_of, known_from, texts_of_file, built_in_known, built_ins, entities_from, core_with, core_of, Stands, Parts, parts_of, and_members, if_ok, built_in_parts}
@@ -58,19 +59,19 @@ few_known file names c = let f = (collects file names c).few in let n = known_co
 pub in_order : (file : t.File) → BodiesAscend → IsSpelledFile file → o.NamesInOrder file
 in_order file law h e he = let r = law file h.0 h.1 h.2 he.0 e he.1 in (r.0, λ m hm. r.1 hm.0 m hm.1)
 
-more_entities : (es : List t.Entity) (ts : List Token) (i : ℕ) (e : t.Entity) → s.SpellsMoreEntities es ts → slice_get es i ≡ Some e → (us : List Token) × s.SpellsEntity e us
+more_entities : (es : List t.Entity) (ts : List Token) (i : ℕ) (e : t.Entity) → helpers.SpellsMoreEntities es ts → slice_get es i ≡ Some e → (us : List Token) × spec.SpellsEntity e us
 more_entities [] ts i e h g = absurd (none-some e g)
-more_entities (x ∷ es) ts zero e h g = (h.0, subst (λ y. s.SpellsEntity y h.0) (same_Some x e g) h.3)
+more_entities (x ∷ es) ts zero e h g = (h.0, subst (λ y. spec.SpellsEntity y h.0) (same_Some x e g) h.3)
 more_entities (x ∷ es) ts (suc i) e h g = more_entities es h.1 i e h.4 g
 
-all_entities : (es : List t.Entity) (ts : List Token) (i : ℕ) (e : t.Entity) → s.SpellsEntities es ts → slice_get es i ≡ Some e → (us : List Token) × s.SpellsEntity e us
+all_entities : (es : List t.Entity) (ts : List Token) (i : ℕ) (e : t.Entity) → spec.SpellsEntities es ts → slice_get es i ≡ Some e → (us : List Token) × spec.SpellsEntity e us
 all_entities [] ts i e h g = absurd (none-some e g)
-all_entities (x ∷ es) ts zero e h g = (h.0, subst (λ y. s.SpellsEntity y h.0) (same_Some x e g) h.3)
+all_entities (x ∷ es) ts zero e h g = (h.0, subst (λ y. spec.SpellsEntity y h.0) (same_Some x e g) h.3)
 all_entities (x ∷ es) ts (suc i) e h g = more_entities es h.1 i e h.4 g
 
-all_methods : (k : EntityKind) (ms : List t.Method) (ts : List Token) (i : ℕ) (m : t.Method) → s.SpellsMethods k ms ts → slice_get ms i ≡ Some m → (us : List Token) × s.SpellsMethod k m us
+all_methods : (k : EntityKind) (ms : List t.Method) (ts : List Token) (i : ℕ) (m : t.Method) → helpers.SpellsMethods k ms ts → slice_get ms i ≡ Some m → (us : List Token) × spec.SpellsMethod k m us
 all_methods k [] ts i m h g = absurd (none-some m g)
-all_methods k (x ∷ ms) ts zero m h g = (h.0, subst (λ y. s.SpellsMethod k y h.0) (same_Some x m g) h.3)
+all_methods k (x ∷ ms) ts zero m h g = (h.0, subst (λ y. spec.SpellsMethod k y h.0) (same_Some x m g) h.3)
 all_methods k (x ∷ ms) ts (suc i) m h g = all_methods k ms h.1 i m h.4 g
 
 -- In a file that tokens spell, fields, methods and bodies are only where they are allowed.

@@ -2,7 +2,7 @@
 use Rattle.std.specs.Prelude.{◌≡◌, ◌≤◌, List, length, Result, Ok, Err}
 use Rattle.pc_caps.specs.Limits.{node_limit, program_slot_limit}
 use Rattle.pc_token.specs.declared.kinds.Token.{Token}
-use Rattle.pc_grammar.specs.SpellsFile.{SpellsFile}
+use Rattle.pc_grammar.specs.Spells.{SpellsFile}
 use Rattle.pc_text_order.specs.Laws.{starts}
 use Rattle.pc_core.specs.{CoreData.CoreData, Formed.Formed}
 use Rattle.pc_lists.specs.Lists.{Ascends}

@@ -6,7 +6,7 @@ use Rattle.pc_core.specs.declared.nodes.Node.{Node}
 use Rattle.pc_names.specs.declared.fault.NameFault.{NameFault}
 use Rattle.pc_body_walks.specs.declared.fault.BodyFault.{BodyFault}
 use Rattle.pc_members.specs.{Members.field_texts, Members.Member, Members.written, Members.added, Members.member_text, MemberLists.member_span}
-use Rattle.pc_body_spec.specs.{Bodies.Rose, Bodies.body_of, Bodies.added_body, Scopes.Context, Scopes.PlacedLocal, Faults.BodyNameFault, Faults.body_faults, Faults.initial_faults, Slots.Local, Methods.MethodFault, Methods.MethodOutcome, Methods.param_names, Methods.local_names, Methods.unless_fault, Methods.unless_full, Methods.put_body}
+use Rattle.pc_body_spec.specs.{Bodies.Rose, Bodies.body_of, Bodies.added_body, Bodies.Context, Bodies.PlacedLocal, Faults.BodyNameFault, Faults.body_faults, Faults.initial_faults, Slots.Local, Methods.MethodFault, Methods.MethodOutcome, Methods.param_names, Methods.local_names, Methods.unless_fault, Methods.unless_full, Methods.put_body}
 use Rattle.pc_file_spec.specs.Cores.{Owned, owned, placed_of, slots_from, declared, Parts, name_fault, if_ok, and_member}
 use Rattle.pc_tree.specs.Tree as t
 use Rattle.pc_names.specs.declared.fault.NameFault.TheVariants as fault

@@ -2,8 +2,8 @@
 use Rattle.std.specs.Prelude.{ℕ, suc, ◌+◌, List, [], ◌∷◌, map, length, slice_get}
 use Rattle.pc_core.specs.declared.declarations.EntityDef.{EntityDef}
 use Rattle.pc_names.specs.Faults.{NamesData}
-use Rattle.pc_members.specs.{Edges.entity_numbers, Members.or_nil, Members.Member}
-use Rattle.pc_body_spec.specs.Scopes.{KnownEntity, Context}
+use Rattle.pc_members.specs.{Edges.entity_numbers, Parts.or_nil, Members.Member}
+use Rattle.pc_body_spec.specs.Bodies.{KnownEntity, Context}
 use Rattle.pc_file_spec.specs.Cores.{default_cap, constructors_from, core_field}
 use Rattle.pc_tree.specs.Tree as t
 

@@ -1,7 +1,7 @@
 -- The slots of a member, for its parameters and its locals.
 use Rattle.std.specs.Prelude.{ℕ, ◌+◌, List, ◌∷◌, ◌++◌, map, length, Some}
 use Rattle.pc_core.specs.{declared.declarations.ParamInfo.ParamInfo, declared.nodes.Slot.Slot, Entities.param_slot}
-use Rattle.pc_body_spec.specs.{Scopes.Context, Slots.Local, Fold.local_slot}
+use Rattle.pc_body_spec.specs.{Bodies.Context, Slots.Local, Fold.local_slot}
 use Rattle.pc_members.specs.Members.{Member, written, added}
 use Rattle.pc_file_spec.specs.Cores.{receiver_cap}
 use Rattle.pc_core.specs.declared.nodes.SlotKind.TheVariants as slot

@@ -3,7 +3,7 @@ ghost use Rattle.std.specs.Prelude.{◌≡◌, ◌++◌, [], ◌+◌, ◌<◌, �
 ghost use Rattle.pc_tree.specs.View.{entity_view, field_view};
 ghost use Rattle.pc_members.specs.Edges.{entity_numbers};
 ghost use Rattle.pc_tree.specs.Kinds.{first_own};
-ghost use Rattle.pc_members.specs.Members.{or_nil};
+ghost use Rattle.pc_members.specs.Parts.{or_nil};
 ghost use Rattle.pc_members.specs.Views.{table_view};
 ghost use Rattle.pc_file_spec.specs.Cores as spec;
 ghost use Rattle.pc_elab.specs.Rows as rows;

@@ -2,7 +2,7 @@
 ghost use Rattle.std.specs.Prelude.{◌≡◌, ◌++◌, ◌∷◌, [], ◌+◌, ◌<◌, ◌^◌, map, length, IfOk, OnOk};
 ghost use Rattle.pc_tree.specs.View.{entity_view};
 ghost use Rattle.pc_file_spec.specs.Cores as spec;
-ghost use Rattle.pc_body_spec.specs.Slots.{cap_or as either_cap};
+ghost use Rattle.pc_body_spec.specs.Parts.{cap_or as either_cap};
 ghost use Rattle.pc_members.specs.Views.{members_view, table_view};
 ghost use Rattle.pc_elab.specs.Rows as rows;
 

@@ -16,8 +16,7 @@ use Rattle.pc_caps.specs.declared.span.Span.{Span}
 use Rattle.pc_tree.specs.declared.written_names.Name.{Name}
 use Rattle.pc_tree.specs.Tree as t
 use Rattle.pc_core.specs.declared.nodes.NodeKind.TheVariants as node
-use Rattle.pc_body_spec.specs.Bodies.{Rose, expr_of, assign_of, chain_start, chain_of, named_of, roses_of_exprs, joined_span, apply, call, call_named, new_object_rose, read_field, read_name, read_type, use_field, use_other, create_name, apply_name, Use, read, write, Start, with_value, with_method, with_type}
-use Rattle.pc_body_spec.specs.Scopes.{Context, Scope, Constructor, local, field, resolve, primitive, created, no_value, type_meaning, constructor_named, number_of_text}
+use Rattle.pc_body_spec.specs.Bodies.{Rose, expr_of, assign_of, chain_start, chain_of, named_of, roses_of_exprs, joined_span, apply, call, call_named, new_object_rose, read_field, read_name, read_type, use_field, use_other, create_name, apply_name, Use, read, write, Start, with_value, with_method, with_type, Context, Scope, Constructor, local, field, resolve, primitive, created, no_value, type_meaning, constructor_named, number_of_text}
 use Rattle.pc_emit.specs.declared.chains.First.TheVariants as first
 use Rattle.pc_emit.specs.declared.chains.Beginning.{Beginning}
 use Rattle.pc_emit.specs.declared.chains.Beginning.TheVariants as begins
@@ -26,6 +25,7 @@ use Rattle.pc_emit.specs.declared.chains.Atom.TheVariants as atoms
 use Rattle.pc_emit.specs.Closing.{IsCut, IsBefore, BeginsChain, begun, first_of, IsSplit, written_end, object, taken, is_args, is_chain, is_empty_args, link_of, ReadsAtom, reading_rose, only, rest_of}
 use Rattle.pc_lists.proofs.Cuts.{take_whole}
 use Rattle.pc_lists.proofs.Gets.{get_drop}
+use Rattle.pc_tree.specs.Parts.{suffixes_of}
 
 take_at : {X : Type 0} → (xs : List X) (i : ℕ) (x : X) → slice_get xs i ≡ Some x → take (suc i) xs ≡ take i xs ++ x ∷ []
 take_at [] i x h = absurd (none-some x h)
@@ -38,23 +38,23 @@ take_last xs n x l h = let e : n ≡ suc (n - 1) = omega (arith, l) in ap (λ k.
 -- What is done at the end of a chain is done with what comes before it.
 module _ (c : Context) (sc : Scope) (d : ℕ) (s : Span) (u : Use) where
   mutual
-    pub chain_field : (ss : List t.Suffix) (n : Name) (st : Start) (origin : Rose) → chain_of c sc d s u st origin (t.suffixes_of (ss ++ t.dot n ∷ [])) ≡ use_field c u (joined_span s n.span) n d (chain_of c sc d s read st origin (t.suffixes_of ss))
+    pub chain_field : (ss : List t.Suffix) (n : Name) (st : Start) (origin : Rose) → chain_of c sc d s u st origin (suffixes_of (ss ++ t.dot n ∷ [])) ≡ use_field c u (joined_span s n.span) n d (chain_of c sc d s read st origin (suffixes_of ss))
     chain_field [] n st origin = refl
     chain_field (t.dot m ∷ ss) n st origin = named_field ss m n st origin
     chain_field (t.args es sp ∷ ss) n st origin = chain_field ss n with_value (apply c st (joined_span s sp) d (roses_of_exprs c sc d es) origin)
 
-    named_field : (ss : List t.Suffix) (m n : Name) (st : Start) (origin : Rose) → named_of c sc d s u st origin m (t.suffixes_of (ss ++ t.dot n ∷ [])) ≡ use_field c u (joined_span s n.span) n d (named_of c sc d s read st origin m (t.suffixes_of ss))
+    named_field : (ss : List t.Suffix) (m n : Name) (st : Start) (origin : Rose) → named_of c sc d s u st origin m (suffixes_of (ss ++ t.dot n ∷ [])) ≡ use_field c u (joined_span s n.span) n d (named_of c sc d s read st origin m (suffixes_of ss))
     named_field [] m n st origin = refl
     named_field (t.dot k ∷ ss) m n st origin = named_field ss k n with_value (read_field c (joined_span s m.span) m d origin)
     named_field (t.args es sp ∷ ss) m n st origin = chain_field ss n with_value (call_named c st (joined_span s sp) m d (roses_of_exprs c sc d es) origin)
 
   mutual
-    pub chain_other : (ss : List t.Suffix) (fs : t.Exprs) (fp : Span) (st : Start) (origin : Rose) → chain_of c sc d s u st origin (t.suffixes_of (ss ++ t.args fs fp ∷ [])) ≡ use_other u d (chain_of c sc d s read st origin (t.suffixes_of (ss ++ t.args fs fp ∷ [])))
+    pub chain_other : (ss : List t.Suffix) (fs : t.Exprs) (fp : Span) (st : Start) (origin : Rose) → chain_of c sc d s u st origin (suffixes_of (ss ++ t.args fs fp ∷ [])) ≡ use_other u d (chain_of c sc d s read st origin (suffixes_of (ss ++ t.args fs fp ∷ [])))
     chain_other [] fs fp st origin = refl
     chain_other (t.dot m ∷ ss) fs fp st origin = named_other ss m fs fp st origin
     chain_other (t.args es sp ∷ ss) fs fp st origin = chain_other ss fs fp with_value (apply c st (joined_span s sp) d (roses_of_exprs c sc d es) origin)
 
-    named_other : (ss : List t.Suffix) (m : Name) (fs : t.Exprs) (fp : Span) (st : Start) (origin : Rose) → named_of c sc d s u st origin m (t.suffixes_of (ss ++ t.args fs fp ∷ [])) ≡ use_other u d (named_of c sc d s read st origin m (t.suffixes_of (ss ++ t.args fs fp ∷ [])))
+    named_other : (ss : List t.Suffix) (m : Name) (fs : t.Exprs) (fp : Span) (st : Start) (origin : Rose) → named_of c sc d s u st origin m (suffixes_of (ss ++ t.args fs fp ∷ [])) ≡ use_other u d (named_of c sc d s read st origin m (suffixes_of (ss ++ t.args fs fp ∷ [])))
     named_other [] m fs fp st origin = refl
     named_other (t.dot k ∷ ss) m fs fp st origin = named_other ss k fs fp with_value (read_field c (joined_span s m.span) m d origin)
     named_other (t.args es sp ∷ ss) m fs fp st origin =
@@ -67,7 +67,7 @@ module _ (c : Context) (sc : Scope) (d : ℕ) (s : Span) where
     chain_call (t.dot m ∷ ss) n fs fp origin = named_call ss m n fs fp origin
     chain_call (t.args es sp ∷ ss) n fs fp origin = chain_call ss n fs fp (apply c with_value (joined_span s sp) d (roses_of_exprs c sc d es) origin)
 
-    named_call : (ss : List t.Suffix) (m n : Name) (fs : t.Exprs) (fp : Span) (origin : Rose) → named_of c sc d s read with_value origin m (t.suffixes_of (ss ++ t.dot n ∷ t.args fs fp ∷ [])) ≡ call c (joined_span s fp) n.text d (roses_of_exprs c sc d fs) (named_of c sc d s read with_value origin m (t.suffixes_of ss))
+    named_call : (ss : List t.Suffix) (m n : Name) (fs : t.Exprs) (fp : Span) (origin : Rose) → named_of c sc d s read with_value origin m (suffixes_of (ss ++ t.dot n ∷ t.args fs fp ∷ [])) ≡ call c (joined_span s fp) n.text d (roses_of_exprs c sc d fs) (named_of c sc d s read with_value origin m (suffixes_of ss))
     named_call [] m n fs fp origin = refl
     named_call (t.dot k ∷ ss) m n fs fp origin = named_call ss k n fs fp (read_field c (joined_span s m.span) m d origin)
     named_call (t.args es sp ∷ ss) m n fs fp origin = chain_call ss n fs fp (call_named c with_value (joined_span s sp) m d (roses_of_exprs c sc d es) origin)
@@ -79,7 +79,7 @@ module _ (c : Context) (sc : Scope) (d : ℕ) (s : Span) where
     chain_apply (t.args es sp ∷ ss) gs gp fs fp origin =
         chain_apply ss gs gp fs fp (apply c with_value (joined_span s sp) d (roses_of_exprs c sc d es) origin)
 
-    named_apply : (ss : List t.Suffix) (m : Name) (gs : t.Exprs) (gp : Span) (fs : t.Exprs) (fp : Span) (origin : Rose) → named_of c sc d s read with_value origin m (t.suffixes_of (ss ++ t.args gs gp ∷ t.args fs fp ∷ [])) ≡ call c (joined_span s fp) apply_name d (roses_of_exprs c sc d fs) (named_of c sc d s read with_value origin m (t.suffixes_of (ss ++ t.args gs gp ∷ [])))
+    named_apply : (ss : List t.Suffix) (m : Name) (gs : t.Exprs) (gp : Span) (fs : t.Exprs) (fp : Span) (origin : Rose) → named_of c sc d s read with_value origin m (suffixes_of (ss ++ t.args gs gp ∷ t.args fs fp ∷ [])) ≡ call c (joined_span s fp) apply_name d (roses_of_exprs c sc d fs) (named_of c sc d s read with_value origin m (suffixes_of (ss ++ t.args gs gp ∷ [])))
     named_apply [] m gs gp fs fp origin = refl
     named_apply (t.dot k ∷ ss) m gs gp fs fp origin = named_apply ss k gs gp fs fp (read_field c (joined_span s m.span) m d origin)
     named_apply (t.args es sp ∷ ss) m gs gp fs fp origin =
@@ -159,14 +159,14 @@ begins_with_primitive c e (t.dot m ∷ t.args es sp ∷ ss) h = λ sc d s u orig
 
 -- A chain continues after a new object.
 object_begins : (c : Context) (a : Bool) (o : Option ℕ) (es : t.Exprs) (sp : Span) (ss : List t.Suffix) (sc : Scope) (d : ℕ) (s : Span) (u : Use) (origin : Rose)
-    → chain_of c sc d s u with_value (new_object_rose a (joined_span s sp) d (roses_of_exprs c sc d es) o) (t.suffixes_of ss) ≡ chain_of c sc d s u with_value (begun c sc d s (object a o 0) (t.args es sp ∷ ss) origin) (t.suffixes_of (drop (taken (object a o 0)) (t.args es sp ∷ ss)))
+    → chain_of c sc d s u with_value (new_object_rose a (joined_span s sp) d (roses_of_exprs c sc d es) o) (suffixes_of ss) ≡ chain_of c sc d s u with_value (begun c sc d s (object a o 0) (t.args es sp ∷ ss) origin) (suffixes_of (drop (taken (object a o 0)) (t.args es sp ∷ ss)))
 object_begins c true (Some m) es sp ss sc d s u origin = refl
 object_begins c true None es sp ss sc d s u origin = refl
 object_begins c false (Some m) es sp ss sc d s u origin = refl
 object_begins c false None es sp ss sc d s u origin = refl
 
 named_begins : (c : Context) (a : Bool) (o : Option ℕ) (n : Name) (es : t.Exprs) (sp : Span) (ss : List t.Suffix) (sc : Scope) (d : ℕ) (s : Span) (u : Use) (origin : Rose)
-    → chain_of c sc d s u with_value (new_object_rose a (joined_span s sp) d (roses_of_exprs c sc d es) o) (t.suffixes_of ss) ≡ chain_of c sc d s u with_value (begun c sc d s (object a o 1) (t.dot n ∷ t.args es sp ∷ ss) origin) (t.suffixes_of (drop (taken (object a o 1)) (t.dot n ∷ t.args es sp ∷ ss)))
+    → chain_of c sc d s u with_value (new_object_rose a (joined_span s sp) d (roses_of_exprs c sc d es) o) (suffixes_of ss) ≡ chain_of c sc d s u with_value (begun c sc d s (object a o 1) (t.dot n ∷ t.args es sp ∷ ss) origin) (suffixes_of (drop (taken (object a o 1)) (t.dot n ∷ t.args es sp ∷ ss)))
 named_begins c true (Some m) n es sp ss sc d s u origin = refl
 named_begins c true None n es sp ss sc d s u origin = refl
 named_begins c false (Some m) n es sp ss sc d s u origin = refl
@@ -175,12 +175,12 @@ named_begins c false None n es sp ss sc d s u origin = refl
 begins_created : (c : Context) (a : Bool) (o : Option ℕ) (cs : List Constructor) (es : t.Exprs) (sp : Span) (ss : List t.Suffix) → constructor_named cs create_name ≡ o
     → BeginsChain c (with_type (created a cs)) (t.args es sp ∷ ss) (object a o 0)
 begins_created c a o cs es sp ss h = λ sc d s u origin.
-    ap (λ p. chain_of c sc d s u with_value (new_object_rose a (joined_span s sp) d (roses_of_exprs c sc d es) p) (t.suffixes_of ss)) h ∙ object_begins c a o es sp ss sc d s u origin
+    ap (λ p. chain_of c sc d s u with_value (new_object_rose a (joined_span s sp) d (roses_of_exprs c sc d es) p) (suffixes_of ss)) h ∙ object_begins c a o es sp ss sc d s u origin
 
 begins_named : (c : Context) (a : Bool) (o : Option ℕ) (cs : List Constructor) (n : Name) (es : t.Exprs) (sp : Span) (ss : List t.Suffix) → constructor_named cs n.text ≡ o
     → BeginsChain c (with_type (created a cs)) (t.dot n ∷ t.args es sp ∷ ss) (object a o 1)
 begins_named c a o cs n es sp ss h = λ sc d s u origin.
-    ap (λ p. chain_of c sc d s u with_value (new_object_rose a (joined_span s sp) d (roses_of_exprs c sc d es) p) (t.suffixes_of ss)) h ∙ named_begins c a o n es sp ss sc d s u origin
+    ap (λ p. chain_of c sc d s u with_value (new_object_rose a (joined_span s sp) d (roses_of_exprs c sc d es) p) (suffixes_of ss)) h ∙ named_begins c a o n es sp ss sc d s u origin
 
 pub begins_with_create : (c : Context) (a : Bool) (cs : List Constructor) (ss : List t.Suffix) → is_args (slice_get ss 0) ≡ true → BeginsChain c (with_type (created a cs)) ss (object a (constructor_named cs create_name) 0)
 begins_with_create c a cs [] h = absurd (false≢true h)
@@ -247,13 +247,13 @@ split_none c (x ∷ ss) h = absurd (omega (arith, h))
 
 pub split_dot : (c : Context) (ss : List t.Suffix) (n : ℕ) (x : Name) → n ≡ length ss → 0 < n → slice_get ss (n - 1) ≡ Some (t.dot x) → IsSplit c ss (Some (number_of_text c x.text)) (n - 1)
 split_dot c ss n x e l h = λ sc d s whole v origin.
-    ap (λ z. chain_of c sc d whole (write s v) with_value origin (t.suffixes_of z)) (all_but ss n (t.dot x) e l h) ∙ chain_field c sc d whole (write s v) (take (n - 1) ss) x with_value origin
+    ap (λ z. chain_of c sc d whole (write s v) with_value origin (suffixes_of z)) (all_but ss n (t.dot x) e l h) ∙ chain_field c sc d whole (write s v) (take (n - 1) ss) x with_value origin
 
 pub split_args : (c : Context) (ss : List t.Suffix) (n : ℕ) (es : t.Exprs) (sp : Span) → n ≡ length ss → 0 < n → slice_get ss (n - 1) ≡ Some (t.args es sp) → IsSplit c ss None n
 split_args c ss n es sp e l h = λ sc d s whole v origin.
     let cut : ss ≡ take (n - 1) ss ++ t.args es sp ∷ [] = all_but ss n (t.args es sp) e l h in
     let same : take n ss ≡ take (n - 1) ss ++ t.args es sp ∷ [] = take_last ss n (t.args es sp) l h in
-    ap (λ z. chain_of c sc d whole (write s v) with_value origin (t.suffixes_of z)) cut ∙ chain_other c sc d whole (write s v) (take (n - 1) ss) es sp with_value origin
+    ap (λ z. chain_of c sc d whole (write s v) with_value origin (suffixes_of z)) cut ∙ chain_other c sc d whole (write s v) (take (n - 1) ss) es sp with_value origin
     ∙ ap (λ z. written_end d s None v (rest_of c sc d whole origin z)) (sym same)
 
 pub first_view : (xs : List Suffix) (x : Suffix) (y : t.Suffix) → slice_get xs 0 ≡ Some x → suffix_view x ≡ y → slice_get (map suffix_view xs) 0 ≡ Some y
@@ -273,7 +273,7 @@ pub chain_opens : (c : Context) (sc sc2 : Scope) (d : ℕ) (e h : Expr) (b : Box
 chain_opens c sc sc2 d e h b ss xs s beg first count rest is eh ex es begins f er ec =
     let behind : rest ≡ drop (taken beg) xs = er ∙ ap (λ n. drop n xs) f in
     let all : map suffix_view (take count (drop (taken beg) xs)) ≡ drop (taken beg) (map suffix_view xs) = ap (λ r. map suffix_view (take count r)) (sym behind) ∙ ap (λ n. map suffix_view (take n rest)) ec ∙ ap (map suffix_view) (take_whole rest ∙ behind) ∙ map_drop suffix_view (taken beg) xs in
-    rw (is, view_chain b ss s, ← eh, ← ex, all) (ap (λ z. chain_of c sc d s read (chain_start c z (expr_view h)) (expr_of c sc d (expr_view h)) (t.suffixes_of (map suffix_view xs))) (sym es) ∙ begins sc d s read (expr_of c sc d (expr_view h)))
+    rw (is, view_chain b ss s, ← eh, ← ex, all) (ap (λ z. chain_of c sc d s read (chain_start c z (expr_view h)) (expr_of c sc d (expr_view h)) (suffixes_of (map suffix_view xs))) (sym es) ∙ begins sc d s read (expr_of c sc d (expr_view h)))
 
 -- The same if a value is assigned to its end.
 pub write_opens : (c : Context) (sc sc2 : Scope) (d : ℕ) (e h : Expr) (b : Box Expr Global) (ss xs : List Suffix) (s place : Span) (v : Rose) (beg : Beginning) (first count : ℕ) (into : Option ℕ) (rest : List Suffix)
@@ -284,8 +284,8 @@ write_opens c sc sc2 d e h b ss xs s place v beg first count into rest is eh ex 
     let behind : rest ≡ drop (taken beg) xs = er ∙ ap (λ n. drop n xs) f in
     let all : drop (taken beg) (map suffix_view xs) ≡ map suffix_view rest = sym (map_drop suffix_view (taken beg) xs) ∙ ap (map suffix_view) (sym behind) in
     let some : take count (map suffix_view rest) ≡ map suffix_view (take count (drop (taken beg) xs)) = sym (map_take suffix_view count rest) ∙ ap (λ r. map suffix_view (take count r)) behind in
-    let whole : assign_of c sc d place v (expr_of c sc d (expr_view e)) (expr_view e) ≡ chain_of c sc d s (write place v) (chain_start c sc (expr_view h)) (expr_of c sc d (expr_view h)) (t.suffixes_of (map suffix_view xs)) = rw (is, view_chain b ss s, ← eh, ← ex) refl in
-    whole ∙ ap (λ z. chain_of c sc d s (write place v) (chain_start c z (expr_view h)) (expr_of c sc d (expr_view h)) (t.suffixes_of (map suffix_view xs))) (sym es) ∙ begins sc d s (write place v) (expr_of c sc d (expr_view h)) ∙ ap (λ z. chain_of c sc d s (write place v) with_value o (t.suffixes_of z)) all ∙ split sc d place s v o ∙ ap (λ z. written_end d place into v (rest_of c sc d s o z)) some
+    let whole : assign_of c sc d place v (expr_of c sc d (expr_view e)) (expr_view e) ≡ chain_of c sc d s (write place v) (chain_start c sc (expr_view h)) (expr_of c sc d (expr_view h)) (suffixes_of (map suffix_view xs)) = rw (is, view_chain b ss s, ← eh, ← ex) refl in
+    whole ∙ ap (λ z. chain_of c sc d s (write place v) (chain_start c z (expr_view h)) (expr_of c sc d (expr_view h)) (suffixes_of (map suffix_view xs))) (sym es) ∙ begins sc d s (write place v) (expr_of c sc d (expr_view h)) ∙ ap (λ z. chain_of c sc d s (write place v) with_value o (suffixes_of z)) all ∙ split sc d place s v o ∙ ap (λ z. written_end d place into v (rest_of c sc d s o z)) some
 
 pub begun_first : (c : Context) (sc : Scope) (d : ℕ) (s : Span) (beg : Beginning) (f : First) (at : ℕ) (xs : List Suffix) (x : Suffix) (o : Rose)
     → beg ≡ begins.With f at → taken beg ≤ length xs → x ≡ slice_index_or xs at x → begun c sc d s beg (map suffix_view xs) o ≡ first_of c sc d s f (suffix_view x)

@@ -18,9 +18,8 @@ use Rattle.pc_tree.specs.declared.expression.Item.{Item}
 use Rattle.std.proofs.lemmas.List.{length-append, length-take, take-append-le}
 use Rattle.pc_tree.specs.declared.expression.Seq.{Seq}
 use Rattle.std.proofs.lemmas.Bool.{true≢false}
-use Rattle.pc_body_spec.specs.Bodies.{Rose, Roses, rose, more, no_roses, two, three, and_last, expr_of, roses_of_exprs, assign_of, chain_of, named_of, write_name, read_field, call_named, apply, Start, chain_start, with_value, write, operands_of, operation, joined_span, or_added_none, sequence, if_of}
+use Rattle.pc_body_spec.specs.Bodies.{Rose, Roses, rose, more, no_roses, two, three, and_last, expr_of, roses_of_exprs, assign_of, chain_of, named_of, write_name, read_field, call_named, apply, Start, chain_start, with_value, write, operands_of, operation, joined_span, or_added_none, sequence, if_of, Context, Scope, Meaning, local, field, method, nothing, resolve, scope_after, number_of_text}
 use Rattle.pc_body_spec.specs.Fold.{Numbered, and_then, put, puts, push}
-use Rattle.pc_body_spec.specs.Scopes.{Context, Scope, Meaning, local, field, method, nothing, resolve, scope_after, number_of_text}
 use Rattle.pc_emit.specs.declared.stop.EmitStop.{EmitStop}
 use Rattle.pc_emit.specs.declared.stop.EmitStop.TheVariants as stop
 use Rattle.pc_emit.specs.declared.waiting.Link.{Link}

@@ -2,8 +2,8 @@
 use Rattle.std.specs.Prelude.{ℕ, ◌-◌, ◌+◌, ◌≡◌, Bool, true, false, List, [], ◌∷◌, ◌++◌, Option, Some, None, Result, Ok, Err, take, drop, slice_get, if◌then◌else◌}
 use Rattle.pc_caps.specs.declared.span.Span.{Span}
 use Rattle.pc_core.specs.{declared.nodes.Node.Node, declared.nodes.NodeKind.NodeKind}
-use Rattle.pc_tree.specs.{declared.written_names.Name.Name, Kinds.none_entity}
-use Rattle.pc_body_spec.specs.{Bodies.Rose, Bodies.rose, Bodies.leaf, Bodies.one, Bodies.two, Bodies.and_last, Bodies.joined_span, Bodies.gap, Bodies.value_then, Bodies.write_name, Bodies.expr_of, Bodies.roses_of_exprs, Bodies.chain_of, Bodies.Start, Bodies.with_value, Bodies.Use, Bodies.read, Bodies.write, Fold.Numbered, Fold.and_then, Fold.push, Scopes.Context, Scopes.Scope, Scopes.Meaning, Scopes.local, Scopes.field, Scopes.method, Scopes.nothing, Scopes.resolve, Scopes.number_of_text}
+use Rattle.pc_tree.specs.{declared.written_names.Name.Name, Kinds.none_entity, Parts.suffixes_of}
+use Rattle.pc_body_spec.specs.{Bodies.Rose, Bodies.rose, Bodies.leaf, Bodies.one, Bodies.two, Bodies.and_last, Bodies.joined_span, Bodies.gap, Bodies.value_then, Bodies.write_name, Bodies.expr_of, Bodies.roses_of_exprs, Bodies.chain_of, Bodies.Start, Bodies.with_value, Bodies.Use, Bodies.read, Bodies.write, Fold.Numbered, Fold.and_then, Fold.push, Bodies.Context, Bodies.Scope, Bodies.Meaning, Bodies.local, Bodies.field, Bodies.method, Bodies.nothing, Bodies.resolve, Bodies.number_of_text}
 use Rattle.pc_emit.specs.{declared.stop.EmitStop.EmitStop, declared.waiting.OpenArm.OpenArm, declared.waiting.Link.Link, declared.waiting.OpenChain.OpenChain, declared.chains.First.First, declared.chains.Beginning.Beginning, declared.chains.Reading.Reading, declared.chains.Atom.Atom}
 use Rattle.pc_core.specs.declared.nodes.NodeKind.TheVariants as node
 use Rattle.pc_tree.specs.Tree as t
@@ -65,7 +65,7 @@ link_of c sc d s n (t.args es sp) r = rose (node.Call n) (joined_span s sp) d (a
 
 -- A chain whose start has been emitted.
 abbrev pub rest_of : Context → Scope → ℕ → Span → Rose → List t.Suffix → Rose
-rest_of c sc d s origin ss = chain_of c sc d s read with_value origin (t.suffixes_of ss)
+rest_of c sc d s origin ss = chain_of c sc d s read with_value origin (suffixes_of ss)
 
 -- The last of the first `left` suffixes uses the text n, and the first `before` ones come before it.
 abbrev pub IsCut : Context → List t.Suffix → (left name before : ℕ) → Type 0
@@ -107,7 +107,7 @@ begun c sc d s (begins.With f at) ss origin = first_at c sc d s f origin (slice_
 
 -- A chain with this start has this beginning, whatever it is used for.
 abbrev pub BeginsChain : Context → Start → List t.Suffix → Beginning → Type 0
-BeginsChain c st ss b = (sc : Scope) (d : ℕ) (s : Span) (u : Use) (origin : Rose) → chain_of c sc d s u st origin (t.suffixes_of ss) ≡ chain_of c sc d s u with_value (begun c sc d s b ss origin) (t.suffixes_of (drop (taken b) ss))
+BeginsChain c st ss b = (sc : Scope) (d : ℕ) (s : Span) (u : Use) (origin : Rose) → chain_of c sc d s u st origin (suffixes_of ss) ≡ chain_of c sc d s u with_value (begun c sc d s b ss origin) (suffixes_of (drop (taken b) ss))
 
 -- What an atom with this span reads.
 abbrev pub reading_rose : Reading → Span → ℕ → Rose
@@ -196,7 +196,7 @@ written_end d s n v r = rose (written_kind n) s d (two v r)
 
 -- Such a chain ends with this field, after this number of suffixes.
 abbrev pub IsSplit : Context → List t.Suffix → Option ℕ → ℕ → Type 0
-IsSplit c ss n count = (sc : Scope) (d : ℕ) (s whole : Span) (v origin : Rose) → chain_of c sc d whole (write s v) with_value origin (t.suffixes_of ss) ≡ written_end d s n v (rest_of c sc d whole origin (take count ss))
+IsSplit c ss n count = (sc : Scope) (d : ℕ) (s whole : Span) (v origin : Rose) → chain_of c sc d whole (write s v) with_value origin (suffixes_of ss) ≡ written_end d s n v (rest_of c sc d whole origin (take count ss))
 
 -- ---- bodies
 

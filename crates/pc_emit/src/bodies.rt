@@ -2,9 +2,9 @@
 ghost use Rattle.std.specs.Prelude.{◌≡◌, ◌++◌, [], IfOk, map};
 ghost use Rattle.pc_tree.specs.View.{expr_view, field_view, maybe_expr, items_view, method_view, seq_view};
 ghost use Rattle.pc_body_spec.specs.Bodies as spec;
-ghost use Rattle.pc_body_spec.specs.Bodies.{Roses};
+ghost use Rattle.pc_body_spec.specs.Parts as parts;
+ghost use Rattle.pc_body_spec.specs.Bodies.{Roses, params_scope as scope_of};
 ghost use Rattle.pc_body_spec.specs.Fold.{put, puts};
-ghost use Rattle.pc_body_spec.specs.Scopes.{params_scope as scope_of};
 ghost use Rattle.pc_emit.specs.Giving.{GivesNodes, GivesBody};
 ghost use Rattle.pc_emit.specs.Closing.{LeadsOn, behind_tops, ends_with, body_closes};
 
@@ -182,7 +182,7 @@ fn add_initial(
     field: &FieldDef,
     tops: Tops,
 ) -> Result<Tops, EmitStop>
-    ensures { (rest : Roses) → LeadsOn result nodes.new (puts number rest) (behind_tops tops (puts number (spec.initial_of context.now field.now.name (maybe_expr field.now.value) rest) nodes.old)) }
+    ensures { (rest : Roses) → LeadsOn result nodes.new (puts number rest) (behind_tops tops (puts number (parts.initial_of context.now field.now.name (maybe_expr field.now.value) rest) nodes.old)) }
 {
     match &field.value {
         None => Ok(tops),

@@ -4,8 +4,7 @@ ghost use Rattle.pc_emit.specs.declared.chains.Beginning.TheVariants as beginnin
 ghost use Rattle.pc_tree.specs.Tree as t;
 ghost use Rattle.pc_tree.specs.View.{expr_view, suffix_view};
 ghost use Rattle.pc_resolve.specs.Meanings.{meaning_view};
-ghost use Rattle.pc_body_spec.specs.Bodies.{chain_start, start_with_name, with_type, with_method};
-ghost use Rattle.pc_body_spec.specs.Scopes.{Scope, resolve, type_meaning, created, primitive, constructor_named as constructor_in};
+ghost use Rattle.pc_body_spec.specs.Bodies.{chain_start, start_with_name, with_type, with_method, Scope, resolve, type_meaning, created, primitive, constructor_named as constructor_in};
 ghost use Rattle.pc_body_spec.specs.Fold.{put};
 ghost use Rattle.pc_emit.specs.Giving.{GivesNodes};
 ghost use Rattle.pc_emit.specs.Closing as spec;

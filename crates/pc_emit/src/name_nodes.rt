@@ -4,8 +4,9 @@ ghost use Rattle.std.specs.Prelude.{◌≡◌, ◌∷◌, [], Some, option_map, 
 ghost use Rattle.pc_core.specs.declared.nodes.NodeKind.TheVariants as kinds;
 ghost use Rattle.pc_body_spec.specs.Fold.{put};
 ghost use Rattle.pc_resolve.specs.Meanings.{meaning_view};
-ghost use Rattle.pc_body_spec.specs.Scopes.{Meaning as Seen, resolve, type_meaning, slot_named as slot_in, constructor_named as constructor_in, number_of_text as text_in};
+ghost use Rattle.pc_body_spec.specs.Bodies.{Meaning as Seen, resolve, type_meaning, slot_named as slot_in, constructor_named as constructor_in, number_of_text as text_in};
 ghost use Rattle.pc_body_spec.specs.Bodies as spec;
+ghost use Rattle.pc_body_spec.specs.Parts as parts;
 ghost use Rattle.pc_emit.specs.Giving.{GivesNodes};
 ghost use Rattle.pc_emit.specs.Closing.{name_closes};
 
@@ -161,7 +162,7 @@ pub(crate) fn consume(
     name: &Name,
     span: Span,
 ) -> Result<u32, EmitStop>
-    ensures { GivesNodes result nodes.new (put setting.now.number (spec.consumed span setting.now.depth (slot_in scope.now name.now.text)) nodes.old) }
+    ensures { GivesNodes result nodes.new (put setting.now.number (parts.consumed span setting.now.depth (slot_in scope.now name.now.text)) nodes.old) }
 {
     match slot_of(scope, name.text.as_slice()) {
         Some(slot) => leaf(setting, nodes, NodeKind::Consume(slot), span),

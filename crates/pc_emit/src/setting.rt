@@ -1,6 +1,6 @@
 //! What the nodes of a part of a body have in common.
 ghost use Rattle.std.specs.Prelude.{◌≡◌};
-ghost use Rattle.pc_body_spec.specs.Scopes as spec;
+ghost use Rattle.pc_body_spec.specs.Bodies as spec;
 
 use pc_resolve::Context;
 use std::alloc::Global;

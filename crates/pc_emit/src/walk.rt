@@ -2,9 +2,8 @@
 ghost use Rattle.std.specs.Prelude.{◌≡◌, ◌+◌, ◌≤◌, OnOk, length, take, drop, map, option_map, true, false, Some, List as Sequence};
 ghost use Rattle.pc_tree.specs.View.{expr_view, item_view, suffix_view, seq_view, items_view, exprs_view, arms_view, other_view};
 ghost use Rattle.pc_body_spec.specs.Bodies as spec;
-ghost use Rattle.pc_body_spec.specs.Bodies.{Rose};
+ghost use Rattle.pc_body_spec.specs.Bodies.{Rose, scope_after};
 ghost use Rattle.pc_body_spec.specs.Fold.{put, puts};
-ghost use Rattle.pc_body_spec.specs.Scopes.{scope_after};
 ghost use Rattle.pc_resolve.specs.Meanings.{meaning_view};
 ghost use Rattle.pc_emit.specs.Giving.{GivesNodes};
 ghost use Rattle.pc_emit.specs.Closing.{alone_of, arm_closes, begun, begun_by, is_block, is_chain, link_closes, link_of, first_of, is_missing as misses, only, rest_of, taken as count_of, target_meaning, OpensInnerPart, OpensChain, OpensOne, ReadsAtom};

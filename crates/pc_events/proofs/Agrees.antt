@@ -9,10 +9,10 @@ use Rattle.pc_semantics.specs.declared.frames.Task.{Task}
 use Rattle.pc_semantics.specs.declared.mailbox.Message.{Message}
 use Rattle.pc_semantics.specs.declared.outcome.Outcome.{Outcome}
 use Rattle.pc_semantics.specs.declared.outcome.Outcome.TheVariants.{Moved, Skipped, Lacks, TooLong}
-use Rattle.pc_semantics.specs.Configurations.{Configuration, with_frames}
-use Rattle.pc_semantics.specs.Around.{Move, Stuck, Overflows, Goes, Writes, Makes, Spawns, Enters, Sends, Leaves}
-use Rattle.pc_semantics.specs.Step.{around, delivered, made, run_task, run_frames, step_of, take_first}
-use Rattle.pc_semantics.specs.Ahead.{by_move, by_outcome, of_tasks, of_frames, of_actor}
+use Rattle.pc_semantics.specs.Configurations.{Configuration, with_frames, Move, Stuck, Overflows, Goes, Writes, Makes, Spawns, Enters, Sends, Leaves}
+use Rattle.pc_semantics.specs.Step.{around, made, run_frames, take_first}
+use Rattle.pc_semantics.specs.Parts.{delivered, run_task, step_of, of_tasks, of_actor}
+use Rattle.pc_semantics.specs.Ahead.{by_move, by_outcome, of_frames}
 use Rattle.pc_events.specs.AheadLaws.{Agrees, AheadAgrees}
 use Rattle.pc_events.proofs.Right.{right}
 use Rattle.pc_events.proofs.Plans.{SendsTo, right_sends}

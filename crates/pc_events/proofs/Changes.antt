@@ -12,8 +12,7 @@ use Rattle.pc_semantics.specs.declared.actors.Actor.{Actor}
 use Rattle.pc_semantics.specs.declared.frames.Frame.{Frame}
 use Rattle.pc_semantics.specs.declared.frames.Task.{Task}
 use Rattle.pc_semantics.specs.declared.mailbox.Message.{Message}
-use Rattle.pc_semantics.specs.Configurations.{Configuration, own_address}
-use Rattle.pc_semantics.specs.Around.{Move, Stuck, Overflows, Goes, Writes, Makes, Spawns, Enters, Sends, Leaves, first_frame}
+use Rattle.pc_semantics.specs.Configurations.{Configuration, own_address, Move, Stuck, Overflows, Goes, Writes, Makes, Spawns, Enters, Sends, Leaves, first_frame}
 use Rattle.pc_semantics.specs.Step.{task_move, left}
 
 -- ---- the objects

@@ -6,14 +6,16 @@ use Rattle.std.proofs.lemmas.List.{append-nil}
 use Rattle.std.specs.FinMap.{get, insert, empty, get-empty}
 use Rattle.pc_lists.proofs.Gets.{get_push}
 use Rattle.pc_heap.specs.Objects.{address_cmp, ObjectMap, class_at, Object}
-use Rattle.pc_heap.specs.Fields.{field_in, field_at}
+use Rattle.pc_heap.specs.Parts.{field_in}
+use Rattle.pc_heap.specs.Fields.{field_at}
 use Rattle.pc_heap.specs.declared.value.Address.{Address}
 use Rattle.pc_heap.specs.declared.value.Value.TheVariants.{At}
 use Rattle.pc_core.specs.CoreData.{CoreData}
 use Rattle.pc_semantics.specs.declared.actors.Actor.{Actor}
 use Rattle.pc_semantics.specs.declared.outcome.Outcome.{Outcome}
 use Rattle.pc_semantics.specs.declared.outcome.Outcome.TheVariants.{Moved, Skipped, Lacks, TooLong}
-use Rattle.pc_semantics.specs.Configurations.{Configuration, own_address, environment_address, environment, blank_object, number_of_fields, main_create, start_of, start}
+use Rattle.pc_semantics.specs.Configurations.{Configuration, own_address, environment_address, environment, blank_object, main_create, start_of, start}
+use Rattle.pc_semantics.specs.Parts.{number_of_fields}
 use Rattle.pc_semantics.specs.Step.{step, followed, outcomes}
 use Rattle.pc_semantics.specs.Safety.{LacksNothing, Safe}
 use Rattle.pc_events.specs.Before.{at_place, takes_one, taken_before}

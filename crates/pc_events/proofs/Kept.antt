@@ -16,8 +16,7 @@ use Rattle.pc_semantics.specs.declared.access.Access.{Access}
 use Rattle.pc_semantics.specs.declared.actors.Actor.{Actor}
 use Rattle.pc_semantics.specs.declared.frames.Frame.{Frame}
 use Rattle.pc_semantics.specs.declared.mailbox.Message.{Message}
-use Rattle.pc_semantics.specs.Configurations.{Configuration}
-use Rattle.pc_semantics.specs.Around.{Move, Stuck, Spawns}
+use Rattle.pc_semantics.specs.Configurations.{Configuration, Move, Stuck, Spawns}
 use Rattle.pc_semantics.specs.Step.{task_move}
 use Rattle.pc_semantics.specs.Safety.{touched_name, access, Race}
 use Rattle.pc_semantics.specs.declared.ahead.Ahead.TheVariants as ahead

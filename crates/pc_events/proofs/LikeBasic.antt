@@ -1,5 +1,5 @@
 -- Tasks that see nothing but their frame make like moves in like frames.
-use Rattle.std.specs.Prelude.{◌≡◌, ℕ, zero, suc, Bool, true, false, not, if◌then◌else◌, nat_eq, nat_lt, List, [], ◌∷◌, ◌++◌, length, Option, Some, None, slice_get, refl, ⊤}
+use Rattle.std.specs.Prelude.{◌≡◌, ℕ, zero, suc, Bool, true, false, not, ◌&&◌, if◌then◌else◌, nat_eq, nat_lt, List, [], ◌∷◌, ◌++◌, length, Option, Some, None, slice_get, refl, ⊤}
 use Rattle.std.proofs.Common.{inl, inr, ap, sym, subst, ◌∙◌}
 use Rattle.std.proofs.lemmas.Option.{same_Some}
 use Rattle.std.proofs.lemmas.Bool.{eq-eqb, ne_eqb}
@@ -20,13 +20,13 @@ use Rattle.pc_semantics.specs.declared.frames.Frame.{Frame}
 use Rattle.pc_semantics.specs.declared.frames.Task.{Task}
 use Rattle.pc_semantics.specs.declared.frames.Task.TheVariants as task
 use Rattle.pc_semantics.specs.declared.outcome.Lack.{Lack}
-use Rattle.pc_semantics.specs.Around.{Around, Move, Stuck, Overflows, Goes, Writes, Makes, Spawns, Enters, Sends, Leaves, with_stack, pushed, with_slot, doing, none, value_or_none, with_top, pop, popped, with_popped, pop_arguments}
+use Rattle.pc_semantics.specs.Configurations.{Around, Move, Stuck, Overflows, Goes, Writes, Makes, Spawns, Enters, Sends, Leaves, with_stack, pushed, with_slot, doing, none, pop, popped, pop_arguments}
+use Rattle.pc_semantics.specs.Parts.{value_or_none, with_top, with_popped, push_slot, take_slot, evaluate_node, push_or_lack, with_second_number, with_truth, with_text, negated, same_address, is_number, is_truth, is_text, is_primitive, is_object, compared, held, leave_object, return_task, at_node}
 use Rattle.pc_semantics.specs.Children.{evaluations}
-use Rattle.pc_semantics.specs.Evaluation.{push_slot, take_slot, first_then, evaluate, evaluate_node, item_tasks, truth, apply_task, right_side, test_and, test_or, test_task, branch, loop_turn}
-use Rattle.pc_semantics.specs.Operators.{push_or_lack, of_numbers, of_truths, of_texts, with_second_number, with_truth, with_text, binary, negated, same_address, is_number, is_truth, is_text, is_primitive, is_object, same_truth, same_value, compared}
+use Rattle.pc_semantics.specs.Evaluation.{first_then, evaluate, item_tasks, truth, apply_task, right_side, test_and, test_or, test_task, branch, loop_turn, of_numbers, of_truths, of_texts, binary, same_truth, same_value}
 use Rattle.pc_caps.specs.Limits.{text_limit}
-use Rattle.pc_semantics.specs.Calls.{held, store, store_task, leave_object, leave, return_task}
-use Rattle.pc_semantics.specs.Step.{at_node, task_move}
+use Rattle.pc_semantics.specs.Calls.{store, store_task, leave}
+use Rattle.pc_semantics.specs.Step.{task_move}
 use Rattle.pc_events.proofs.Like.{AddressLike, Like, SlotLike, Likes, FrameLike, FoundLike, slots_get, slots_set, MoveLike}
 use Rattle.pc_events.proofs.Plain.{Blind}
 
@@ -258,8 +258,8 @@ module _ (names : List ℕ) (next : ℕ) where
       pushed_like (with_slot f s (Some v)) (with_slot g s (Some w)) _ _ (slot_like f g s (Some v) (Some w) k l) (held_like (slice_get f.slots s) (slice_get g.slots s) (slots_get names f.slots g.slots s k.slots))
 
   store_like : (f g : Frame) (kind : NodeKind) → FrameLike names f g → M (store_task f kind) (store_task g kind)
-  store_like f g (node.Define s) k = pop_like f g k _ _ (λ v w a b l m. stored_like s v w a b l m)
-  store_like f g (node.Assign s) k = pop_like f g k _ _ (λ v w a b l m. stored_like s v w a b l m)
+  store_like f g (node.Define s) k = pop_like f g k (store s) (store s) (λ v w a b l m. stored_like s v w a b l m)
+  store_like f g (node.Assign s) k = pop_like f g k (store s) (store s) (λ v w a b l m. stored_like s v w a b l m)
   store_like f g kind k = tt
 
   object_like : (o p : Option (Option Value)) → FoundLike names o p → M (leave_object o) (leave_object p)
@@ -270,7 +270,7 @@ module _ (names : List ℕ) (next : ℕ) where
   object_like (Some (Some v)) (Some (Some w)) l = l
 
   leave_like : (f g : Frame) (kind : MethodKind) → FrameLike names f g → M (leave f kind) (leave g kind)
-  leave_like f g method.Fun k = pop_like f g k _ _ (λ v w a b l m. l)
+  leave_like f g method.Fun k = pop_like f g k (λ v h. Leaves (Some v)) (λ v h. Leaves (Some v)) (λ v w a b l m. l)
   leave_like f g method.New k = object_like (slice_get f.slots 0) (slice_get g.slots 0) (slots_get names f.slots g.slots 0 k.slots)
   leave_like f g kind k = tt
 
@@ -290,9 +290,9 @@ module _ (names : List ℕ) (next : ℕ) where
 
     addresses_same : (a b c d : Address) → AddressLike names a c → AddressLike names b d → same_address a b ≡ same_address c d
     addresses_same a b c d k l =
-        ap (λ (x : Bool). if x then nat_eq a.serial b.serial else false) (same_maker a b c d k l)
-        ∙ ap (λ (n : ℕ). if nat_eq c.maker d.maker then nat_eq n b.serial else false) k.serial
-        ∙ ap (λ (n : ℕ). if nat_eq c.maker d.maker then nat_eq c.serial n else false) l.serial
+        ap (λ (x : Bool). x && nat_eq a.serial b.serial) (same_maker a b c d k l)
+        ∙ ap (λ (n : ℕ). nat_eq c.maker d.maker && nat_eq n b.serial) k.serial
+        ∙ ap (λ (n : ℕ). nat_eq c.maker d.maker && nat_eq c.serial n) l.serial
 
     -- A test that no object passes.
     tested : (t : Value → Bool) → ((a : Address) → t (At a) ≡ false) → (v w : Value) → Like names v w → t v ≡ t w
@@ -334,7 +334,9 @@ module _ (names : List ℕ) (next : ℕ) where
 
     apply_like : (f g : Frame) (kind : NodeKind) → FrameLike names f g → M (apply_task f kind) (apply_task g kind)
     apply_like f g (node.Binary o) k = pop_like f g k _ _ (λ w y a b l m. pop_like a b m _ _ (λ v x c d n p. binary_like c d p o v x w y n l))
-    apply_like f g (node.Same z) k = pop_like f g k _ _ (λ w y a b l m. pop_like a b m _ _ (λ v x c d n p. compared_like c d p z v x w y n l))
+    apply_like f g (node.Same z) k =
+        let same = λ (w : Value) (a : Frame). pop a (λ v c. compared c z v w) in
+        pop_like f g k same same (λ w y a b l m. pop_like a b m (λ v c. compared c z v w) (λ x d. compared d z x y) (λ v x c d n p. compared_like c d p z v x w y n l))
     apply_like f g node.Not k = pop_like f g k _ _ (λ v w a b l m. negated_like a b m v w l)
     apply_like f g kind k = tt
 
@@ -352,5 +354,5 @@ module _ (names : List ℕ) (next : ℕ) where
     blind_like core a b f g (task.Test n) z k = nodes_like (slice_get core.nodes n) _ _ (λ x. test_like f g x.children x.kind k)
     blind_like core a b f g (task.Branch n) z k = nodes_like (slice_get core.nodes n) _ _ (λ x. pop_like f g k _ _ (λ v w c d l m. truth_like (branch x.children) (branch x.children) (branch_like x.children) v w l c d m))
     blind_like core a b f g (task.Loop n) z k = nodes_like (slice_get core.nodes n) _ _ (λ x. pop_like f g k _ _ (λ v w c d l m. truth_like (loop_turn n x.children) (loop_turn n x.children) (turn_like n x.children) v w l c d m))
-    blind_like core a b f g task.Discard z k = pop_like f g k _ _ (λ v w c d l m. m)
+    blind_like core a b f g task.Discard z k = pop_like f g k (λ v a. Goes a) (λ v a. Goes a) (λ v w c d l m. m)
     blind_like core a b f g task.Return z k = subst (λ (n : ℕ). M (return_task f (slice_get core.methods f.method)) (return_task g (slice_get core.methods n))) k.method (return_like f g (slice_get core.methods f.method) k)

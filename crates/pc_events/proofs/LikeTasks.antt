@@ -5,8 +5,9 @@ use Rattle.std.proofs.lemmas.Option.{same_Some}
 use Rattle.std.proofs.lemmas.Bool.{and_parts, lt-ltb}
 use Rattle.std.specs.FinMap.{get}
 use Rattle.pc_lists.proofs.Gets.{get_behind}
-use Rattle.pc_heap.specs.Objects.{ObjectMap, class_in, class_at, made_by, next_address, Object}
-use Rattle.pc_heap.specs.Fields.{field_in, field_at}
+use Rattle.pc_heap.specs.Objects.{ObjectMap, class_at, made_by, next_address, Object}
+use Rattle.pc_heap.specs.Parts.{class_in, field_in}
+use Rattle.pc_heap.specs.Fields.{field_at}
 use Rattle.pc_heap.specs.declared.value.Address.{Address}
 use Rattle.pc_heap.specs.declared.value.Value.{Value}
 use Rattle.pc_heap.specs.declared.value.Value.TheVariants.{Num, Truth, Text, Prim, At}
@@ -23,10 +24,10 @@ use Rattle.pc_semantics.specs.declared.frames.Frame.{Frame}
 use Rattle.pc_semantics.specs.declared.frames.Task.{Task}
 use Rattle.pc_semantics.specs.declared.frames.Task.TheVariants as task
 use Rattle.pc_semantics.specs.declared.outcome.Lack.TheVariants as lack
-use Rattle.pc_semantics.specs.Configurations.{blank_object, own_address, number_of_fields}
-use Rattle.pc_semantics.specs.Around.{Around, Move, Stuck, with_stack, none, with_top, pop, value_entity, first_frame}
-use Rattle.pc_semantics.specs.Calls.{get_value, get_field, get_of, get_from, get_task, put_value, put_field, put_of, put_into, put_task, counted, begin_new, make_of, make_task, spawn_of, spawn_task, enter, send, invoke_kind, push_text, string_of, is_string, text_of, invoke_found, invoke_method, invoke_on, invoke_task}
-use Rattle.pc_semantics.specs.Step.{at_node, task_move}
+use Rattle.pc_semantics.specs.Configurations.{blank_object, own_address, Around, Move, Stuck, with_stack, none, pop, value_entity, first_frame}
+use Rattle.pc_semantics.specs.Parts.{number_of_fields, with_top, get_value, get_field, get_of, get_from, put_value, put_field, put_of, put_into, begin_new, make_of, spawn_of, enter, send, push_text, invoke_found, invoke_method, invoke_on, at_node}
+use Rattle.pc_semantics.specs.Calls.{get_task, put_task, counted, make_task, spawn_task, invoke_kind, string_of, is_string, text_of, invoke_task}
+use Rattle.pc_semantics.specs.Step.{task_move}
 use Rattle.pc_semantics.specs.Safety.{name_read, name_written, touched_name}
 use Rattle.pc_events.proofs.Right.{touch, touch_by}
 use Rattle.pc_events.proofs.Like.{AddressLike, Like, Likes, SlotsLike, FrameLike, FoundLike, ObjectLike, empty_slots, likes_length, first_slots_like, frame_more, MoveLike}
@@ -128,7 +129,7 @@ module _ (core : CoreData) (names : List ℕ) (h h2 : ObjectMap) (i i2 n n2 : �
     put_top [] ws f g l r k = tt
     put_top (v ∷ vs) [] f g l r k = absurd l
     put_top (v ∷ vs) (w ∷ ws) f g l r k =
-        top_like names n (with_stack f vs) (with_stack g ws) vs ws (stack_like names n f g vs ws k l.1) l.1 _ _ (λ u x us xs m p q. into_like v w u x ws _ _ l.0 m r q)
+        top_like names n (with_stack f vs) (with_stack g ws) vs ws (stack_like names n f g vs ws k l.1) l.1 (put_into core one name v) (put_into core two name w) (λ u x us xs m p q. into_like v w u x ws _ _ l.0 m r q)
 
   get_like : (k : ℕ) (f g : Frame) (x : Node) → slice_get core.nodes k ≡ Some x → (kind : NodeKind) → x.kind ≡ kind → AroundLike g.stack (task.Get k) → FrameLike names f g → M (get_task core one f kind) (get_task core two g kind)
   get_like k f g x e (node.Field name) q r l =

@@ -7,8 +7,9 @@ use Rattle.std.proofs.lemmas.List.{set_comm}
 use Rattle.std.specs.Ordering.{eq_by_cmp}
 use Rattle.std.specs.FinMap.{get, insert, get-insert, same_map}
 use Rattle.std.proofs.lemmas.Map.Views.{tells_apart}
-use Rattle.pc_heap.specs.Objects.{address_cmp, ObjectMap, made_by, class_in, class_at, with_field, with_value, object_in, Object}
-use Rattle.pc_heap.specs.Fields.{field_in, field_at}
+use Rattle.pc_heap.specs.Objects.{address_cmp, ObjectMap, made_by, class_at, with_field, with_value, Object}
+use Rattle.pc_heap.specs.Parts.{class_in, object_in, field_in}
+use Rattle.pc_heap.specs.Fields.{field_at}
 use Rattle.pc_heap.proofs.Maps.{addresses_total, exact_addresses, get_own, tied_own}
 use Rattle.pc_lists.specs.Counts.{one_if}
 use Rattle.pc_heap.proofs.Counts.{made_more, made_same}

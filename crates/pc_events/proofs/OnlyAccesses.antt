@@ -4,8 +4,9 @@ use Rattle.std.proofs.Common.{inl, inr, ap, sym, subst, ◌∙◌}
 use Rattle.std.proofs.lemmas.Option.{same_Some, none-some}
 use Rattle.std.proofs.lemmas.Bool.Decides.{eqb_tells}
 use Rattle.std.specs.FinMap.{get}
-use Rattle.pc_heap.specs.Objects.{ObjectMap, class_in, class_at, Object}
-use Rattle.pc_heap.specs.Fields.{field_in, field_at, value_in, value_at}
+use Rattle.pc_heap.specs.Objects.{ObjectMap, class_at, Object}
+use Rattle.pc_heap.specs.Parts.{class_in, field_in, value_in}
+use Rattle.pc_heap.specs.Fields.{field_at, value_at}
 use Rattle.pc_heap.specs.declared.value.Address.{Address}
 use Rattle.pc_heap.specs.declared.value.Value.{Value}
 use Rattle.pc_heap.specs.declared.value.Value.TheVariants.{Text}
@@ -17,8 +18,8 @@ use Rattle.pc_semantics.specs.declared.mailbox.Message.{Message}
 use Rattle.pc_semantics.specs.declared.outcome.Lack.{Lack}
 use Rattle.pc_semantics.specs.declared.outcome.Outcome.{Outcome}
 use Rattle.pc_semantics.specs.declared.outcome.Outcome.TheVariants.{Moved, Skipped, Lacks, TooLong}
-use Rattle.pc_semantics.specs.Configurations.{Configuration, number_of_fields}
-use Rattle.pc_semantics.specs.Around.{Move, Stuck, Overflows, Goes, Writes, Makes, Spawns, Enters, Sends, Leaves}
+use Rattle.pc_semantics.specs.Configurations.{Configuration, Move, Stuck, Overflows, Goes, Writes, Makes, Spawns, Enters, Sends, Leaves}
+use Rattle.pc_semantics.specs.Parts.{number_of_fields}
 use Rattle.pc_semantics.specs.Step.{step, after}
 use Rattle.pc_semantics.specs.Safety.{access}
 use Rattle.pc_semantics.specs.Laws.{OnlyMovesChange}

@@ -6,7 +6,8 @@ use Rattle.std.proofs.lemmas.List.{append-nil, append_assoc}
 use Rattle.std.proofs.lemmas.Bool.Decides.{eqb_tells, leb_tells}
 use Rattle.std.specs.FinMap.{get}
 use Rattle.pc_lists.proofs.Gets.{get_below, get_within, get_front}
-use Rattle.pc_heap.specs.Objects.{ObjectMap, class_in, class_at, Object}
+use Rattle.pc_heap.specs.Objects.{ObjectMap, class_at, Object}
+use Rattle.pc_heap.specs.Parts.{class_in}
 use Rattle.pc_heap.specs.declared.value.Address.{Address}
 use Rattle.pc_heap.specs.declared.value.Value.{Value}
 use Rattle.pc_heap.specs.declared.value.Value.TheVariants.{At}
@@ -23,11 +24,11 @@ use Rattle.pc_semantics.specs.declared.frames.Task.TheVariants as task
 use Rattle.pc_semantics.specs.declared.mailbox.Message.{Message}
 use Rattle.pc_semantics.specs.declared.outcome.Outcome.{Outcome}
 use Rattle.pc_semantics.specs.declared.outcome.Outcome.TheVariants.{Moved, Skipped}
-use Rattle.pc_semantics.specs.Configurations.{Configuration, start}
-use Rattle.pc_semantics.specs.Around.{Around, with_stack, with_top, pop}
-use Rattle.pc_semantics.specs.Calls.{get_field, put_field, get_of, get_from, get_task, put_of, put_into, put_task}
-use Rattle.pc_semantics.specs.Step.{at_node, task_move, step, step_of, run_frames, run_task, made, followed, run_from, after, outcomes}
-use Rattle.pc_semantics.specs.Safety.{address_of, name_read, name_written, touched_name, access_of, access, Race, LacksNothing, Safe}
+use Rattle.pc_semantics.specs.Configurations.{Configuration, start, Around, with_stack, pop, address_of}
+use Rattle.pc_semantics.specs.Parts.{with_top, get_field, put_field, get_of, get_from, put_of, put_into, at_node, step_of, run_task}
+use Rattle.pc_semantics.specs.Calls.{get_task, put_task}
+use Rattle.pc_semantics.specs.Step.{task_move, step, run_frames, made, followed, run_from, after, outcomes}
+use Rattle.pc_semantics.specs.Safety.{name_read, name_written, touched_name, access_of, access, Race, LacksNothing, Safe}
 use Rattle.pc_semantics.specs.declared.ahead.Ahead.TheVariants as ahead
 use Rattle.pc_semantics.specs.Ahead.{ahead_of}
 use Rattle.pc_events.specs.Before.{at_place, Event, receiver_by, receiver_of, takes_one, taken_before, waiting_of, waiting_for, Before, own, carried, chain}

@@ -9,11 +9,11 @@ use Rattle.pc_semantics.specs.declared.frames.Frame.{Frame}
 use Rattle.pc_semantics.specs.declared.frames.Task.{Task}
 use Rattle.pc_semantics.specs.declared.outcome.Outcome.{Outcome}
 use Rattle.pc_semantics.specs.declared.outcome.Outcome.TheVariants.{Moved, Skipped, Lacks, TooLong}
-use Rattle.pc_semantics.specs.Configurations.{Configuration}
-use Rattle.pc_semantics.specs.Around.{Move, Stuck, Overflows, Goes, Writes, Makes, Spawns, Enters, Sends, Leaves}
-use Rattle.pc_semantics.specs.Step.{around, step, step_of, run_frames, run_task, take_first, followed, run_from, outcomes_from}
+use Rattle.pc_semantics.specs.Configurations.{Configuration, Move, Stuck, Overflows, Goes, Writes, Makes, Spawns, Enters, Sends, Leaves}
+use Rattle.pc_semantics.specs.Step.{around, step, run_frames, take_first, followed, run_from, outcomes_from}
+use Rattle.pc_semantics.specs.Parts.{step_of, run_task, of_tasks, of_actor}
 use Rattle.pc_semantics.specs.declared.ahead.Ahead.TheVariants as ahead
-use Rattle.pc_semantics.specs.Ahead.{by_move, by_outcome, of_tasks, of_frames, of_actor, ahead_of}
+use Rattle.pc_semantics.specs.Ahead.{by_move, by_outcome, of_frames, ahead_of}
 use Rattle.pc_events.specs.Before.{is_take, takes_one, takes_from}
 use Rattle.pc_events.proofs.Changes.{Change, plan}
 use Rattle.pc_events.proofs.Plans.{Taking, view, step_is}

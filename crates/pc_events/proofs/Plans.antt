@@ -16,9 +16,9 @@ use Rattle.pc_semantics.specs.declared.mailbox.Message.{Message}
 use Rattle.pc_semantics.specs.declared.outcome.Lack.{Lack}
 use Rattle.pc_semantics.specs.declared.outcome.Outcome.{Outcome}
 use Rattle.pc_semantics.specs.declared.outcome.Outcome.TheVariants.{Moved, Skipped, Lacks, TooLong}
-use Rattle.pc_semantics.specs.Configurations.{Configuration, own_address}
-use Rattle.pc_semantics.specs.Around.{Move, Stuck, Overflows, Goes, Writes, Makes, Spawns, Enters, Sends, Leaves, first_frame}
-use Rattle.pc_semantics.specs.Step.{task_move, delivered, deliver, left, made, run_task, printed_text, begun, begin_method, take, take_first, run_frames, step_of, step}
+use Rattle.pc_semantics.specs.Configurations.{Configuration, own_address, Move, Stuck, Overflows, Goes, Writes, Makes, Spawns, Enters, Sends, Leaves, first_frame}
+use Rattle.pc_semantics.specs.Step.{task_move, left, made, printed_text, take, take_first, run_frames, step}
+use Rattle.pc_semantics.specs.Parts.{delivered, deliver, run_task, begun, begin_method, step_of}
 use Rattle.pc_events.proofs.Changes.{Same, Sets, New, changed, going, pushing, born, Change, applied, local, on_heap, planned, plan_print, plan_begun, plan_begin, plan_message, plan_first, plan_tasks, plan_frames, plan_actor, plan, behind}
 use Rattle.pc_events.proofs.Lists.{set_changed, length_changed}
 use Rattle.pc_events.proofs.Right.{Right, right}

@@ -4,7 +4,8 @@ use Rattle.std.proofs.Common.{inl, inr, ap, sym, subst, ◌∙◌, arith}
 use Rattle.std.proofs.lemmas.Option.{none-some}
 use Rattle.std.proofs.lemmas.Bool.{eq-eqb, ne_eqb}
 use Rattle.std.specs.FinMap.{get, insert, empty, get-empty, len-empty}
-use Rattle.pc_heap.specs.Objects.{address_cmp, ObjectMap, made_by, next_address, with_field, object_in, Object}
+use Rattle.pc_heap.specs.Objects.{address_cmp, ObjectMap, made_by, next_address, with_field, Object}
+use Rattle.pc_heap.specs.Parts.{object_in}
 use Rattle.pc_lists.specs.Counts.{one_if}
 use Rattle.pc_heap.proofs.Counts.{made_more, made_same, made_few}
 use Rattle.pc_heap.specs.declared.value.Address.{Address}

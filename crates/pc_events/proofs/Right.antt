@@ -4,7 +4,8 @@ use Rattle.std.proofs.Common.{ap, ◌∙◌}
 use Rattle.std.proofs.lemmas.Bool.{and_parts, ltb-true}
 use Rattle.std.specs.FinMap.{get}
 use Rattle.pc_lists.proofs.Gets.{get_below}
-use Rattle.pc_heap.specs.Objects.{ObjectMap, class_in, class_at, next_address, Object}
+use Rattle.pc_heap.specs.Objects.{ObjectMap, class_at, next_address, Object}
+use Rattle.pc_heap.specs.Parts.{class_in}
 use Rattle.pc_heap.specs.declared.value.Address.{Address}
 use Rattle.pc_heap.specs.declared.value.Value.{Value}
 use Rattle.pc_heap.specs.declared.value.Value.TheVariants.{At}
@@ -20,11 +21,11 @@ use Rattle.pc_semantics.specs.declared.access.Access.{Access}
 use Rattle.pc_semantics.specs.declared.frames.Frame.{Frame}
 use Rattle.pc_semantics.specs.declared.frames.Task.{Task}
 use Rattle.pc_semantics.specs.declared.frames.Task.TheVariants as task
-use Rattle.pc_semantics.specs.Configurations.{blank_object}
-use Rattle.pc_semantics.specs.Around.{Around, Move, Stuck, Overflows, Goes, Writes, Makes, Spawns, Enters, Sends, Leaves, with_stack, with_top, pop, popped, value_entity}
-use Rattle.pc_semantics.specs.Calls.{get_value, get_field, get_of, get_from, get_task, put_value, put_field, put_of, put_into, put_task, begin_new, make_of, make_task, spawn_of, spawn_task, enter, send, invoke_kind, push_text, is_string, text_of, invoke_found, invoke_method, invoke_on, invoke_task}
-use Rattle.pc_semantics.specs.Step.{at_node, task_move}
-use Rattle.pc_semantics.specs.Safety.{address_of, name_written, touched_name}
+use Rattle.pc_semantics.specs.Configurations.{blank_object, Around, Move, Stuck, Overflows, Goes, Writes, Makes, Spawns, Enters, Sends, Leaves, with_stack, pop, popped, pop_arguments, value_entity, address_of}
+use Rattle.pc_semantics.specs.Parts.{with_top, get_value, get_field, get_of, get_from, put_value, put_field, put_of, put_into, begin_new, make_of, spawn_of, enter, send, push_text, invoke_found, invoke_method, invoke_on, at_node}
+use Rattle.pc_semantics.specs.Calls.{get_task, put_task, make_task, spawn_task, invoke_kind, is_string, text_of, invoke_task}
+use Rattle.pc_semantics.specs.Step.{task_move}
+use Rattle.pc_semantics.specs.Safety.{name_written, touched_name}
 use Rattle.pc_events.proofs.Plain.{Plain, top_all, arguments_all, node_all, blind_plain}
 
 -- ---- what a task is about to touch
@@ -84,7 +85,7 @@ from_plain core around name (At a) f = read_plain core f name (get around.object
 from_plain core around name v f = tt
 
 get_plain : (core : CoreData) (around : Around) (f : Frame) (k : NodeKind) → Plain (get_task core around f k)
-get_plain core around f (node.Field name) = top_all Plain f f.stack _ (λ v vs. from_plain core around name v (with_stack f vs)) tt
+get_plain core around f (node.Field name) = top_all Plain f f.stack (get_from core around name) (λ v vs. from_plain core around name v (with_stack f vs)) tt
 get_plain core around f k = tt
 
 -- ---- writes
@@ -164,7 +165,9 @@ module _ (core : CoreData) (h : ObjectMap) (i n : ℕ) (stack : List Value) (t :
 
   invoke_right : (f : Frame) (cs : List ℕ) (k : NodeKind) → Right core h i n stack t (invoke_task core (record { objects = h; actor = i; actors = n }) f cs k)
   invoke_right f cs (node.Call name) =
-      top_all (Right core h i n stack t) f f.stack _ (λ v vs. arguments_all (Right core h i n stack t) (with_stack f vs) (popped (length cs - 1) vs []) _ (λ us g. on_right name v us g (value_entity h v)) tt) tt
+      let on = λ (v : Value) (us : List Value) (g : Frame). invoke_on core (record { objects = h; actor = i; actors = n }) name v us g (value_entity h v) in
+      top_all (Right core h i n stack t) f f.stack (λ v g. pop_arguments g (length cs - 1) (on v))
+      (λ v vs. arguments_all (Right core h i n stack t) (with_stack f vs) (popped (length cs - 1) vs []) (on v) (λ us g. on_right name v us g (value_entity h v)) tt) tt
   invoke_right f cs k = tt
 
 -- ---- writes, by the node
@@ -181,7 +184,7 @@ module _ (core : CoreData) (h : ObjectMap) (i n : ℕ) (k : ℕ) where
 
   second_right : (name : ℕ) (o : Value) (vs below : List Value) (f : Frame) → vs ≡ below → touched_name core (task.Put k) ≡ Some (name, true)
       → Right core h i n (o ∷ below) (task.Put k) (with_top f vs (put_into core (record { objects = h; actor = i; actors = n }) name o))
-  second_right name o vs below f s is = top_all (Right core h i n (o ∷ below) (task.Put k)) f vs _ (λ v us. into_right name o v below (with_stack f us) is) tt
+  second_right name o vs below f s is = top_all (Right core h i n (o ∷ below) (task.Put k)) f vs (put_into core (record { objects = h; actor = i; actors = n }) name o) (λ v us. into_right name o v below (with_stack f us) is) tt
 
   first_right : (name : ℕ) (vs : List Value) (f : Frame) → touched_name core (task.Put k) ≡ Some (name, true)
       → Right core h i n vs (task.Put k) (with_top f vs (λ o g. pop g (put_into core (record { objects = h; actor = i; actors = n }) name o)))

@@ -3,7 +3,8 @@ use Rattle.std.specs.Prelude.{◌≡◌, ◌≢◌, ◌⊎◌, ◌<◌, ℕ, zer
 use Rattle.std.proofs.Common.{inl, inr, ap, sym, subst, ◌∙◌, arith}
 use Rattle.std.proofs.lemmas.Option.{same_Some, none-some}
 use Rattle.pc_lists.proofs.Gets.{get_behind}
-use Rattle.pc_heap.specs.Objects.{ObjectMap, class_at, object_in, Object}
+use Rattle.pc_heap.specs.Objects.{ObjectMap, class_at, Object}
+use Rattle.pc_heap.specs.Parts.{object_in}
 use Rattle.pc_heap.specs.Fields.{field_at}
 use Rattle.pc_heap.specs.declared.value.Address.{Address}
 use Rattle.pc_heap.specs.declared.value.Value.{Value}
@@ -19,9 +20,9 @@ use Rattle.pc_semantics.specs.declared.mailbox.Message.{Message}
 use Rattle.pc_semantics.specs.declared.outcome.Lack.{Lack}
 use Rattle.pc_semantics.specs.declared.outcome.Outcome.{Outcome}
 use Rattle.pc_semantics.specs.declared.outcome.Outcome.TheVariants.{Lacks}
-use Rattle.pc_semantics.specs.Configurations.{Configuration, own_address}
-use Rattle.pc_semantics.specs.Around.{Move, Stuck, Overflows, Goes, Writes, Makes, Spawns, Enters, Sends, Leaves, first_frame}
-use Rattle.pc_semantics.specs.Step.{task_move, left, made, run_task, run_frames, step_of, step}
+use Rattle.pc_semantics.specs.Configurations.{Configuration, own_address, Move, Stuck, Overflows, Goes, Writes, Makes, Spawns, Enters, Sends, Leaves, first_frame}
+use Rattle.pc_semantics.specs.Step.{task_move, left, made, run_frames, step}
+use Rattle.pc_semantics.specs.Parts.{run_task, step_of}
 use Rattle.pc_semantics.specs.Safety.{touched_name, access, LacksNothing}
 use Rattle.pc_events.proofs.Changes.{Heaping, Same, Sets, New, Change, left_mail, planned, plan_print, plan_begun, plan_begin, plan_message, plan_first, plan_tasks, plan_frames, plan_actor, plan}
 use Rattle.pc_events.proofs.Right.{touch, touch_by}

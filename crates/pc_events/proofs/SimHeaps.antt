@@ -5,8 +5,9 @@ use Rattle.std.proofs.lemmas.Option.{none-some}
 use Rattle.std.proofs.lemmas.Bool.Decides.{eqb_tells}
 use Rattle.std.specs.FinMap.{get, insert}
 use Rattle.pc_lists.proofs.Gets.{get_set_same, get_set_other}
-use Rattle.pc_heap.specs.Objects.{ObjectMap, class_in, class_at, made_by, with_field, with_value, object_in, Object}
-use Rattle.pc_heap.specs.Fields.{field_in, field_at}
+use Rattle.pc_heap.specs.Objects.{ObjectMap, class_at, made_by, with_field, with_value, Object}
+use Rattle.pc_heap.specs.Parts.{class_in, object_in, field_in}
+use Rattle.pc_heap.specs.Fields.{field_at}
 use Rattle.pc_lists.specs.Counts.{one_if}
 use Rattle.pc_heap.proofs.Counts.{made_more, made_same}
 use Rattle.pc_heap.specs.declared.value.Address.{Address}

@@ -3,8 +3,9 @@ use Rattle.std.specs.Prelude.{◌≡◌, ◌&&◌, ℕ, ◌-◌, Bool, true, fal
 use Rattle.std.proofs.Common.{ap, sym, ◌∙◌}
 use Rattle.std.proofs.lemmas.Option.{same_Some, none-some}
 use Rattle.std.specs.FinMap.{get}
-use Rattle.pc_heap.specs.Objects.{ObjectMap, class_in, class_at, made_by, Object}
-use Rattle.pc_heap.specs.Fields.{field_in, field_at}
+use Rattle.pc_heap.specs.Objects.{ObjectMap, class_at, made_by, Object}
+use Rattle.pc_heap.specs.Parts.{class_in, field_in}
+use Rattle.pc_heap.specs.Fields.{field_at}
 use Rattle.pc_heap.specs.declared.value.Address.{Address}
 use Rattle.pc_heap.specs.declared.value.Value.{Value}
 use Rattle.pc_heap.specs.declared.value.Value.TheVariants.{Num, Truth, Text, Prim, At}
@@ -21,10 +22,10 @@ use Rattle.pc_semantics.specs.declared.frames.Frame.{Frame}
 use Rattle.pc_semantics.specs.declared.frames.Task.{Task}
 use Rattle.pc_semantics.specs.declared.frames.Task.TheVariants as task
 use Rattle.pc_semantics.specs.declared.outcome.Lack.TheVariants as lack
-use Rattle.pc_semantics.specs.Configurations.{blank_object}
-use Rattle.pc_semantics.specs.Around.{Around, Move, Stuck, Makes, with_stack, with_top, pop, with_popped, popped, value_entity, first_frame}
-use Rattle.pc_semantics.specs.Calls.{get_value, get_field, get_of, get_from, get_task, put_value, put_field, put_of, put_into, put_task, counted, begin_new, make_of, make_task, spawn_of, spawn_task, send, invoke_kind, invoke_found, invoke_method, invoke_on, invoke_task}
-use Rattle.pc_semantics.specs.Step.{at_node, task_move}
+use Rattle.pc_semantics.specs.Configurations.{blank_object, Around, Move, Stuck, Makes, with_stack, pop, popped, pop_arguments, value_entity, first_frame}
+use Rattle.pc_semantics.specs.Parts.{with_top, with_popped, get_value, get_field, get_of, get_from, put_value, put_field, put_of, put_into, begin_new, make_of, spawn_of, send, invoke_found, invoke_method, invoke_on, at_node}
+use Rattle.pc_semantics.specs.Calls.{get_task, put_task, counted, make_task, spawn_task, invoke_kind, invoke_task}
+use Rattle.pc_semantics.specs.Step.{task_move}
 use Rattle.pc_semantics.specs.Safety.{name_read, name_written, touched_name}
 use Rattle.pc_semantics.specs.declared.ahead.Ahead.TheVariants as ahead
 use Rattle.pc_semantics.specs.Ahead.{by_move}
@@ -209,7 +210,8 @@ module _ (core : CoreData) (h h2 : ObjectMap) (i n n2 : ℕ) where
 
     invoke_kinds : (f : Frame) (cs : List ℕ) (kind : NodeKind) → NotStuck (invoke_task core old f cs kind) → invoke_task core new f cs kind ≡ invoke_task core old f cs kind
     invoke_kinds f cs (node.Call name) s =
-        top_same f f.stack _ _ (λ v us s2. popped_same (with_stack f us) (popped (length cs - 1) us []) _ _ (λ vs g s3. on_same name v vs g (value_entity h v) (value_entity h2 v) (λ e. entity_same v e) s3) s2) s
+        let on = λ (a : Around) (v : Value) (vs : List Value) (g : Frame). invoke_on core a name v vs g (value_entity a.objects v) in
+        top_same f f.stack (λ v g. pop_arguments g (length cs - 1) (on new v)) (λ v g. pop_arguments g (length cs - 1) (on old v)) (λ v us s2. popped_same (with_stack f us) (popped (length cs - 1) us []) (on new v) (on old v) (λ vs g s3. on_same name v vs g (value_entity h v) (value_entity h2 v) (λ e. entity_same v e) s3) s2) s
     invoke_kinds f cs kind s = refl
 
   -- ---- every task

@@ -15,12 +15,12 @@ use Rattle.pc_semantics.specs.declared.actors.Actor.{Actor}
 use Rattle.pc_semantics.specs.declared.frames.Frame.{Frame}
 use Rattle.pc_semantics.specs.declared.frames.Task.{Task}
 use Rattle.pc_semantics.specs.declared.mailbox.Message.{Message}
-use Rattle.pc_semantics.specs.Configurations.{Configuration, own_address}
-use Rattle.pc_semantics.specs.Around.{Move, Stuck, Overflows, Goes, Writes, Makes, Spawns, Enters, Sends, Leaves}
+use Rattle.pc_semantics.specs.Configurations.{Configuration, own_address, Move, Stuck, Overflows, Goes, Writes, Makes, Spawns, Enters, Sends, Leaves}
 use Rattle.pc_semantics.specs.Step.{task_move, around}
 use Rattle.pc_semantics.specs.Safety.{touched_name, access_of, access}
 use Rattle.pc_semantics.specs.declared.ahead.Ahead.TheVariants as ahead
-use Rattle.pc_semantics.specs.Ahead.{by_move, of_tasks, of_frames, of_actor, ahead_of}
+use Rattle.pc_semantics.specs.Ahead.{by_move, of_frames, ahead_of}
+use Rattle.pc_semantics.specs.Parts.{of_tasks, of_actor}
 use Rattle.pc_events.proofs.Changes.{Heaping, Same, Sets, New, Change, planned, plan_print, plan_begun, plan_begin, plan_message, plan}
 use Rattle.pc_events.proofs.Plans.{view}
 use Rattle.pc_events.proofs.Right.{Right, right, touch}

@@ -4,8 +4,6 @@ use Rattle.pc_core.specs.CoreData.{CoreData}
 use Rattle.pc_semantics.specs.{declared.actors.Actor.Actor, declared.outcome.Outcome.TheVariants.Moved, Configurations.Configuration, Configurations.start, Step.step, Step.followed, Step.after, Step.outcomes, declared.ahead.Ahead.Ahead, Ahead.ahead_of}
 use Rattle.pc_semantics.specs.declared.ahead.Ahead.TheVariants as ahead
 
--- ---- events
-
 -- The configuration in which a place of a list has its turn.
 abbrev pub at_place : CoreData → List ℕ → ℕ → Configuration
 at_place core list p = after core (take p list)
@@ -62,8 +60,7 @@ pub record Carries (core : CoreData) (list : List ℕ) (p q : ℕ) : Type 0 wher
   pub later : p < q
   pub message : taken_before core list q receiver ≡ taken_before core list p receiver + waiting_for (at_place core list p) receiver
 
--- ---- the order
-
+-- Which event of a run comes before which.
 pub data Before (core : CoreData) (list : List ℕ) : (earlier later : ℕ) → Type 0 where
   -- two events of one actor
   own : (i p q : ℕ) → p < q → Event core list p i → Event core list q i → Before core list p q

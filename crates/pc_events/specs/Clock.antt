@@ -28,8 +28,6 @@ pub record Clocks (core : CoreData) (list : List ℕ) (p : ℕ) (numbers : List 
   pub actors : length numbers ≡ length (at_place core list p).actors
   pub each : Each (Clock core list p) numbers
 
--- ---- events that conflict
-
 -- Two events of different actors touch one field of one object, and one of them writes.
 pub record Conflict (core : CoreData) (list : List ℕ) (p q : ℕ) : Type 0 where
   pub i : ℕ

@@ -10,7 +10,7 @@ use Rattle.pc_core.specs.declared.declarations.Method.{Method}
 use Rattle.pc_core.specs.declared.nodes.Node.{Node}
 use Rattle.pc_lists.specs.Lists.{◌>>=◌, Text}
 use Rattle.pc_valid.specs.Words.{Masks}
-use Rattle.pc_sub.specs.DeclarationFaults.{first_fault}
+use Rattle.pc_sub.specs.FirstFault.{IsFirstDeclarationFault}
 use Rattle.pc_sub.specs.declared.faults.DeclFault.{DeclFault}
 use Rattle.pc_token.specs.declared.kinds.Token.{Token}
 use Rattle.pc_words.specs.Scene.{SceneData}
@@ -21,7 +21,7 @@ module _ (name bytes : Text) (tokens : List Token) (core : CoreData) where
   abbrev Explains : Text → Type 0
   Explains = IsExplanation name bytes tokens core
 
-  pub declaration_made : (f : DeclFault) (text : Text) → first_fault core ≡ Some f → text ≡ declaration_text name (scene_of bytes tokens core []) f → Explains text
+  pub declaration_made : (f : DeclFault) (text : Text) → IsFirstDeclarationFault core f → text ≡ declaration_text name (scene_of bytes tokens core []) f → Explains text
   declaration_made f text fault e = subst Explains (sym e) (declared f fault)
 
   pub node_made : (ann : Ann) (n : ℕ) (m : Masks) (x : Node) (s : SceneData) (text : Text) → StopsAt core n m ann → slice_get core.nodes n ≡ Some x

@@ -1,7 +1,7 @@
 -- A core has at most one explanation, and one that has a derivation has none.
 use Rattle.std.specs.Prelude.{◌≡◌, ℕ, ◌+◌, ◌<◌, List, [], length, Some, slice_get}
 use Rattle.std.proofs.Common.{ap, sym, ◌∙◌, arith}
-use Rattle.std.proofs.lemmas.Option.{same_Some, none-some}
+use Rattle.std.proofs.lemmas.Option.{same_Some}
 use Rattle.pc_ann.specs.declared.annotation.Ann.{Ann}
 use Rattle.pc_ann.specs.declared.annotation.Note.{Note}
 use Rattle.pc_check.specs.Faults.{StopsAt, InferenceLeavesUnset}
@@ -17,8 +17,8 @@ use Rattle.pc_valid.specs.Words.{Masks}
 use Rattle.pc_valid.specs.Valid.{KeepsWritten}
 use Rattle.pc_valid.specs.NoRule.{MeetsReached}
 use Rattle.pc_sub.specs.Declarations.{DeclOk}
-use Rattle.pc_sub.specs.DeclarationFaults.{first_fault}
-use Rattle.pc_sub.specs.DeclarationLaws.{NoFaultWhereFit}
+use Rattle.pc_sub.specs.DeclarationLaws.{NoFaultWhereFit, OneFirstFault}
+use Rattle.pc_sub.specs.FirstFault.{IsFirstDeclarationFault}
 use Rattle.pc_sub.specs.declared.faults.DeclFault.{DeclFault}
 use Rattle.pc_token.specs.declared.kinds.Token.{Token}
 use Rattle.pc_explain.specs.Explanation.{all_of, declaration_text, node_explanation, reasons_of, scene_of, stop_at, unset_text}
@@ -35,8 +35,8 @@ same_notes core a b n agree f wa wb h i la lb =
 
 -- ---- no declaration fails if a node has no rule
 
-no_fault : (core : CoreData) (x : DeclFault) → NoFaultWhereFit → Formed core → first_fault core ≡ Some x → DeclOk core → ⊥
-no_fault core x fits f e d = none-some x (sym ((fits core f).1 d) ∙ e)
+no_fault : (core : CoreData) (x : DeclFault) → NoFaultWhereFit → Formed core → IsFirstDeclarationFault core x → DeclOk core → ⊥
+no_fault core x fits f e d = (fits core f).0 d x e
 
 -- ---- one node
 
@@ -99,18 +99,18 @@ unset_one name bytes tokens core a b m k one agree f left other =
 
 -- ---- one explanation
 
-pub one_text : faults.OneNode → faults.OneConstructor → faults.OneKindOfFault → OneExplanation → faults.PrefixesAgree → NoFaultWhereFit → ExplanationsAreOne
-one_text node constructor kind one agree fits name bytes tokens core text other f (declared d e) (declared c g) =
-    ap (λ q. declaration_text name (scene_of bytes tokens core []) q) (same_Some d c (sym e ∙ g))
-one_text node constructor kind one agree fits name bytes tokens core text other f (declared d e) (no_rule a n m x s g) = absurd (no_fault core d fits f e s.0.declarations)
-one_text node constructor kind one agree fits name bytes tokens core text other f (declared d e) (unset a k l) = absurd (no_fault core d fits f e l.0.declarations)
-one_text node constructor kind one agree fits name bytes tokens core text other f (no_rule a n m x s g) (declared d e) = absurd (no_fault core d fits f e s.0.declarations)
-one_text node constructor kind one agree fits name bytes tokens core text other f (no_rule a n m x s g) (no_rule b k l y t h) =
+pub one_text : faults.OneNode → faults.OneConstructor → faults.OneKindOfFault → OneExplanation → faults.PrefixesAgree → NoFaultWhereFit → OneFirstFault → ExplanationsAreOne
+one_text node constructor kind one agree fits first name bytes tokens core text other f (declared d e) (declared c g) =
+    ap (λ q. declaration_text name (scene_of bytes tokens core []) q) (first core d c f e g)
+one_text node constructor kind one agree fits first name bytes tokens core text other f (declared d e) (no_rule a n m x s g) = absurd (no_fault core d fits f e s.0.declarations)
+one_text node constructor kind one agree fits first name bytes tokens core text other f (declared d e) (unset a k l) = absurd (no_fault core d fits f e l.0.declarations)
+one_text node constructor kind one agree fits first name bytes tokens core text other f (no_rule a n m x s g) (declared d e) = absurd (no_fault core d fits f e s.0.declarations)
+one_text node constructor kind one agree fits first name bytes tokens core text other f (no_rule a n m x s g) (no_rule b k l y t h) =
     node_one name bytes tokens core a b n k m l x y one agree f s t g h
-one_text node constructor kind one agree fits name bytes tokens core text other f (no_rule a n m x s g) (unset b k l) = absurd (kind core a b n k f s.0 l.0)
-one_text node constructor kind one agree fits name bytes tokens core text other f (unset a k l) (declared d e) = absurd (no_fault core d fits f e l.0.declarations)
-one_text node constructor kind one agree fits name bytes tokens core text other f (unset a k l) (no_rule b n m x s g) = absurd (kind core b a n k f s.0 l.0)
-one_text node constructor kind one agree fits name bytes tokens core text other f (unset a m l) (unset b k r) = unset_one name bytes tokens core a b m k constructor agree f l r
+one_text node constructor kind one agree fits first name bytes tokens core text other f (no_rule a n m x s g) (unset b k l) = absurd (kind core a b n k f s.0 l.0)
+one_text node constructor kind one agree fits first name bytes tokens core text other f (unset a k l) (declared d e) = absurd (no_fault core d fits f e l.0.declarations)
+one_text node constructor kind one agree fits first name bytes tokens core text other f (unset a k l) (no_rule b n m x s g) = absurd (kind core b a n k f s.0 l.0)
+one_text node constructor kind one agree fits first name bytes tokens core text other f (unset a m l) (unset b k r) = unset_one name bytes tokens core a b m k constructor agree f l r
 
 pub none_accepted : faults.NoneWithFault → faults.NoneWithoutRule → faults.NoneWithUnset → AcceptedHasNone
 none_accepted fault rule left name bytes tokens core text f d (declared x e) = fault core x f e d

@@ -10,7 +10,7 @@ use Rattle.pc_lists.specs.Lists.{◌>>=◌, Text}
 use Rattle.pc_refusals.specs.FaultLines.{decl_text}
 use Rattle.pc_valid.specs.Words.{Masks, Slots}
 use Rattle.pc_sentences.specs.{Sentences.sentence, Stop.StopData}
-use Rattle.pc_sub.specs.{DeclarationFaults.first_fault, declared.faults.DeclFault.DeclFault}
+use Rattle.pc_sub.specs.{FirstFault.IsFirstDeclarationFault, declared.faults.DeclFault.DeclFault}
 use Rattle.pc_token.specs.declared.kinds.Token.{Token}
 use Rattle.pc_window.specs.Head.{head}
 use Rattle.pc_parts.specs.{NodeWords.node_line, Parts.part_lines}
@@ -104,7 +104,7 @@ unset_text name s x t = head name s.bytes x.span (codes "field not set") ++ unse
 
 -- The text explains why the source with this name, these bytes, these tokens and this core is refused.
 pub data IsExplanation (name bytes : Text) (tokens : List Token) (core : CoreData) : Text → Type 0 where
-  declared : (f : DeclFault) → first_fault core ≡ Some f → IsExplanation name bytes tokens core (declaration_text name (scene_of bytes tokens core []) f)
+  declared : (f : DeclFault) → IsFirstDeclarationFault core f → IsExplanation name bytes tokens core (declaration_text name (scene_of bytes tokens core []) f)
   no_rule : (ann : Ann) (n : ℕ) (m : Masks) (x : Node) → StopsAt core n m ann → slice_get core.nodes n ≡ Some x
       → IsExplanation name bytes tokens core (node_explanation name (stop_at (scene_of bytes tokens core ann.notes) n x m) (reasons_of core ann x m))
   unset : (ann : Ann) (k : ℕ) (left : InferenceLeavesUnset core k ann)

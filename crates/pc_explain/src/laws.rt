@@ -6,7 +6,7 @@ use pc_check::{
     nothing_is_derivable_with_a_field_unset, nothing_is_derivable_without_a_rule, prefixes_agree,
 };
 use pc_conditions::one_explanation;
-use pc_sub::no_fault_where_declarations_fit;
+use pc_sub::{no_fault_where_declarations_fit, one_declaration_fails_first};
 
 /// A core has at most one explanation.
 pub fn explanations_are_one()
@@ -16,6 +16,7 @@ pub fn explanations_are_one()
     one_explanation();
     prefixes_agree();
     no_fault_where_declarations_fit();
+    one_declaration_fails_first();
 }
 
 /// A core that has a derivation has no explanation.

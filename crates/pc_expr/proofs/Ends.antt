@@ -6,7 +6,7 @@ use Rattle.pc_token.specs.declared.words.Word.{Word}
 use Rattle.pc_token.specs.declared.signs.Sign.{Sign}
 use Rattle.pc_caps.specs.declared.capability.Cap.{Cap}
 use Rattle.pc_tree.specs.declared.kinds.Op.{Op}
-use Rattle.pc_token.specs.Asking.{is_sign, is_word, kind_is_sign, kind_is_word}
+use Rattle.pc_token.specs.Words.{is_sign, is_word, kind_is_sign, kind_is_word}
 use Rattle.pc_grammar.specs.Spells.{op_of, kind_op, cap_of, kind_cap}
 use Rattle.pc_grammar.specs.Reading.{is_op, is_this}
 

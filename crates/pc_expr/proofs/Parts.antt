@@ -8,7 +8,7 @@ use Rattle.pc_tree.specs.declared.kinds.Op.{Op}
 use Rattle.pc_token.specs.declared.kinds.Token.{Token}
 use Rattle.pc_token.specs.declared.words.Word.TheVariants as w
 use Rattle.pc_token.specs.declared.signs.Sign.TheVariants as s
-use Rattle.pc_token.specs.Asking.{is_sign, is_word}
+use Rattle.pc_token.specs.Words.{is_sign, is_word}
 use Rattle.pc_grammar.specs.Spells.{span_from_to, op_of}
 use Rattle.pc_grammar.specs.Reading.{ReadingOutcome, Parser, Inner, and_then, pure, ◌>>=◌, ◌>>◌, peek, deeper, take_if, all, next_item, after, at, is_op, begins_suffix, item, expr_in, seq_of, seq_in, seq_with, arm, other, if_, term, infix_of, infix_by, infix_in, infix_with, atom, suffix, postfix, chain_of, arg_list, assigns, becomes, expr_by, expr_with, too_deep, inner, maybe_cap, while_, recover_}
 use Rattle.pc_grammar.proofs.Levels.{no_deeper, one_deeper, inner_seq}
@@ -18,6 +18,7 @@ use Rattle.pc_expr.specs.Onto.{onto, seq_parts, more_items, some_args, arg_list_
 use Rattle.pc_expr.specs.Gives.{Stops, GivesReading}
 use Rattle.pc_expr.specs.declared.stop.ParseStop.{ParseStop}
 use Rattle.pc_expr.specs.declared.stop.ParseStop.TheVariants as stop
+use Rattle.pc_tree.specs.Parts.{exprs_of, arms_of, seq_span}
 
 -- the same is read if the same is read first, and then the same after whatever that is
 pub same_behind : {A B : Type 0} (o : ReadingOutcome A) (f g : A → Parser B) → ((x : A) (rest : List Token) → f x rest ≡ g x rest) → and_then o f ≡ and_then o g
@@ -58,14 +59,14 @@ pub seq_by_items : (n : ℕ) (i : Inner) (ts : List Token) → seq_in n i ts ≡
 unfolding seq_parts
 seq_by_items n i ts = seq_by_parts n i ts ∙ grouped (item (expr_in n i) ts) (λ x. more_items n i (x ∷ [])) (λ is. pure (seq_of is))
 
-args_some : (e : Parser t.Expr) (ts : List Token) → (e >>= λ first. all (after (is_sign s.Comma)) e >>= λ more. pure (t.exprs_of (first ∷ more))) ts ≡ (some_args e >>= λ es. pure (t.exprs_of es)) ts
+args_some : (e : Parser t.Expr) (ts : List Token) → (e >>= λ first. all (after (is_sign s.Comma)) e >>= λ more. pure (exprs_of (first ∷ more))) ts ≡ (some_args e >>= λ es. pure (exprs_of es)) ts
 unfolding some_args
 args_some e ts =
-    same_behind (e ts) _ _ (λ x rest. onto_first (after (is_sign s.Comma)) e (x ∷ []) (λ es. pure (t.exprs_of es)) rest)
-    ∙ grouped (e ts) (λ x. onto (after (is_sign s.Comma)) e (x ∷ [])) (λ es. pure (t.exprs_of es))
+    same_behind (e ts) _ _ (λ x rest. onto_first (after (is_sign s.Comma)) e (x ∷ []) (λ es. pure (exprs_of es)) rest)
+    ∙ grouped (e ts) (λ x. onto (after (is_sign s.Comma)) e (x ∷ [])) (λ es. pure (exprs_of es))
 
 args_at : (e : Parser t.Expr) (b : Bool) (ts : List Token)
-    → (if b then pure t.no_exprs else (e >>= λ first. all (after (is_sign s.Comma)) e >>= λ more. pure (t.exprs_of (first ∷ more)))) ts ≡ (if b then pure t.no_exprs else (some_args e >>= λ es. pure (t.exprs_of es))) ts
+    → (if b then pure t.no_exprs else (e >>= λ first. all (after (is_sign s.Comma)) e >>= λ more. pure (exprs_of (first ∷ more)))) ts ≡ (if b then pure t.no_exprs else (some_args e >>= λ es. pure (exprs_of es))) ts
 args_at e true ts = refl
 args_at e false ts = args_some e ts
 
@@ -87,7 +88,7 @@ unfolding postfix postfix_parts
 postfix_by_parts n i ts = same_behind (atom n i.seq ts) _ _ (λ e rest. onto_first (at begins_suffix) (suffix n i.expr) [] (λ ss. pure (chain_of e ss)) rest)
 
 behind_arms : Parser t.Seq → List t.Arm → Parser t.Expr
-behind_arms body as' = other body >>= λ o. take_if (is_word w.EndWord) >>= λ close. pure (t.if_ (t.arms_of as') o (span_from_to (first_arm as') close.span))
+behind_arms body as' = other body >>= λ o. take_if (is_word w.EndWord) >>= λ close. pure (t.if_ (arms_of as') o (span_from_to (first_arm as') close.span))
 
 arms_first : (body : Parser t.Seq) (ts : List Token)
     → (arm w.IfWord body >>= λ a. all (at (is_word w.ElseifWord)) (arm w.ElseifWord body) >>= λ more. behind_arms body (a ∷ more)) ts ≡ (arms body >>= behind_arms body) ts
@@ -114,23 +115,23 @@ closed_first (Ok r) word f = taken_first (take_if (is_word word) r.1) r.0 f
 closed_first (Err e) word f = refl
 
 pub arm_reads : (word : Word) (body : Parser t.Seq) (ts : List Token)
-    → arm word body ts ≡ and_then (take_if (is_word word) ts) (λ opener rest. and_then (closed_by body w.ThenWord rest) (λ c. body >>= λ b. pure (t.arm_of c.0 b (span_from_to opener.span (t.seq_span b)))))
+    → arm word body ts ≡ and_then (take_if (is_word word) ts) (λ opener rest. and_then (closed_by body w.ThenWord rest) (λ c. body >>= λ b. pure (t.arm_of c.0 b (span_from_to opener.span (seq_span b)))))
 unfolding arm
 arm_reads word body ts = same_behind (take_if (is_word word) ts) _ _ (λ opener rest.
-    same_behind (body rest) _ _ (λ c more. sym (grouped (take_if (is_word w.ThenWord) more) (λ _. body) (λ b. pure (t.arm_of c b (span_from_to opener.span (t.seq_span b))))))
-    ∙ closed_first (body rest) w.ThenWord (λ c _. body >>= λ b. pure (t.arm_of c b (span_from_to opener.span (t.seq_span b)))))
+    same_behind (body rest) _ _ (λ c more. sym (grouped (take_if (is_word w.ThenWord) more) (λ _. body) (λ b. pure (t.arm_of c b (span_from_to opener.span (seq_span b))))))
+    ∙ closed_first (body rest) w.ThenWord (λ c _. body >>= λ b. pure (t.arm_of c b (span_from_to opener.span (seq_span b)))))
 
-pub seq_spans : (b : Seq) → t.seq_span (seq_view b) ≡ b.span
+pub seq_spans : (b : Seq) → seq_span (seq_view b) ≡ b.span
 seq_spans b = search (rules, the_lemmas)
 
 -- an arm made of parts that are read
 pub arm_made : (word : Word) (body : Parser t.Seq) (ts us vs rest : List Token) (x : Token) (c : t.Seq × Span) (b : t.Seq)
-    → take_if (is_word word) ts ≡ Ok (x, us) → closed_by body w.ThenWord us ≡ Ok (c, vs) → body vs ≡ Ok (b, rest) → arm word body ts ≡ Ok (t.arm_of c.0 b (span_from_to x.span (t.seq_span b)), rest)
+    → take_if (is_word word) ts ≡ Ok (x, us) → closed_by body w.ThenWord us ≡ Ok (c, vs) → body vs ≡ Ok (b, rest) → arm word body ts ≡ Ok (t.arm_of c.0 b (span_from_to x.span (seq_span b)), rest)
 arm_made word body ts us vs rest x c b opened closed read =
     arm_reads word body ts
-    ∙ ap (λ o. and_then o (λ opener more. and_then (closed_by body w.ThenWord more) (λ d. body >>= λ e. pure (t.arm_of d.0 e (span_from_to opener.span (t.seq_span e)))))) opened
-    ∙ ap (λ o. and_then o (λ d. body >>= λ e. pure (t.arm_of d.0 e (span_from_to x.span (t.seq_span e))))) closed
-    ∙ ap (λ o. and_then o (λ e. pure (t.arm_of c.0 e (span_from_to x.span (t.seq_span e))))) read
+    ∙ ap (λ o. and_then o (λ opener more. and_then (closed_by body w.ThenWord more) (λ d. body >>= λ e. pure (t.arm_of d.0 e (span_from_to opener.span (seq_span e)))))) opened
+    ∙ ap (λ o. and_then o (λ d. body >>= λ e. pure (t.arm_of d.0 e (span_from_to x.span (seq_span e))))) closed
+    ∙ ap (λ o. and_then o (λ e. pure (t.arm_of c.0 e (span_from_to x.span (seq_span e))))) read
 
 while_first : (body : Parser t.Seq) (opener : Token) (rest : List Token)
     → and_then (body rest) (λ c. take_if (is_word w.DoWord) >> body >>= λ b. take_if (is_word w.EndWord) >>= λ close. pure (t.while_ c b (span_from_to opener.span close.span)))
@@ -197,8 +198,8 @@ gives_made view make tokens (Err (stop.TooDeep p)) read gives = (ap (λ o. and_t
 gives_made view make tokens (Err stop.Memory) read gives = tt
 
 -- if there is no ")", there are arguments
-pub not_closed : (e : Parser t.Expr) (x : Token) (ts rest : List Token) → ts ≡ x ∷ rest → is_sign s.CloseParen x ≡ false → arg_list_parts e ts ≡ and_then (some_args e ts) (λ es. pure (t.exprs_of es))
+pub not_closed : (e : Parser t.Expr) (x : Token) (ts rest : List Token) → ts ≡ x ∷ rest → is_sign s.CloseParen x ≡ false → arg_list_parts e ts ≡ and_then (some_args e ts) (λ es. pure (exprs_of es))
 unfolding arg_list_parts peek
 not_closed e x ts rest here other =
-    let p = λ (b : Bool). (if b then pure t.no_exprs else (some_args e >>= λ es. pure (t.exprs_of es))) in
-    ap (λ l. and_then (peek l) (arg_list_by e)) here ∙ ap (λ b. p b (x ∷ rest)) other ∙ ap (λ l. and_then (some_args e l) (λ es. pure (t.exprs_of es))) (sym here)
+    let p = λ (b : Bool). (if b then pure t.no_exprs else (some_args e >>= λ es. pure (exprs_of es))) in
+    ap (λ l. and_then (peek l) (arg_list_by e)) here ∙ ap (λ b. p b (x ∷ rest)) other ∙ ap (λ l. and_then (some_args e l) (λ es. pure (exprs_of es))) (sym here)

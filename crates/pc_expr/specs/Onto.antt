@@ -1,8 +1,8 @@
 -- The repetitions of the grammar, and the rules around them.
 use Rattle.std.specs.Prelude.{ℕ, List, [], ◌∷◌, ◌++◌, Option, Some, None, if◌then◌else◌}
 use Rattle.pc_caps.specs.declared.span.Span.{Span}
-use Rattle.pc_token.specs.{declared.kinds.Token.Token, declared.kinds.TokenKind.TokenKind, Asking.is_sign, Asking.is_word}
-use Rattle.pc_tree.specs.declared.kinds.Op.{Op}
+use Rattle.pc_token.specs.{declared.kinds.Token.Token, declared.kinds.TokenKind.TokenKind, Words.is_sign, Words.is_word}
+use Rattle.pc_tree.specs.{declared.kinds.Op.Op, Parts.exprs_of, Parts.arms_of, Parts.arm_span}
 use Rattle.pc_grammar.specs.{Spells.span_from_to, Spells.op_of, Reading.Parser, Reading.Inner, Reading.◌>>=◌, Reading.pure, Reading.name, Reading.type_name, Reading.refuse, Reading.leaf, Reading.peek, Reading.deeper, Reading.take_if, Reading.all, Reading.next_item, Reading.after, Reading.at, Reading.is_op, Reading.begins_suffix, Reading.item, Reading.expr_in, Reading.seq_of, Reading.arm, Reading.other, Reading.term, Reading.infix_of, Reading.atom, Reading.suffix, Reading.chain_of}
 use Rattle.pc_tree.specs.Tree as t
 use Rattle.pc_token.specs.declared.kinds.TokenKind.TheVariants as k
@@ -42,7 +42,7 @@ unfoldable pub some_args : Parser t.Expr → Parser (List t.Expr)
 some_args e = e >>= λ x. more_args e (x ∷ [])
 
 abbrev pub arg_list_by : Parser t.Expr → Token → Parser t.Exprs
-arg_list_by e x = if is_sign s.CloseParen x then pure t.no_exprs else (some_args e >>= λ es. pure (t.exprs_of es))
+arg_list_by e x = if is_sign s.CloseParen x then pure t.no_exprs else (some_args e >>= λ es. pure (exprs_of es))
 
 -- [Expr {"," Expr}], before a ")"
 unfoldable pub arg_list_parts : Parser t.Expr → Parser t.Exprs
@@ -70,10 +70,10 @@ arms body = arm w.IfWord body >>= λ a. more_arms body (a ∷ [])
 
 abbrev pub first_arm : List t.Arm → Span
 first_arm [] = record { start = 0; end = 0 }
-first_arm (a ∷ more) = t.arm_span a
+first_arm (a ∷ more) = arm_span a
 
 unfoldable pub if_parts : ℕ → Parser t.Seq → Parser t.Expr
-if_parts n body = deeper n (arms body >>= λ as'. other body >>= λ o. take_if (is_word w.EndWord) >>= λ close. pure (t.if_ (t.arms_of as') o (span_from_to (first_arm as') close.span)))
+if_parts n body = deeper n (arms body >>= λ as'. other body >>= λ o. take_if (is_word w.EndWord) >>= λ close. pure (t.if_ (arms_of as') o (span_from_to (first_arm as') close.span)))
 
 -- a name, or a type name, as an expression
 unfoldable pub named : Parser t.Expr

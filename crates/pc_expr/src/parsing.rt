@@ -2,8 +2,7 @@
 ghost use Rattle.std.specs.Prelude.{◌<◌, ◌≤◌, ◌-◌, IfOk, IfErr, length};
 ghost use Rattle.pc_tree.specs.View.{expr_view, seq_view};
 ghost use Rattle.pc_tree.specs.Depths as levels;
-ghost use Rattle.pc_grammar.specs.Spells.{Spells, SpellsInfix, SpellsSeq};
-ghost use Rattle.pc_grammar.specs.SpellsFile.{level_limit};
+ghost use Rattle.pc_grammar.specs.Spells.{Spells, SpellsInfix, SpellsSeq, level_limit};
 ghost use Rattle.pc_expr.specs.Gives.{EndsWithEnd};
 ghost use Rattle.pc_expr.specs.Answers.{Places, ReadsTo, RefusesTree, IsOnly, StopsAtToken, NamesByte};
 

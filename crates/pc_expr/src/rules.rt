@@ -2,7 +2,7 @@
 ghost use Rattle.std.specs.Prelude.{◌≡◌, ◌≤◌, [], ◌∷◌, drop, map, IfOk, IfErr};
 ghost use Rattle.pc_caps.specs.declared.span.Span.{Span as Place};
 ghost use Rattle.pc_token.specs.declared.signs.Sign.TheVariants.{Assign};
-ghost use Rattle.pc_token.specs.Asking as asking;
+ghost use Rattle.pc_token.specs.Words as spec;
 ghost use Rattle.pc_tree.specs.Tree as t;
 ghost use Rattle.pc_tree.specs.View.{expr_view, item_view, suffix_view, arm_view, seq_view, exprs_view, other_view};
 ghost use Rattle.pc_grammar.specs.Spells as spells;
@@ -149,7 +149,7 @@ fn becomes(
     left: u16,
 ) -> Result<(Expr, usize), ParseStop>
     requires { StandsAtToken tokens.now at }
-    ensures gives { GivesReading expr_view tokens.now result (reading.deeper left (λ ts. reading.and_then (reading.take_if (asking.is_sign Assign) ts) (λ _. (reading.inner left).expr)) (drop at tokens.now)) }
+    ensures gives { GivesReading expr_view tokens.now result (reading.deeper left (λ ts. reading.and_then (reading.take_if (spec.is_sign Assign) ts) (λ _. (reading.inner left).expr)) (drop at tokens.now)) }
     ensures moves { IfOk result (λ r. Moves tokens.now at r.1) }
 {
     if left == 0 {
@@ -599,7 +599,7 @@ fn closed(
     word: Word,
 ) -> Result<((Seq, Span), usize), ParseStop>
     requires { StandsAtToken tokens.now at }
-    ensures gives { GivesReading {Y = t.Seq × Place} (λ p. (seq_view p.0, p.1)) tokens.now result (reading.and_then (reading.seq_in left (reading.inner left) (drop at tokens.now)) (λ body ts. reading.and_then (reading.take_if (asking.is_word word) ts) (λ close. reading.pure (body, close.span)))) }
+    ensures gives { GivesReading {Y = t.Seq × Place} (λ p. (seq_view p.0, p.1)) tokens.now result (reading.and_then (reading.seq_in left (reading.inner left) (drop at tokens.now)) (λ body ts. reading.and_then (reading.take_if (spec.is_word word) ts) (λ close. reading.pure (body, close.span)))) }
     ensures moves { IfOk result (λ r. Moves tokens.now at r.1) }
 {
     let (body, end) = seq(alloc, tokens, at, left)?;

@@ -1,6 +1,7 @@
 //! The spans of parts of a tree in the text.
 ghost use Rattle.std.specs.Prelude.{◌≡◌, map};
 ghost use Rattle.pc_tree.specs.Tree as t;
+ghost use Rattle.pc_tree.specs.Parts as parts;
 ghost use Rattle.pc_tree.specs.View.{expr_view, item_view, suffix_view, arm_view};
 ghost use Rattle.pc_grammar.specs.Spells as spells;
 ghost use Rattle.pc_grammar.specs.Reading as reading;
@@ -12,7 +13,7 @@ use pc_tree::{Arm, Expr, Item, Suffix, join, span_of};
 const NOWHERE: Span = Span { start: 0, end: 0 };
 
 fn item_span(item: &Item) -> Span
-    ensures { result ≡ t.item_span (item_view item.now) }
+    ensures { result ≡ parts.item_span (item_view item.now) }
 {
     match item {
         Item::Local { span, .. } => *span,
@@ -21,7 +22,7 @@ fn item_span(item: &Item) -> Span
 }
 
 fn suffix_span(suffix: &Suffix) -> Span
-    ensures { result ≡ t.suffix_span (suffix_view suffix.now) }
+    ensures { result ≡ parts.suffix_span (suffix_view suffix.now) }
 {
     match suffix {
         Suffix::Dot(name) => name.span,

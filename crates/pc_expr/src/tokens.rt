@@ -3,8 +3,8 @@ ghost use Rattle.std.specs.Prelude.{◌≡◌, ◌≢◌, ◌+◌, ◌∷◌, �
 ghost use Rattle.pc_token.specs.declared.kinds.TokenKind.TheVariants.{End};
 ghost use Rattle.pc_token.specs.declared.signs.Sign.TheVariants.{Comma};
 ghost use Rattle.pc_token.specs.declared.words.Word.TheVariants.{ElseifWord};
-ghost use Rattle.pc_token.specs.Asking as asking;
-ghost use Rattle.pc_grammar.specs.Spells as grammar;
+ghost use Rattle.pc_token.specs.Words as spec;
+ghost use Rattle.pc_grammar.specs.Parts as parts;
 ghost use Rattle.pc_grammar.specs.Reading as reading;
 ghost use Rattle.pc_expr.specs.Gives.{StandsAtToken, Moves, GivesReading};
 
@@ -26,7 +26,7 @@ pub fn look(tokens: &[Token], at: usize) -> &Token
 #[tactic(auto, using(crate::proofs::Ends::is_sign_not_end), unfolding(pc_grammar::specs::Reading::take_if))]
 pub fn take_sign(tokens: &[Token], at: usize, sign: Sign) -> Result<(&Token, usize), ParseStop>
     requires { StandsAtToken tokens.now at }
-    ensures gives { GivesReading (λ t. t.now) tokens.now result (reading.take_if (asking.is_sign sign) (drop at tokens.now)) }
+    ensures gives { GivesReading (λ t. t.now) tokens.now result (reading.take_if (spec.is_sign sign) (drop at tokens.now)) }
     ensures moves { IfOk result (λ r. Moves tokens.now at r.1) }
 {
     let token = look(tokens, at);
@@ -41,7 +41,7 @@ pub fn take_sign(tokens: &[Token], at: usize, sign: Sign) -> Result<(&Token, usi
 #[tactic(auto, using(crate::proofs::Ends::is_word_not_end), unfolding(pc_grammar::specs::Reading::take_if))]
 pub fn take_word(tokens: &[Token], at: usize, word: Word) -> Result<(&Token, usize), ParseStop>
     requires { StandsAtToken tokens.now at }
-    ensures gives { GivesReading (λ t. t.now) tokens.now result (reading.take_if (asking.is_word word) (drop at tokens.now)) }
+    ensures gives { GivesReading (λ t. t.now) tokens.now result (reading.take_if (spec.is_word word) (drop at tokens.now)) }
     ensures moves { IfOk result (λ r. Moves tokens.now at r.1) }
 {
     let token = look(tokens, at);
@@ -73,7 +73,7 @@ pub fn next_item(tokens: &[Token], at: usize) -> Option<usize>
 #[tactic(auto, using(crate::proofs::Ends::is_sign_not_end), unfolding(pc_grammar::specs::Reading::after))]
 pub fn after_comma(tokens: &[Token], at: usize) -> Option<usize>
     requires { StandsAtToken tokens.now at }
-    ensures value { option_map (λ p. drop p tokens.now) result ≡ reading.after (asking.is_sign Comma) (drop at tokens.now) }
+    ensures value { option_map (λ p. drop p tokens.now) result ≡ reading.after (spec.is_sign Comma) (drop at tokens.now) }
     ensures there { IfSome result (λ p. (at ≤ p) × StandsAtToken tokens.now p) }
 {
     if is_sign(look(tokens, at), Sign::Comma) {
@@ -83,9 +83,9 @@ pub fn after_comma(tokens: &[Token], at: usize) -> Option<usize>
     }
 }
 
-#[tactic(auto, unfolding(pc_grammar::specs::Spells::same_op))]
+#[tactic(auto, unfolding(pc_grammar::specs::Parts::same_op))]
 fn same_op(one: Op, other: Op) -> bool
-    ensures { result ≡ grammar.same_op one other }
+    ensures { result ≡ parts.same_op one other }
 {
     one == other
 }
@@ -139,7 +139,7 @@ pub fn at_suffix(tokens: &[Token], at: usize) -> Option<usize>
 #[tactic(auto, unfolding(pc_grammar::specs::Reading::at))]
 pub fn at_elseif(tokens: &[Token], at: usize) -> Option<usize>
     requires { StandsAtToken tokens.now at }
-    ensures value { option_map (λ p. drop p tokens.now) result ≡ reading.at (asking.is_word ElseifWord) (drop at tokens.now) }
+    ensures value { option_map (λ p. drop p tokens.now) result ≡ reading.at (spec.is_word ElseifWord) (drop at tokens.now) }
     ensures there { IfSome result (λ p. (at ≤ p) × StandsAtToken tokens.now p) }
 {
     if is_word(look(tokens, at), Word::ElseifWord) {

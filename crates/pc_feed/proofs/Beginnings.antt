@@ -8,7 +8,7 @@ use Rattle.pc_valid.specs.Words.{Slots}
 use Rattle.pc_deriv.specs.declared.version.Version.{Version}
 use Rattle.pc_deriv.specs.declared.line.Line.{Line}
 use Rattle.pc_deriv.specs.declared.line.Line.TheVariants as line
-use Rattle.pc_deriv.specs.Text.{version_number}
+use Rattle.pc_deriv.specs.Parts.{version_number}
 use Rattle.pc_deriv.specs.Lines.{line_of_slot, lines_of}
 
 same_head : (x y : Line) (xs ys : List Line) → ◌≡◌ {A = List Line} (x ∷ xs) (y ∷ ys) → x ≡ y

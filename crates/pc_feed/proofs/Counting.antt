@@ -11,7 +11,7 @@ use Rattle.pc_deriv.specs.declared.line.Line.{Line}
 use Rattle.pc_deriv.specs.declared.line.Line.TheVariants as line
 use Rattle.pc_deriv.specs.declared.line.LineFault.{LineFault}
 use Rattle.pc_deriv.specs.declared.line.LineFault.TheVariants as fault
-use Rattle.pc_deriv.specs.Text.{derivation_slot_limit, derivation_node_limit}
+use Rattle.pc_deriv.specs.Parts.{derivation_slot_limit, derivation_node_limit}
 use Rattle.pc_deriv.specs.Reading.{head_at, read_slot, note_at}
 use Rattle.pc_deriv.specs.Lines.{Taken, nothing_taken, longest_line, slot_line_in, node_in, line_in, within_limits, checked, line_meaning, counts_with, behind, answered, with_line_byte, took_at, took, with_first_line, fed, line_of_slot}
 use Rattle.pc_feed.specs.Lines.{lines_in}

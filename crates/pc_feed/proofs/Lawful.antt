@@ -21,7 +21,8 @@ use Rattle.pc_deriv.specs.Laws.{as_read}
 use Rattle.pc_deriv.proofs.Outcome.{one_annotation, one_fault, no_fault}
 use Rattle.pc_deriv.proofs.Whole.{texts_are_taken}
 use Rattle.pc_judge.specs.declared.faults.JudgeFault.{JudgeFault}
-use Rattle.pc_judge.specs.Faults.{FirstAnnotationFault, KeepsType, NodePasses}
+use Rattle.pc_judge.specs.Faults.{FirstAnnotationFault, KeepsType}
+use Rattle.pc_judge.specs.AtNodes.{NodePasses}
 use Rattle.pc_judge.proofs.Exact.{not_valid, one_first}
 use Rattle.pc_feed.specs.declared.fault.StreamFault.TheVariants as fault
 use Rattle.pc_feed.specs.Lines.{slots_in, notes_in, so_far}

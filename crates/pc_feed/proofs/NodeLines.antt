@@ -19,7 +19,8 @@ use Rattle.pc_deriv.specs.declared.line.Line.TheVariants as line
 use Rattle.pc_deriv.specs.Lines.{line_of_slot, lines_of}
 use Rattle.pc_judge.specs.declared.faults.JudgeFault.TheVariants as fault
 use Rattle.pc_judge.specs.Computed.{unset_of}
-use Rattle.pc_judge.specs.Faults.{NothingWrongBefore, FailsAt, FirstAnnotationFault, NodePasses}
+use Rattle.pc_judge.specs.Faults.{NothingWrongBefore, FirstAnnotationFault}
+use Rattle.pc_judge.specs.AtNodes.{FailsAt, NodePasses}
 use Rattle.pc_judge.proofs.AtNode.{passes, fails_set}
 use Rattle.pc_feed.specs.Waiting.{BeginsAnnotation}
 use Rattle.pc_feed.proofs.Noted.{waiting_tells}

@@ -142,8 +142,12 @@ module _ (core : CoreData) (ls : List Line) (j : Judging) (so : NothingWrong cor
               ok,
               (g.0, g.1),
               (
-                (y.0, y.1, λ keeps. not (not_kept ann (ap (λ (xs : List (ℕ × Cap)). slice_get xs wrong_at) b.1 ∙ here b.0) y.0 y.1 keeps)),
-                λ i z m h w q. ap (λ (xs : List (ℕ × Cap)). slice_get xs i) b.1 ∙ get_front slots b.0 i w (get_front j.slots (ty ∷ []) i w (so.written i z m h w q)),
+                y.0,
+                (
+                  y.1,
+                  (λ keeps. not (not_kept ann (ap (λ (xs : List (ℕ × Cap)). slice_get xs wrong_at) b.1 ∙ here b.0) y.0 y.1 keeps)),
+                  λ i z m h w q. ap (λ (xs : List (ℕ × Cap)). slice_get xs i) b.1 ∙ get_front slots b.0 i w (get_front j.slots (ty ∷ []) i w (so.written i z m h w q)),
+                ),
               ),
             );
       }

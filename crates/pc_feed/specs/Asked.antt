@@ -2,7 +2,7 @@
 use Rattle.std.specs.Prelude.{◌≡◌, ◌↔◌, ℕ, ◌+◌, ◌<◌, ◌≤◌, List, ◌++◌, length, take, Option, Some, None, slice_get}
 use Rattle.pc_core.specs.{declared.nodes.Slot.Slot, CoreData.CoreData}
 use Rattle.pc_valid.specs.Valid.{MeetsRule}
-use Rattle.pc_judge.specs.Faults.{KeepsType, NodePasses}
+use Rattle.pc_judge.specs.{Faults.KeepsType, AtNodes.NodePasses}
 use Rattle.pc_referee.specs.Asked.{Pairs}
 use Rattle.pc_deriv.specs.declared.line.Line.{Line}
 use Rattle.pc_feed.specs.{Lines.counts_in, Lines.slots_in, Lines.notes_in, Lines.so_far, Numbered.numbered_notes}

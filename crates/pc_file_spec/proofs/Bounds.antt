@@ -8,7 +8,8 @@ use Rattle.pc_tree.specs.declared.written_names.Name.{Name}
 use Rattle.pc_tree.specs.Kinds.{is_abstract, first_own}
 use Rattle.pc_tree.specs.Tree as t
 use Rattle.pc_lists.specs.Lists.{Has, Differ, Text}
-use Rattle.pc_members.specs.MemberLists.{is_among, firsts, entity_named, of_entity, of_each, trait_methods}
+use Rattle.pc_members.specs.MemberLists.{is_among, firsts, entity_named, of_each, trait_methods}
+use Rattle.pc_members.specs.Parts.{of_entity}
 use Rattle.pc_members.specs.Members.{built_in_names, texts_of, entity_names, method_texts, IsTransitiveClosure}
 use Rattle.pc_members.proofs.Differences.{same_text, among_has}
 use Rattle.pc_members.proofs.Named.{named_is, one_entity}

@@ -13,7 +13,8 @@ use Rattle.pc_names.specs.declared.fault.NameFault.TheVariants as fault
 use Rattle.pc_names.specs.declared.fault.Which.TheVariants as which
 use Rattle.pc_members.specs.MemberLists.{is_among, trait_names}
 use Rattle.pc_members.specs.Members.{built_in_names, entity_names, has_added, field_texts, method_texts}
-use Rattle.pc_names.specs.Faults.{where_, either_fault, type_faults, result_faults, provided_faults, field_faults, param_faults, signature_faults, method_faults, is_member_name, added_faults, entity_faults, entities_faults, entity_name_faults, declaration_faults, known_limit, cycle_faults, count_faults, main_faults, NamesData, Collected}
+use Rattle.pc_names.specs.Faults.{either_fault, type_faults, provided_faults, field_faults, param_faults, signature_faults, method_faults, added_faults, entity_faults, entity_name_faults, declaration_faults, cycle_faults, count_faults, main_faults, NamesData, Collected}
+use Rattle.pc_names.specs.Parts.{where_, result_faults, is_member_name, entities_faults, known_limit}
 use Rattle.pc_caps.specs.Limits.{field_limit}
 use Rattle.pc_tree.specs.Kinds.{first_own}
 use Rattle.pc_members.proofs.Differences.{among_has}

@@ -7,7 +7,8 @@ use Rattle.pc_tree.specs.Tree as t
 use Rattle.pc_lists.proofs.Cuts.{nil_left, nil_right}
 use Rattle.pc_names.specs.declared.fault.NameFault.TheVariants as fault
 use Rattle.pc_names.specs.declared.fault.Which.TheVariants as which
-use Rattle.pc_names.specs.Faults.{where_, method_count, count_faults}
+use Rattle.pc_names.specs.Faults.{count_faults}
+use Rattle.pc_names.specs.Parts.{where_, method_count}
 use Rattle.pc_caps.specs.Limits.{method_limit}
 use Rattle.pc_tree.specs.Kinds.{first_own}
 use Rattle.pc_members.specs.MemberLists.{members}

@@ -23,10 +23,11 @@ use Rattle.pc_lists.proofs.Elements.{ascends_none}
 use Rattle.pc_lists.proofs.Gets.{map_get}
 use Rattle.pc_members.specs.Members.{entity_names, Member, written, added, without_body}
 use Rattle.pc_lists.proofs.Bools.{true_false, false_true, first_true, second_true}
-use Rattle.pc_body_spec.specs.Scopes.{Context, KnownEntity}
-use Rattle.pc_body_spec.specs.Bodies.{maybe_body, initial_fields}
+use Rattle.pc_body_spec.specs.Bodies.{Context, KnownEntity, initial_fields}
+use Rattle.pc_body_spec.specs.Parts.{maybe_body}
 use Rattle.pc_body_spec.specs.Places.{body_places, initial_places, written_body_places}
-use Rattle.pc_body_spec.specs.Slots.{cap_or, initial_locals, body_locals}
+use Rattle.pc_body_spec.specs.Slots.{initial_locals}
+use Rattle.pc_body_spec.specs.Parts.{cap_or, body_locals}
 use Rattle.pc_file_spec.specs.Cores.{known_of, param_of, params_of, kind_of, word_receiver, receiver_cap, written_result, object_of, word_result, result_of, member_locals}
 use Rattle.pc_file_spec.specs.Order.{NamesInOrder, InPlace}
 use Rattle.pc_file_spec.proofs.Steps.{member_rose}

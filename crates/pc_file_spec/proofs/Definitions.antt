@@ -8,10 +8,10 @@ use Rattle.pc_core.specs.declared.nodes.Node.{Node}
 use Rattle.pc_core.specs.declared.nodes.NodeKind.TheVariants as node
 use Rattle.pc_lists.specs.Lists.{Ascends}
 use Rattle.pc_lists.proofs.Gets.{append_get}
-use Rattle.pc_body_spec.specs.Bodies.{Rose, initial_fields}
+use Rattle.pc_body_spec.specs.Bodies.{Rose, initial_fields, Context, slot_at, params_scope}
 use Rattle.pc_body_spec.specs.Fold.{put}
-use Rattle.pc_body_spec.specs.Scopes.{Context, slot_at, params_scope}
-use Rattle.pc_body_spec.specs.Faults.{initial_faults, written_body_faults}
+use Rattle.pc_body_spec.specs.Faults.{initial_faults}
+use Rattle.pc_body_spec.specs.Parts.{written_body_faults}
 use Rattle.pc_body_spec.specs.Slots.{Local, initial_locals, method_locals}
 use Rattle.pc_body_spec.specs.Places.{body_places, initial_places, local_start}
 use Rattle.pc_body_spec.specs.Counts.{kind_times, times, local_times}

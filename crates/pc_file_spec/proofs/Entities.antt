@@ -13,12 +13,14 @@ use Rattle.pc_tree.specs.Tree as t
 use Rattle.pc_core.specs.declared.declarations.EntityDef.{EntityDef}
 use Rattle.pc_core.specs.declared.declarations.FieldInfo.{FieldInfo}
 use Rattle.pc_core.specs.declared.declarations.Method.{Method}
-use Rattle.pc_core.specs.CoreData.{CoreData, own_methods, field_name, method_name}
+use Rattle.pc_core.specs.CoreData.{CoreData, own_methods}
+use Rattle.pc_core.specs.Parts.{field_name, method_name}
 use Rattle.pc_core.specs.Entities.{built_in, built_in_value, out_field, print_method, Provides, Leads, one, more}
 use Rattle.pc_core.specs.Further.{IsAbstract}
 use Rattle.pc_core.specs.EntityFits.{EntityFits}
 use Rattle.pc_lists.specs.Lists.{Each, Has, Differ, Ascends, IsIn, Text}
-use Rattle.pc_members.specs.Members.{built_in_names, texts_of, entity_names, field_texts, method_texts, or_nil, IsAbove, Member, written, added, member_text}
+use Rattle.pc_members.specs.Members.{built_in_names, texts_of, entity_names, field_texts, method_texts, IsAbove, Member, written, added, member_text}
+use Rattle.pc_members.specs.Parts.{or_nil}
 use Rattle.pc_members.specs.Edges.{entity_numbers}
 use Rattle.pc_members.specs.Members as chain
 use Rattle.pc_members.proofs.Differences.{equal_texts}
@@ -27,7 +29,7 @@ use Rattle.pc_members.proofs.Closings.{numbers_only, numbers_all, no_entity}
 use Rattle.pc_members.specs.MemberLists.{members}
 use Rattle.pc_file_spec.specs.Cores.{Owned, owned, Parts, core_with, built_ins, core_entity, core_field}
 use Rattle.pc_file_spec.specs.Cores as known
-use Rattle.pc_body_spec.specs.Scopes.{text_from}
+use Rattle.pc_body_spec.specs.Bodies.{text_from}
 use Rattle.pc_file_spec.proofs.Tables.{text_below, one_text, language_kept, member_there}
 use Rattle.pc_lists.proofs.Elements.{has_front, has_behind, each_none, ascends_none}
 use Rattle.pc_file_spec.proofs.Owners.{starts, own_member}

@@ -16,9 +16,8 @@ use Rattle.pc_core.specs.CoreData.{CoreData, node_end}
 use Rattle.pc_core.specs.Further.{own_nodes}
 use Rattle.pc_core.specs.Methods.{PostOrder, BodyFits, LocalFits, UsesSlot, is_local}
 use Rattle.pc_lists.specs.Lists.{Each, Has, Differ, IsIn}
-use Rattle.pc_body_spec.specs.Bodies.{Rose}
+use Rattle.pc_body_spec.specs.Bodies.{Rose, Context, params_scope, params_from}
 use Rattle.pc_body_spec.specs.Fold.{put, local_slot, written_of}
-use Rattle.pc_body_spec.specs.Scopes.{Context, params_scope, params_from}
 use Rattle.pc_body_spec.specs.Slots.{Local, local_kind}
 use Rattle.pc_body_spec.specs.Visibility.{Scoped, slots}
 use Rattle.pc_body_spec.specs.Meanings.{NamesWhatIsThere}

@@ -22,7 +22,7 @@ use Rattle.pc_members.proofs.Differences.{equal_texts}
 use Rattle.pc_names.specs.Mains.{is_actor, is_val, is_env, takes_env, begins_program, is_main}
 use Rattle.pc_names.specs.Faults.{main_faults}
 use Rattle.pc_lists.proofs.Bools.{true_false}
-use Rattle.pc_body_spec.specs.Slots.{cap_or}
+use Rattle.pc_body_spec.specs.Parts.{cap_or}
 use Rattle.pc_members.specs.MemberLists.{abstract_members, concrete_members, members}
 use Rattle.pc_file_spec.specs.Cores.{Owned, owned, known_of, param_of, Parts, core_with, core_entity}
 use Rattle.pc_file_spec.proofs.Tables.{text_found}

@@ -23,7 +23,7 @@ use Rattle.pc_lists.specs.Lists.{Each, Has}
 use Rattle.pc_members.specs.Members.{is_new, Member, written, added}
 use Rattle.pc_tree.specs.Kinds.{first_own}
 use Rattle.pc_lists.proofs.Bools.{true_false}
-use Rattle.pc_body_spec.specs.Scopes.{Context, KnownEntity, Constructor}
+use Rattle.pc_body_spec.specs.Bodies.{Context, KnownEntity, Constructor}
 use Rattle.pc_body_spec.specs.Slots.{Local, local_kind}
 use Rattle.pc_body_spec.specs.Fold.{local_slot}
 use Rattle.pc_body_spec.specs.Meanings.{NamesWhatIsThere, IsOfKind, IsConstructor}

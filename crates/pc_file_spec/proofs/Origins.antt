@@ -8,13 +8,16 @@ use Rattle.pc_tree.specs.declared.kinds.EntityKind.{EntityKind}
 use Rattle.pc_tree.specs.declared.kinds.EntityKind.TheVariants as kind
 use Rattle.pc_tree.specs.declared.written_names.Name.{Name}
 use Rattle.pc_tree.specs.declared.kinds.MethodWord.TheVariants as word
-use Rattle.pc_tree.specs.Kinds.{is_abstract, may_stand, FieldsIf, MayHaveFields}
+use Rattle.pc_tree.specs.Kinds.{is_abstract, may_stand, FieldsIf}
+use Rattle.pc_tree.specs.Members.{MayHaveFields}
 use Rattle.pc_tree.specs.Tree as t
 use Rattle.pc_tree.proofs.KindFacts.{created, no_fields}
 use Rattle.pc_lists.specs.Lists.{Has, Differ, Text}
 use Rattle.pc_lists.proofs.Gets.{map_get}
-use Rattle.pc_members.specs.MemberLists.{is_among, firsts, entity_named, of_entity, of_each, trait_methods, abstract_methods, methods_taken_over, taken_over, abstract_members, concrete_members, members}
-use Rattle.pc_members.specs.Members.{has_added, has_constructor, field_texts, method_texts, Member, written, added, without_body, added_text, own_texts, is_takable, added_if, member_text}
+use Rattle.pc_members.specs.MemberLists.{is_among, firsts, entity_named, of_each, trait_methods, abstract_methods, methods_taken_over, taken_over, abstract_members, concrete_members, members}
+use Rattle.pc_members.specs.Parts.{of_entity}
+use Rattle.pc_members.specs.Members.{has_added, has_constructor, field_texts, method_texts, Member, written, added, without_body, own_texts, is_takable, member_text}
+use Rattle.pc_members.specs.Parts.{added_text, added_if}
 use Rattle.pc_members.proofs.Differences.{differ_push}
 use Rattle.pc_members.proofs.Named.{named_is, one_entity, is_trait_named}
 use Rattle.pc_lists.proofs.Bools.{true_false, first_true, second_true}

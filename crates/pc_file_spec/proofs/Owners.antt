@@ -7,7 +7,7 @@ use Rattle.pc_lists.proofs.Gets.{get_front, append_get, get_append, get_map, map
 use Rattle.pc_tree.specs.Tree as t
 use Rattle.pc_core.specs.declared.declarations.EntityDef.{EntityDef}
 use Rattle.pc_lists.specs.Lists.{Follow}
-use Rattle.pc_body_spec.specs.Scopes.{KnownEntity, Constructor}
+use Rattle.pc_body_spec.specs.Bodies.{KnownEntity, Constructor}
 use Rattle.pc_members.specs.Members.{Member, member_text}
 use Rattle.pc_members.specs.MemberLists.{is_constructor, members}
 use Rattle.pc_file_spec.specs.Cores.{Owned, owned, members_from, known_from, constructors_from, core_entity, entities_from}

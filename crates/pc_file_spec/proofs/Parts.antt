@@ -14,7 +14,7 @@ use Rattle.pc_core.specs.CoreData.{node_end}
 use Rattle.pc_lists.proofs.Ranges.{follow_append}
 use Rattle.pc_names.specs.declared.fault.NameFault.{NameFault}
 use Rattle.pc_caps.specs.Limits.{node_limit}
-use Rattle.pc_body_spec.specs.Scopes.{Context}
+use Rattle.pc_body_spec.specs.Bodies.{Context}
 use Rattle.pc_body_spec.specs.Methods.{MethodOutcome}
 use Rattle.pc_file_spec.specs.Cores.{Owned, texts_of_file, context_of, slots_from, declared, Parts, outcome, joined_parts, with_outcome, and_member, and_members, if_ok, built_in_parts}
 use Rattle.pc_file_spec.proofs.Tables.{language_kept}

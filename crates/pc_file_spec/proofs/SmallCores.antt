@@ -4,7 +4,8 @@ use Rattle.std.proofs.Common.{◌≡◌, ℕ, zero, suc, ◌<◌, ◌^◌, List,
 use Rattle.std.specs.Prelude.{slice_get, nat_lt, Ok}
 use Rattle.std.proofs.lemmas.Bool.{ltb-true}
 use Rattle.std.proofs.lemmas.Option.{same_Some, none-some}
-use Rattle.pc_tree.specs.Kinds.{may_stand, MayHaveFields, HasBody}
+use Rattle.pc_tree.specs.Kinds.{may_stand}
+use Rattle.pc_tree.specs.Members.{MayHaveFields, HasBody}
 use Rattle.pc_tree.specs.Tree as t
 use Rattle.pc_core.specs.CoreData.{CoreData}
 use Rattle.pc_lists.specs.Lists.{Has, Ascends}

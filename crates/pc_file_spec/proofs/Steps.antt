@@ -12,9 +12,8 @@ use Rattle.pc_tree.specs.Tree as t
 use Rattle.pc_core.specs.declared.nodes.Node.{Node}
 use Rattle.pc_lists.specs.Lists.{Each}
 use Rattle.pc_core.specs.Entities.{param_slot}
-use Rattle.pc_body_spec.specs.Bodies.{Rose, body_of, added_body}
+use Rattle.pc_body_spec.specs.Bodies.{Rose, body_of, added_body, Context}
 use Rattle.pc_body_spec.specs.Fold.{Numbered, put, local_slot}
-use Rattle.pc_body_spec.specs.Scopes.{Context}
 use Rattle.pc_body_spec.specs.Faults.{BodyNameFault, body_faults, initial_faults}
 use Rattle.pc_body_spec.specs.Slots.{Local, initial_locals, method_locals}
 use Rattle.pc_body_spec.specs.Methods.{MethodOutcome, slot_names, local_names, param_names, unless_fault, unless_name, unless_full, numbered_or_full, put_body}

@@ -13,8 +13,8 @@ use Rattle.pc_members.proofs.Differences.{names_differ, same_text, equal_texts, 
 use Rattle.pc_names.proofs.OtherTexts.{members_differ}
 use Rattle.pc_lists.proofs.Bools.{true_false}
 use Rattle.pc_lists.proofs.Elements.{differ_none, has_front, has_behind}
-use Rattle.pc_body_spec.specs.Scopes.{text_from}
-use Rattle.pc_body_spec.specs.Texts.{entities_texts}
+use Rattle.pc_body_spec.specs.Bodies.{text_from}
+use Rattle.pc_body_spec.specs.Slots.{entities_texts}
 use Rattle.pc_file_spec.specs.Cores.{texts_of_file}
 use Rattle.pc_file_spec.specs.Laws.{IsNeeded, TextsAreThere}
 

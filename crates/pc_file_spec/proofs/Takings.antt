@@ -11,7 +11,8 @@ use Rattle.pc_lists.proofs.Bools.{true_false, no_both}
 use Rattle.pc_lists.proofs.Elements.{has_on, has_either, has_front, has_behind}
 use Rattle.pc_lists.proofs.Gets.{get_map, map_get}
 use Rattle.pc_members.specs.MemberLists.{is_among, entity_named, of_each, abstract_methods, methods_taken_over, taken_over, abstract_members, concrete_members, members}
-use Rattle.pc_members.specs.Members.{field_texts, method_texts, has_added, Member, written, added, without_body, added_text, own_texts, is_takable, added_if, member_text}
+use Rattle.pc_members.specs.Members.{field_texts, method_texts, has_added, Member, written, added, without_body, own_texts, is_takable, member_text}
+use Rattle.pc_members.specs.Parts.{added_text, added_if}
 use Rattle.pc_tree.specs.Kinds.{first_own}
 use Rattle.pc_members.proofs.Differences.{has_among, among_has}
 use Rattle.pc_members.proofs.Named.{named_is, one_entity}

@@ -12,9 +12,9 @@ use Rattle.pc_members.specs.Members.{built_in_names, entity_names}
 use Rattle.pc_tree.specs.Kinds.{first_own}
 use Rattle.pc_members.proofs.Differences.{same_text}
 use Rattle.pc_lists.proofs.Bools.{true_false}
-use Rattle.pc_body_spec.specs.Scopes.{KnownEntity}
+use Rattle.pc_body_spec.specs.Bodies.{KnownEntity}
 use Rattle.pc_body_spec.specs.Fold.{type_of_name}
-use Rattle.pc_body_spec.specs.Slots.{cap_or}
+use Rattle.pc_body_spec.specs.Parts.{cap_or}
 use Rattle.pc_file_spec.specs.Cores.{known_of, or_value, type_in}
 use Rattle.pc_file_spec.proofs.Owners.{known_names, known_count}
 use Rattle.pc_file_spec.proofs.Collects.{IsType}

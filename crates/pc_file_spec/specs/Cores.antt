@@ -1,11 +1,11 @@
 -- The core of a file, made member by member.
-use Rattle.std.specs.Prelude.{ℕ, suc, ◌+◌, List, [], ◌∷◌, ◌++◌, length, Option, codes, if◌then◌else◌, map, Bool, true, false, Some, None, Result, Ok, Err, ◌≡◌, ◌<◌, ◌^◌, slice_get}
+use Rattle.std.specs.Prelude.{ℕ, suc, ◌+◌, List, [], ◌∷◌, ◌++◌, length, Option, codes, if◌then◌else◌, map, Bool, true, false, Some, None, Result, Ok, Err, ◌≡◌, ◌<◌, ◌^◌, slice_get, unwrap_or}
 use Rattle.pc_caps.specs.{declared.capability.Cap.Cap, Tables.plain, Tables.unalias, declared.capability.Form.Form}
 use Rattle.pc_tree.specs.{declared.kinds.EntityKind.EntityKind, declared.kinds.MethodWord.MethodWord, declared.written_names.TypeRef.TypeRef, declared.file.ParamDef.ParamDef, Kinds.none_entity, Kinds.first_own}
 use Rattle.pc_lists.specs.Lists.{Text}
 use Rattle.pc_names.specs.{Faults.built_in_texts, Faults.with_members, Faults.NamesData, Faults.Collected, declared.fault.NameFault.NameFault}
-use Rattle.pc_members.specs.{MemberLists.with_names, MemberLists.is_constructor, MemberLists.members, MemberLists.member_span, Members.Member, Members.member_text, Members.field_texts, Members.written, Members.added, Members.entity_names, Members.or_nil, Edges.entity_numbers}
-use Rattle.pc_body_spec.specs.{Scopes.KnownEntity, Scopes.Constructor, Scopes.Context, Scopes.PlacedLocal, Scopes.number_of_text, Scopes.text_from, Slots.cap_or, Slots.Local, Slots.initial_locals, Slots.method_locals, Slots.slots_of, Slots.added_slots, Texts.entities_texts, Fold.type_of_name, Fold.local_slot, Faults.BodyNameFault, Faults.unknown, Faults.double, Faults.long_text, Methods.MethodFault, Methods.in_body, Methods.slots_full, Methods.nodes_full, Methods.MethodOutcome, Methods.method_of, Methods.added_of}
+use Rattle.pc_members.specs.{MemberLists.with_names, MemberLists.is_constructor, MemberLists.members, MemberLists.member_span, Members.Member, Members.member_text, Members.field_texts, Members.written, Members.added, Members.entity_names, Edges.entity_numbers}
+use Rattle.pc_body_spec.specs.{Bodies.KnownEntity, Bodies.Constructor, Bodies.Context, Bodies.PlacedLocal, Bodies.number_of_text, Bodies.text_from, Slots.Local, Slots.initial_locals, Slots.method_locals, Slots.slots_of, Slots.added_slots, Slots.entities_texts, Fold.type_of_name, Fold.local_slot, Faults.BodyNameFault, Faults.unknown, Faults.double, Faults.long_text, Methods.MethodFault, Methods.in_body, Methods.slots_full, Methods.nodes_full, Methods.MethodOutcome, Methods.method_of, Methods.added_of}
 use Rattle.pc_core.specs.{declared.declarations.Method.Method, declared.declarations.MethodKind.MethodKind, declared.declarations.ParamInfo.ParamInfo, declared.nodes.Slot.Slot, Entities.constructor_kind, Entities.word_kind, Entities.param_slot, Entities.print_method, Entities.built_in, Entities.built_in_value, Entities.out_field, declared.nodes.Node.Node, declared.declarations.EntityDef.EntityDef, declared.declarations.FieldInfo.FieldInfo, CoreData.CoreData}
 use Rattle.pc_caps.specs.declared.capability.Cap.TheVariants as cap
 use Rattle.pc_tree.specs.declared.kinds.EntityKind.TheVariants as kind
@@ -27,9 +27,9 @@ texts_of_file file = with_names (with_members (with_names [] (built_in_texts ++ 
 
 -- The capability of an entity's type if none is written: that of its declaration, for classes, traits and interfaces.
 abbrev pub default_cap : EntityKind → Option Cap → Cap
-default_cap kind.Class k = cap_or k cap.Ref
-default_cap kind.Trait k = cap_or k cap.Ref
-default_cap kind.Interface k = cap_or k cap.Ref
+default_cap kind.Class k = unwrap_or k cap.Ref
+default_cap kind.Trait k = unwrap_or k cap.Ref
+default_cap kind.Interface k = unwrap_or k cap.Ref
 default_cap kind.Actor k = cap.Tag
 default_cap kind.Primitive k = cap.Val
 
@@ -100,7 +100,7 @@ kind_of k added = constructor_kind k
 
 -- `this` is `box` in a function without a written capability, and `ref` in behaviours and constructors.
 abbrev pub word_receiver : MethodWord → Option Cap → Cap
-word_receiver word.Fun k = cap_or k cap.Box
+word_receiver word.Fun k = unwrap_or k cap.Box
 word_receiver word.Be k = cap.Ref
 word_receiver word.New k = cap.Ref
 
@@ -129,7 +129,7 @@ object_of kind.Interface e k = (e, unalias k)
 abbrev pub word_result : List KnownEntity → EntityKind → ℕ → t.Method → MethodWord → ℕ × Form
 word_result entities k e m word.Fun = written_result entities m.result
 word_result entities k e m word.Be = (none_entity, form.Val)
-word_result entities k e m word.New = object_of k e (cap_or m.cap cap.Ref)
+word_result entities k e m word.New = object_of k e (unwrap_or m.cap cap.Ref)
 
 -- The object made by an added `create` is isolated.
 abbrev pub result_of : List KnownEntity → EntityKind → ℕ → Member → ℕ × Form
@@ -254,7 +254,7 @@ core_entity file above n first_method e = record {
   name = e.name.text;
   span = e.name.span;
   provides = entity_numbers (entity_names file) e.provides;
-  above = or_nil (slice_get above n);
+  above = unwrap_or (slice_get above n) [];
   fields = map (core_field (texts_of_file file) (known_of file)) e.fields;
   first_method = first_method;
   methods = length (members file.entities e);

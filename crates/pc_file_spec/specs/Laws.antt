@@ -6,7 +6,7 @@ use Rattle.pc_lists.specs.Lists.{Has, Differ, Text}
 use Rattle.pc_tree.specs.{Kinds.is_abstract, Kinds.first_own, declared.written_names.Name.Name}
 use Rattle.pc_names.specs.{declared.fault.NameFault.NameFault, Faults.NamesData, Faults.Collected}
 use Rattle.pc_members.specs.{Members.LeadsInFile, Members.field_texts, Members.method_texts, Members.Member, Members.written, Members.without_body, Members.is_takable, Members.own_texts, Members.member_text, MemberLists.trait_methods, MemberLists.abstract_methods, MemberLists.members}
-use Rattle.pc_body_spec.specs.Texts.{entities_texts}
+use Rattle.pc_body_spec.specs.Slots.{entities_texts}
 use Rattle.pc_file_spec.specs.{Cores.texts_of_file, Cores.Stands, Cores.IsElabFault, Order.NamesInOrder, Order.InPlace}
 use Rattle.pc_tree.specs.Tree as t
 

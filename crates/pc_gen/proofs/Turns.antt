@@ -4,7 +4,11 @@ use Rattle.std.specs.List.{range_with_len}
 use Rattle.std.proofs.lemmas.List.FromFn.{map-range_with_len_more}
 use Rattle.pc_sched.specs.Schedules.{turn_limit, total}
 use Rattle.pc_sched.specs.declared.turns.Turn.{Turn}
-use Rattle.pc_gen.specs.Program.{own_turns, schedule}
+use Rattle.pc_gen.specs.Generated.{schedule}
+
+-- 400 turns of the actor after this number
+abbrev pub own_turns : ℕ → Turn
+own_turns i = record { actor = i + 1; times = 400 }
 
 total_append : (ts us : List Turn) → total (ts ++ us) ≡ total ts + total us
 total_append [] us = omega arith

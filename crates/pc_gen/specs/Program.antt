@@ -1,4 +1,4 @@
--- The program generated from a seed and a size.
+-- The tree of the program generated from a seed and a size, whose printed text is `generated_text`.
 --
 --   class Cell
 --     var _n: U64 = 0
@@ -11,10 +11,9 @@
 use Rattle.std.specs.Prelude.{ℕ, Bool, false, List, [], ◌∷◌, Option, Some, None, codes, suc, ◌+◌, ◌*◌, ◌==◌, true, if◌then◌else◌, ◌++◌, map}
 use Rattle.std.specs.{List.range_with_len, Fmt.decimal}
 use Rattle.pc_caps.specs.{declared.span.Span.Span, declared.capability.Cap.Cap}
-use Rattle.pc_tree.specs.{declared.written_names.Name.Name, declared.written_names.TypeRef.TypeRef, declared.file.ParamDef.ParamDef, declared.kinds.Op.Op, declared.kinds.MethodWord.MethodWord}
+use Rattle.pc_tree.specs.{declared.written_names.Name.Name, declared.written_names.TypeRef.TypeRef, declared.file.ParamDef.ParamDef, declared.kinds.Op.Op, declared.kinds.MethodWord.MethodWord, Parts.exprs_of, Parts.suffixes_of, Parts.arms_of, Parts.items_of}
 use Rattle.pc_gen.specs.declared.task.Task.{Task}
 use Rattle.pc_draws.specs.Draws.{draw}
-use Rattle.pc_sched.specs.declared.turns.Turn.{Turn}
 use Rattle.pc_tree.specs.Tree as t
 use Rattle.pc_tree.specs.declared.kinds.EntityKind.TheVariants as kind
 use Rattle.pc_tree.specs.declared.kinds.MethodWord.TheVariants as word
@@ -55,7 +54,7 @@ consume_expression x = t.consume (placeless_name x) without_place
 
 -- `a + b`
 abbrev pub operator_expression : Op → t.Expr → t.Expr → t.Expr
-operator_expression op a b = t.infix_ op (t.exprs_of (a ∷ b ∷ [])) without_place
+operator_expression op a b = t.infix_ op (exprs_of (a ∷ b ∷ [])) without_place
 
 -- `x = e`
 abbrev pub assign_expression : List ℕ → t.Expr → t.Expr
@@ -66,10 +65,10 @@ abbrev pub dot : List ℕ → t.Suffix
 dot m = t.dot (placeless_name m)
 
 abbrev pub arguments_suffix : List t.Expr → t.Suffix
-arguments_suffix es = t.args (t.exprs_of es) without_place
+arguments_suffix es = t.args (exprs_of es) without_place
 
 abbrev pub chained : t.Expr → List t.Suffix → t.Expr
-chained e ss = t.chain e (t.suffixes_of ss) without_place
+chained e ss = t.chain e (suffixes_of ss) without_place
 
 -- `x.m(a, b)`
 abbrev pub call_expression : List ℕ → List ℕ → List t.Expr → t.Expr
@@ -82,7 +81,7 @@ construct c es = chained (type_expression c) (arguments_suffix es ∷ [])
 -- ---- sequences
 
 abbrev pub sequence_of : List t.Item → t.Seq
-sequence_of is = t.seq (t.items_of is) without_place
+sequence_of is = t.seq (items_of is) without_place
 
 abbrev pub alone : t.Expr → t.Seq
 alone e = sequence_of (t.plain e ∷ [])
@@ -93,7 +92,7 @@ local fixed x ty e = t.local fixed (placeless_name x) (Some ty) e without_place
 
 -- `if c then a else b end`
 abbrev pub choice : t.Seq → t.Seq → t.Seq → t.Expr
-choice c a b = t.if_ (t.arms_of (t.arm_of c a without_place ∷ [])) (t.other b) without_place
+choice c a b = t.if_ (arms_of (t.arm_of c a without_place ∷ [])) (t.other b) without_place
 
 -- `while c do a end`
 abbrev pub turns : t.Seq → t.Seq → t.Expr
@@ -234,14 +233,3 @@ main = actor (codes "Main") (create (param_definition (codes "env") (type_refere
 
 abbrev pub program : (seed size : ℕ) → t.File
 program seed size = record { entities = cell ∷ (workers seed size ++ main ∷ []) }
-
--- ---- the schedule by which a generated program is run
-
--- 400 turns of the actor after this number
-abbrev pub own_turns : ℕ → Turn
-own_turns i = record { actor = i + 1; times = 400 }
-
--- 400 turns each of `Main`, which is actor 1, and of the workers after it, in order; and then the same number of turns
--- in all of actor 0, the output stream.
-abbrev pub schedule : ℕ → List Turn
-schedule size = map own_turns (range_with_len 0 (size + 1)) ++ record { actor = 0; times = size + 1 } ∷ []

@@ -3,6 +3,7 @@ ghost use Rattle.std.specs.Prelude.{◌≡◌, [], ◌∷◌, map, Some, IfOk};
 ghost use Rattle.pc_tree.specs.View.{expr_view, suffix_view, item_view, arm_view, seq_view, method_view, entity_view};
 ghost use Rattle.pc_tree.specs.Tree as t;
 ghost use Rattle.pc_gen.specs.Program as spec;
+ghost use Rattle.pc_tree.specs.Parts.{exprs_of};
 
 use pc_caps::{Cap, List, ShortBytes, Span};
 use pc_tree::{
@@ -76,7 +77,7 @@ pub fn consumed(alloc: Global, name: &[u8]) -> Result<Expr, AllocError>
 /// Terms with one operator between them.
 #[tactic(auto, using(pc_tree::proofs::Views::view_infix))]
 pub fn infix(op: Op, terms: List<Expr>) -> Expr
-    ensures { expr_view result ≡ t.infix_ op (t.exprs_of (map expr_view terms)) spec.without_place }
+    ensures { expr_view result ≡ t.infix_ op (exprs_of (map expr_view terms)) spec.without_place }
 {
     Expr::Infix {
         op,

@@ -1,6 +1,6 @@
 //! The schedule by which a generated program is run.
 ghost use Rattle.std.specs.Prelude.{◌≡◌, ◌≤◌, IfOk};
-ghost use Rattle.pc_gen.specs.Program as spec;
+ghost use Rattle.pc_gen.specs.Generated.{schedule};
 ghost use Rattle.pc_sched.specs.Schedules.{turn_limit, total};
 
 use pc_caps::List;
@@ -14,7 +14,7 @@ const OWN_TURNS: u32 = 400;
 /// the output stream takes one turn for each of these.
 pub fn schedule_of(alloc: Global, size: u32) -> Result<List<Turn>, AllocError>
     requires { size ≤ 900 }
-    ensures turns { IfOk result (λ turns. turns ≡ spec.schedule size) }
+    ensures turns { IfOk result (λ turns. turns ≡ schedule size) }
     ensures few { IfOk result (λ turns. total turns ≤ turn_limit) }
 {
     let mut turns = List::new(alloc);

@@ -7,9 +7,8 @@ use Rattle.pc_tree.specs.declared.kinds.MethodWord.TheVariants as method
 use Rattle.pc_tree.specs.Kinds.{is_abstract, may_have_fields}
 use Rattle.pc_token.specs.declared.words.Word.TheVariants as w
 use Rattle.pc_token.specs.declared.signs.Sign.TheVariants as s
-use Rattle.pc_token.specs.Asking.{is_sign, is_word}
-use Rattle.pc_grammar.specs.Spells.{local_word}
-use Rattle.pc_grammar.specs.SpellsFile.{method_word, entity_word}
+use Rattle.pc_token.specs.Words.{is_sign, is_word}
+use Rattle.pc_grammar.specs.Spells.{local_word, method_word, entity_word}
 use Rattle.pc_grammar.specs.Reading.{◌>>◌, pure, peek, take_if, at, inner, name, type_name, written_type}
 use Rattle.pc_grammar.specs.ReadingFile.{maybe_doc, params, provides, entity_cap, method_cap, method_result, value, field, begins_field, some_field, fields, written_body, maybe_body, body, method_of, word_in, begins_method, some_method, entity_of, entity, begins_entity, file}
 use Rattle.pc_grammar.proofs.Agree.{Agrees, same, bind_agrees, cond_agrees, all_agrees, inner_agrees, infix_agrees, seq_agrees}

@@ -9,7 +9,7 @@ use Rattle.pc_token.specs.declared.kinds.TokenKind.TheVariants as k
 use Rattle.pc_token.specs.declared.words.Word.{Word}
 use Rattle.pc_token.specs.declared.words.Word.TheVariants as w
 use Rattle.pc_token.specs.declared.signs.Sign.TheVariants as s
-use Rattle.pc_token.specs.Asking.{is_sign, is_word}
+use Rattle.pc_token.specs.Words.{is_sign, is_word}
 use Rattle.pc_grammar.specs.Spells.{IsNext, IsSome, is_atom, is_term, is_infix, is_place, span_from_to, over, Spells, SpellsTerms, SpellsMoreTerms, SpellsSuffix, SpellsSuffixes, SpellsArgs, SpellsMoreArgs, SpellsArm, SpellsMoreArms, SpellsOther, SpellsSeq, SpellsItems, SpellsMoreItems, SpellsItem}
 use Rattle.pc_grammar.specs.Reading.{Parser, Inner, many, all, next_item, after, at, begins_suffix, begins_item, is_op, arm, arg_list, other, suffix, atom, term, item, infix_in, expr_in, seq_in, seq_of, infix_of, postfix, chain_of, inner, last_suffix, maybe_cap, if_}
 use Rattle.pc_grammar.proofs.Levels.{inner_seq, inner_expr, inner_term}

@@ -1,7 +1,8 @@
 -- Entities and files that are spelled are read.
 use Rattle.std.proofs.Common.{◌≡◌, ℕ, zero, suc, ◌≤◌, max, Bool, true, false, List, [], ◌∷◌, ◌++◌, length, Some, None, Ok, refl, sym, ap, ◌∙◌, subst, arith, cond, append_assoc, length-append, ◌⊎◌, inl, inr}
 use Rattle.pc_tree.specs.Tree as t
-use Rattle.pc_tree.specs.Depths.{fields_depth, methods_depth, entities_depth, file_depth}
+use Rattle.pc_tree.specs.Depths.{file_depth}
+use Rattle.pc_tree.specs.Levels.{fields_depth, methods_depth, entities_depth}
 use Rattle.pc_tree.specs.declared.written_names.Name.{Name}
 use Rattle.pc_tree.specs.declared.kinds.Op.TheVariants as o
 use Rattle.pc_tree.specs.declared.kinds.EntityKind.{EntityKind}
@@ -11,9 +12,9 @@ use Rattle.pc_token.specs.declared.kinds.Token.{Token}
 use Rattle.pc_token.specs.declared.kinds.TokenKind.TheVariants as k
 use Rattle.pc_token.specs.declared.words.Word.TheVariants as w
 use Rattle.pc_token.specs.declared.signs.Sign.TheVariants as s
-use Rattle.pc_token.specs.Asking.{is_sign, is_word, same_sign, same_word}
-use Rattle.pc_grammar.specs.Spells.{op_of, cap_of}
-use Rattle.pc_grammar.specs.SpellsFile.{SpellsMoreNames, SpellsNames, SpellsAlone, SpellsBracketed, SpellsProvides, entity_word, SpellsFields, SpellsEntity, SpellsMoreEntities, SpellsFile}
+use Rattle.pc_token.specs.Words.{is_sign, is_word, same_sign, same_word}
+use Rattle.pc_grammar.specs.Spells.{op_of, cap_of, SpellsMoreNames, SpellsNames, SpellsAlone, SpellsBracketed, SpellsProvides, entity_word, SpellsEntity, SpellsFile}
+use Rattle.pc_grammar.specs.Parts.{SpellsFields, SpellsMoreEntities}
 use Rattle.pc_grammar.specs.Reading.{pure, ◌>>◌, peek, take_if, and_then, many, all, after, at, type_name, begins_suffix, begins_item}
 use Rattle.pc_grammar.specs.ReadingFile.{is_doc, is_end, type_names, provided, provides, entity_of, entity, begins_entity, begins_field, some_field, file}
 use Rattle.pc_grammar.proofs.Follow.{kind_of_sign, kind_of_word, after_sign, after_no_sign, at_one, at_none}

@@ -2,7 +2,8 @@
 use Rattle.std.proofs.Common.{◌≡◌, ℕ, zero, suc, ◌≤◌, Bool, true, false, ◌||◌, List, [], ◌∷◌, ◌++◌, length, Option, Some, None, Ok, refl, sym, ap, ◌∙◌, subst, arith, cond, append_assoc, length-append}
 use Rattle.pc_caps.specs.declared.capability.Cap.{Cap}
 use Rattle.pc_tree.specs.Tree as t
-use Rattle.pc_tree.specs.Depths.{body_depth, methods_depth, seq_depth}
+use Rattle.pc_tree.specs.Depths.{seq_depth}
+use Rattle.pc_tree.specs.Levels.{body_depth, methods_depth}
 use Rattle.pc_tree.specs.declared.written_names.TypeRef.{TypeRef}
 use Rattle.pc_tree.specs.declared.kinds.EntityKind.{EntityKind}
 use Rattle.pc_tree.specs.declared.kinds.MethodWord.{MethodWord}
@@ -13,9 +14,9 @@ use Rattle.pc_token.specs.declared.kinds.TokenKind.{TokenKind}
 use Rattle.pc_token.specs.declared.kinds.TokenKind.TheVariants as k
 use Rattle.pc_token.specs.declared.words.Word.TheVariants as w
 use Rattle.pc_token.specs.declared.signs.Sign.TheVariants as s
-use Rattle.pc_token.specs.Asking.{is_sign, is_word, same_sign, same_word}
-use Rattle.pc_grammar.specs.Spells.{op_of, cap_of, SpellsCap}
-use Rattle.pc_grammar.specs.SpellsFile.{SpellsReturns, SpellsBody, method_word, MayReturn, SpellsMethod, SpellsMethods}
+use Rattle.pc_token.specs.Words.{is_sign, is_word, same_sign, same_word}
+use Rattle.pc_grammar.specs.Spells.{op_of, cap_of, SpellsCap, SpellsReturns, SpellsBody, method_word, MayReturn, SpellsMethod}
+use Rattle.pc_grammar.specs.Parts.{SpellsMethods}
 use Rattle.pc_grammar.specs.Reading.{pure, peek, take_if, many, all, at, seq, begins_suffix, begins_item, kind_begins}
 use Rattle.pc_grammar.specs.ReadingFile.{kind_is_doc, is_doc, written_body, maybe_body, cap_if, method_result, method_of, word_in, begins_method, some_method, begins_field}
 use Rattle.pc_grammar.proofs.Follow.{Stops_seq, kind_of_sign, kind_of_word, at_one, at_none}

@@ -6,9 +6,8 @@ use Rattle.pc_tree.specs.declared.file.ParamDef.{ParamDef}
 use Rattle.pc_token.specs.declared.kinds.Token.{Token}
 use Rattle.pc_token.specs.declared.kinds.TokenKind.TheVariants as k
 use Rattle.pc_token.specs.declared.signs.Sign.TheVariants as s
-use Rattle.pc_token.specs.Asking.{is_sign}
-use Rattle.pc_grammar.specs.Spells.{cap_of, SpellsCap, SpellsType}
-use Rattle.pc_grammar.specs.SpellsFile.{IsDoc, SpellsHat, SpellsResult, SpellsReturns, SpellsParam, SpellsMoreParams, SpellsParamList, SpellsParams}
+use Rattle.pc_token.specs.Words.{is_sign}
+use Rattle.pc_grammar.specs.Spells.{cap_of, SpellsCap, SpellsType, IsDoc, SpellsHat, SpellsResult, SpellsReturns, SpellsParam, SpellsMoreParams, SpellsParamList, SpellsParams}
 use Rattle.pc_grammar.specs.Reading.{pure, peek, take_if, and_then, many, all, after, maybe_cap, written_type}
 use Rattle.pc_grammar.specs.ReadingFile.{is_doc, maybe_doc, maybe_hat, result_type, returns, param, param_list, params}
 use Rattle.pc_grammar.proofs.Follow.{kind_of_sign, after_sign, after_no_sign, close_no_comma}

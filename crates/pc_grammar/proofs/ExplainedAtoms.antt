@@ -10,12 +10,13 @@ use Rattle.pc_token.specs.declared.kinds.TokenKind.TheVariants as k
 use Rattle.pc_token.specs.declared.words.Word.{Word}
 use Rattle.pc_token.specs.declared.words.Word.TheVariants as w
 use Rattle.pc_token.specs.declared.signs.Sign.TheVariants as s
-use Rattle.pc_token.specs.Asking.{is_sign, is_word}
+use Rattle.pc_token.specs.Words.{is_sign, is_word}
 use Rattle.pc_grammar.specs.Spells.{span_from_to, over, SpellsCap, SpellsMoreArms}
 use Rattle.pc_grammar.specs.Reading.{Parser, pure, ◌>>=◌, ◌>>◌, peek, take_if, at, name, type_name, maybe_cap, group, arm, if_, while_, recover_, other, leaf, atom, atom_at}
 use Rattle.pc_grammar.proofs.Spans.{over_closed, over_two, over_three, over_arm, over_if}
 use Rattle.pc_grammar.proofs.Explained.{Fits, fits_zero, fits_max, fits_suc, fits_some, Explained, Then, Tok, Only, Listed, Inhabited, some_only, some_then, explained_bind, explained_weaker, explained_only, explained_refuse, explained_take, explained_deeper, explained_all}
 use Rattle.pc_grammar.proofs.ExplainedParts.{explained_cons, taken, opened, ends_nil, joined, begins_one, of_kind, word_is, sign_is, a_word, a_sign, some_word, AtomIn, ArmIn, OtherIn, SeqIn, NameAt, TypeNameAt, some_atom, some_seq, some_other, explained_name, explained_type_name, explained_cap}
+use Rattle.pc_tree.specs.Parts.{arms_of, arm_span, seq_span}
 
 -- after a token at which the list continues
 at_by : (test : Token → Bool) (x : Token) (ts begin : List Token) (b : Bool) → test x ≡ b → ◌≡◌ {A = Option (List Token)} (cond b (Some (x ∷ ts)) None) (Some begin) → (begin ≡ x ∷ ts) × (test x ≡ true)
@@ -103,7 +104,7 @@ module _ (u : Bool) (n : ℕ) (p : Parser t.Seq) (hp : 0 < n → (ts : List Toke
   -- ---- the arms of an `if`
 
   abbrev ArmEnd : Token → t.Seq → t.Arm → List Token → Type 0
-  ArmEnd x c = Then (Worded w.ThenWord) (λ b. Only (t.arm_of c b (span_from_to x.span (t.seq_span b))))
+  ArmEnd x c = Then (Worded w.ThenWord) (λ b. Only (t.arm_of c b (span_from_to x.span (seq_span b))))
 
   abbrev ArmRest : Token → t.Arm → List Token → Type 0
   ArmRest x = Then Inside (ArmEnd x)
@@ -117,7 +118,7 @@ module _ (u : Bool) (n : ℕ) (p : Parser t.Seq) (hp : 0 < n → (ts : List Toke
       subst (λ v. InArm word v (x ∷ a)) (sym g.5.1) ((x, y.0, h.1, y.2, cut, is, h.4.0, y.4.1, y.5.0, sym (ap over cut ∙ over_arm x y.0 g.0 h.1 y.2 y.5.0)), fits_max u (n - 1) (seq_depth h.0) (seq_depth g.0) h.4.1 y.5.1)
 
   some_arm_end : (x : Token) (c : t.Seq) → Inhabited (ArmEnd x c)
-  some_arm_end x c = some_then (Worded w.ThenWord) (λ b. Only (t.arm_of c b (span_from_to x.span (t.seq_span b)))) (some_worded w.ThenWord) (λ b. some_only _)
+  some_arm_end x c = some_then (Worded w.ThenWord) (λ b. Only (t.arm_of c b (span_from_to x.span (seq_span b)))) (some_worded w.ThenWord) (λ b. some_only _)
 
   -- some arm that begins with this token
   some_arm : (word : Word) (x : Token) → is_word word x ≡ true → (more : List Token) × (v : t.Arm) × InArm word v (x ∷ more)
@@ -127,7 +128,7 @@ module _ (u : Bool) (n : ℕ) (p : Parser t.Seq) (hp : 0 < n → (ts : List Toke
   unfolding arm
   explained_arm word lt x ts is =
       opened u (InArm word) (ArmRest x) (is_word word) x ts _ is (arm_at word x is)
-      (explained_bind Inside (ArmEnd x) u ts _ (p ts) (hp lt ts) (λ c r e. explained_bind (Worded w.ThenWord) (λ b. Only (t.arm_of c b (span_from_to x.span (t.seq_span b)))) u r _ _ (explained_worded w.ThenWord lt r) (λ b q f. explained_only u _ q) (λ b. some_only _)) (some_arm_end x))
+      (explained_bind Inside (ArmEnd x) u ts _ (p ts) (hp lt ts) (λ c r e. explained_bind (Worded w.ThenWord) (λ b. Only (t.arm_of c b (span_from_to x.span (seq_span b)))) u r _ _ (explained_worded w.ThenWord lt r) (λ b q f. explained_only u _ q) (λ b. some_only _)) (some_arm_end x))
 
   each_arm : 0 < n → (ts begin : List Token) → at (is_word w.ElseifWord) ts ≡ Some begin → Explained u (InArm w.ElseifWord) ts (arm w.ElseifWord p begin)
   each_arm lt [] begin h = absurd (at_nil (is_word w.ElseifWord) begin h)
@@ -135,14 +136,14 @@ module _ (u : Bool) (n : ℕ) (p : Parser t.Seq) (hp : 0 < n → (ts : List Toke
       let f = at_is (is_word w.ElseifWord) x ts begin h in
       subst (λ l. Explained u (InArm w.ElseifWord) (x ∷ ts) (arm w.ElseifWord p l)) (sym f.0) (explained_arm w.ElseifWord lt x ts f.1)
 
-  listed_arms : (xs : List t.Arm) (ts : List Token) → Listed (InArm w.ElseifWord) xs ts → SpellsMoreArms (t.arms_of xs) ts × Fits u (n - 1) (arms_depth (t.arms_of xs))
+  listed_arms : (xs : List t.Arm) (ts : List Token) → Listed (InArm w.ElseifWord) xs ts → SpellsMoreArms (arms_of xs) ts × Fits u (n - 1) (arms_depth (arms_of xs))
   listed_arms [] ts h = (h, fits_zero u (n - 1))
-  listed_arms (x ∷ xs) ts h = let g = listed_arms xs h.1 h.4 in ((h.0, h.1, h.2, h.3.0, g.0), fits_max u (n - 1) (arm_depth x) (arms_depth (t.arms_of xs)) h.3.1 g.1)
+  listed_arms (x ∷ xs) ts h = let g = listed_arms xs h.1 h.4 in ((h.0, h.1, h.2, h.3.0, g.0), fits_max u (n - 1) (arm_depth x) (arms_depth (arms_of xs)) h.3.1 g.1)
 
   -- ---- `if`
 
   abbrev IfEnd : t.Arm → List t.Arm → t.Other → t.Expr → List Token → Type 0
-  IfEnd a xs o = Closes (is_word w.EndWord) (λ z. t.if_ (t.arms_of (a ∷ xs)) o (span_from_to (t.arm_span a) z.span))
+  IfEnd a xs o = Closes (is_word w.EndWord) (λ z. t.if_ (arms_of (a ∷ xs)) o (span_from_to (arm_span a) z.span))
 
   abbrev IfOther : t.Arm → List t.Arm → t.Expr → List Token → Type 0
   IfOther a xs = Then (OtherIn u (n - 1)) (IfEnd a xs)
@@ -157,14 +158,14 @@ module _ (u : Bool) (n : ℕ) (p : Parser t.Seq) (hp : 0 < n → (ts : List Toke
       let o = g.5 in
       let z = o.5 in
       let arms = listed_arms g.0 g.1 g.4 in
-      let ends = closed u (is_word w.EndWord) (λ z. t.if_ (t.arms_of (a ∷ g.0)) o.0 (span_from_to (t.arm_span a) z.span)) v o.2 z in
+      let ends = closed u (is_word w.EndWord) (λ z. t.if_ (arms_of (a ∷ g.0)) o.0 (span_from_to (arm_span a) z.span)) v o.2 z in
       let cut : ts ≡ (h.1 ++ g.1) ++ (o.1 ++ z.0 ∷ []) = joined ts h.1 h.2 (g.1 ++ (o.1 ++ z.0 ∷ [])) h.3 (joined h.2 g.1 g.2 (o.1 ++ z.0 ∷ []) g.3 (joined g.2 o.1 o.2 (z.0 ∷ []) o.3 ends)) ∙ sym (append_assoc h.1 g.1 (o.1 ++ z.0 ∷ [])) in
       let span = sym (ap over cut ∙ over_if a w.IfWord z.0 h.1 g.1 o.1 (h.1 ++ g.1) h.4.0 refl) in
-      let fits = fits_suc u n (max (max (arm_depth a) (arms_depth (t.arms_of g.0))) (other_depth o.0)) room (fits_max u (n - 1) (max (arm_depth a) (arms_depth (t.arms_of g.0))) (other_depth o.0) (fits_max u (n - 1) (arm_depth a) (arms_depth (t.arms_of g.0)) h.4.1 arms.1) o.4.1) in
+      let fits = fits_suc u n (max (max (arm_depth a) (arms_depth (arms_of g.0))) (other_depth o.0)) room (fits_max u (n - 1) (max (arm_depth a) (arms_depth (arms_of g.0))) (other_depth o.0) (fits_max u (n - 1) (arm_depth a) (arms_depth (arms_of g.0)) h.4.1 arms.1) o.4.1) in
       subst (λ v. AtomIn u n v ts) (sym z.5.1) (refl, (z.0, h.1 ++ g.1, o.1, cut, (h.1, g.1, refl, h.4.0, arms.0), o.4.0, z.4.1, span), fits)
 
   some_if_end : (a : t.Arm) (xs : List t.Arm) (o : t.Other) → Inhabited (IfEnd a xs o)
-  some_if_end a xs o = some_close u (is_word w.EndWord) (λ z. t.if_ (t.arms_of (a ∷ xs)) o (span_from_to (t.arm_span a) z.span)) (of_kind (k.Word w.EndWord)) (a_word w.EndWord)
+  some_if_end a xs o = some_close u (is_word w.EndWord) (λ z. t.if_ (arms_of (a ∷ xs)) o (span_from_to (arm_span a) z.span)) (of_kind (k.Word w.EndWord)) (a_word w.EndWord)
 
   some_if_other : (a : t.Arm) (xs : List t.Arm) → Inhabited (IfOther a xs)
   some_if_other a xs = some_then (OtherIn u (n - 1)) (IfEnd a xs) (some_other u (n - 1)) (some_if_end a xs)
@@ -186,7 +187,7 @@ module _ (u : Bool) (n : ℕ) (p : Parser t.Seq) (hp : 0 < n → (ts : List Toke
       (explained_bind (InArm w.IfWord) IfMore u (x ∷ ts) _ (arm w.IfWord p (x ∷ ts)) (explained_arm w.IfWord lt x ts is)
       (λ a r e. explained_bind (Listed (InArm w.ElseifWord)) (IfOther a) u r _ _ (explained_all u (InArm w.ElseifWord) (at (is_word w.ElseifWord)) (arm w.ElseifWord p) (each_arm lt) r)
       (λ xs q f. explained_bind (OtherIn u (n - 1)) (IfEnd a xs) u q _ (other p q) (explained_other lt q)
-      (λ o l g. explained_close u (is_word w.EndWord) (λ z. t.if_ (t.arms_of (a ∷ xs)) o (span_from_to (t.arm_span a) z.span)) (of_kind (k.Word w.EndWord)) (a_word w.EndWord) l)
+      (λ o l g. explained_close u (is_word w.EndWord) (λ z. t.if_ (arms_of (a ∷ xs)) o (span_from_to (arm_span a) z.span)) (of_kind (k.Word w.EndWord)) (a_word w.EndWord) l)
       (some_if_end a xs)) (some_if_other a)) some_if_more))
 
   -- ---- `while`

@@ -5,7 +5,7 @@ use Rattle.pc_tree.specs.Depths.{depth, exprs_depth, suffix_depth, suffixes_dept
 use Rattle.pc_token.specs.declared.kinds.Token.{Token}
 use Rattle.pc_token.specs.declared.kinds.TokenKind.TheVariants as k
 use Rattle.pc_token.specs.declared.signs.Sign.TheVariants as s
-use Rattle.pc_token.specs.Asking.{is_sign}
+use Rattle.pc_token.specs.Words.{is_sign}
 use Rattle.pc_grammar.specs.Spells.{span_from_to, over, is_atom, is_term, Spells, SpellsMoreArgs, SpellsSuffixes}
 use Rattle.pc_grammar.specs.Reading.{Parser, Inner, pure, ◌>>=◌, ◌>>◌, peek, take_if, all, after, at, begins_suffix, name, arg_list, args, suffix, postfix, atom, chain_of, last_suffix}
 use Rattle.pc_grammar.proofs.Lists.{suffixes_list}
@@ -13,6 +13,7 @@ use Rattle.pc_grammar.proofs.Spans.{over_closed, chain_span}
 use Rattle.pc_grammar.proofs.Explained.{Fits, fits_zero, fits_max, fits_suc, fits_some, Explained, Then, Only, Listed, Inhabited, some_only, some_then, explained_bind, explained_weaker, explained_only, explained_refuse, explained_deeper, explained_all}
 use Rattle.pc_grammar.proofs.ExplainedParts.{explained_cons, taken, opened, ends_nil, joined, begins_one, of_kind, a_sign, AtomIn, TermIn, ExprIn, SuffixIn, ArgsIn, SeqIn, NameAt, some_args, some_suffix, explained_name}
 use Rattle.pc_grammar.proofs.ExplainedAtoms.{Closes, some_close, explained_close, closed, at_is, at_nil, explained_atom}
+use Rattle.pc_tree.specs.Parts.{exprs_of, suffixes_of}
 
 -- ---- where lists continue
 
@@ -40,12 +41,12 @@ module _ (u : Bool) (m : ℕ) (p : Parser t.Expr) (hp : (ts : List Token) → Ex
   abbrev MoreArg : t.Expr → List Token → Type 0
   MoreArg e ts = (x : Token) × (a : List Token) × (ts ≡ x ∷ a) × (is_sign s.Comma x ≡ true) × ExprIn u m e a
 
-  listed_args : (es : List t.Expr) (ts : List Token) → Listed MoreArg es ts → SpellsMoreArgs (t.exprs_of es) ts × Fits u m (exprs_depth (t.exprs_of es))
+  listed_args : (es : List t.Expr) (ts : List Token) → Listed MoreArg es ts → SpellsMoreArgs (exprs_of es) ts × Fits u m (exprs_depth (exprs_of es))
   listed_args [] ts h = (h, fits_zero u m)
   listed_args (e ∷ es) ts h =
       let x = h.3 in
       let g = listed_args es h.1 h.4 in
-      ((x.0, x.1, h.1, h.2 ∙ ap (λ l. l ++ h.1) x.2, x.3, x.4.0, g.0), fits_max u m (depth e) (exprs_depth (t.exprs_of es)) x.4.1 g.1)
+      ((x.0, x.1, h.1, h.2 ∙ ap (λ l. l ++ h.1) x.2, x.3, x.4.0, g.0), fits_max u m (depth e) (exprs_depth (exprs_of es)) x.4.1 g.1)
 
   each_arg : (ts begin : List Token) → after (is_sign s.Comma) ts ≡ Some begin → Explained u MoreArg ts (p begin)
   each_arg ts begin h =
@@ -53,24 +54,24 @@ module _ (u : Bool) (m : ℕ) (p : Parser t.Expr) (hp : (ts : List Token) → Ex
       subst (λ l. Explained u MoreArg l (p begin)) (sym f.1) (explained_cons u MoreArg (ExprIn u m) f.0 begin (λ v a m. (f.0, a, refl, f.2, m)) (p begin) (hp begin))
 
   abbrev ArgsRest : t.Expr → t.Exprs → List Token → Type 0
-  ArgsRest e = Then (Listed MoreArg) (λ es. Only (t.exprs_of (e ∷ es)))
+  ArgsRest e = Then (Listed MoreArg) (λ es. Only (exprs_of (e ∷ es)))
 
   args_whole : (v : t.Exprs) (a : List Token) → Then (ExprIn u m) ArgsRest v a → ArgsIn u m v a
   args_whole v a h =
       let g = h.5 in
       let more = listed_args g.0 g.1 g.4 in
       let cut = joined a h.1 h.2 g.1 h.3 (ends_nil h.2 g.1 g.2 g.3 g.5.0) in
-      subst (λ v. ArgsIn u m v a) (sym g.5.1) ((h.1, g.1, cut, h.4.0, more.0), fits_max u m (depth h.0) (exprs_depth (t.exprs_of g.0)) h.4.1 more.1)
+      subst (λ v. ArgsIn u m v a) (sym g.5.1) ((h.1, g.1, cut, h.4.0, more.0), fits_max u m (depth h.0) (exprs_depth (exprs_of g.0)) h.4.1 more.1)
 
   some_args_rest : (e : t.Expr) → Inhabited (ArgsRest e)
-  some_args_rest e = some_then (Listed MoreArg) (λ es. Only (t.exprs_of (e ∷ es))) ([], [], refl) (λ es. some_only _)
+  some_args_rest e = some_then (Listed MoreArg) (λ es. Only (exprs_of (e ∷ es))) ([], [], refl) (λ es. some_only _)
 
-  arg_list_by : (x : Token) (ts : List Token) (b : Bool) → Explained u (ArgsIn u m) (x ∷ ts) (cond b (pure t.no_exprs) (p >>= λ first. all (after (is_sign s.Comma)) p >>= λ more. pure (t.exprs_of (first ∷ more))) (x ∷ ts))
+  arg_list_by : (x : Token) (ts : List Token) (b : Bool) → Explained u (ArgsIn u m) (x ∷ ts) (cond b (pure t.no_exprs) (p >>= λ first. all (after (is_sign s.Comma)) p >>= λ more. pure (exprs_of (first ∷ more))) (x ∷ ts))
   arg_list_by x ts true = ([], refl, (refl, fits_zero u m))
   arg_list_by x ts false =
       explained_weaker u (Then (ExprIn u m) ArgsRest) (ArgsIn u m) (x ∷ ts) _ args_whole
       (explained_bind (ExprIn u m) ArgsRest u (x ∷ ts) _ (p (x ∷ ts)) (hp (x ∷ ts))
-      (λ e r e1. explained_bind (Listed MoreArg) (λ es. Only (t.exprs_of (e ∷ es))) u r _ _ (explained_all u MoreArg (after (is_sign s.Comma)) p each_arg r) (λ es q e2. explained_only u _ q) (λ es. some_only _)) some_args_rest)
+      (λ e r e1. explained_bind (Listed MoreArg) (λ es. Only (exprs_of (e ∷ es))) u r _ _ (explained_all u MoreArg (after (is_sign s.Comma)) p each_arg r) (λ es q e2. explained_only u _ q) (λ es. some_only _)) some_args_rest)
 
   pub explained_arg_list : (ts : List Token) → Explained u (ArgsIn u m) ts (arg_list p ts)
   unfolding arg_list peek
@@ -140,17 +141,17 @@ atom_is_term (t.while_ c b sp) h = refl
 atom_is_term (t.recover c b sp) h = refl
 
 module _ (u : Bool) (n : ℕ) where
-  listed_suffixes : (ss : List t.Suffix) (ts : List Token) → Listed (SuffixIn u n) ss ts → SpellsSuffixes (t.suffixes_of ss) ts × Fits u n (suffixes_depth (t.suffixes_of ss))
+  listed_suffixes : (ss : List t.Suffix) (ts : List Token) → Listed (SuffixIn u n) ss ts → SpellsSuffixes (suffixes_of ss) ts × Fits u n (suffixes_depth (suffixes_of ss))
   listed_suffixes [] ts h = (h, fits_zero u n)
-  listed_suffixes (x ∷ ss) ts h = let g = listed_suffixes ss h.1 h.4 in ((h.0, h.1, h.2, h.3.0, g.0), fits_max u n (suffix_depth x) (suffixes_depth (t.suffixes_of ss)) h.3.1 g.1)
+  listed_suffixes (x ∷ ss) ts h = let g = listed_suffixes ss h.1 h.4 in ((h.0, h.1, h.2, h.3.0, g.0), fits_max u n (suffix_depth x) (suffixes_depth (suffixes_of ss)) h.3.1 g.1)
 
   chain_is : (e : t.Expr) (ss : List t.Suffix) (ts a b : List Token) → ts ≡ a ++ b → AtomIn u n e a → Listed (SuffixIn u n) ss b → TermIn u n (chain_of e ss) ts
   unfolding chain_of
   chain_is e [] ts a b cut m h = let P : List Token → Type 0 = λ l. Spells e l in (atom_is_term e m.0, subst P (sym (ends_nil ts a b cut h)) m.1, m.2)
   chain_is e (x ∷ ss) ts a b cut m h =
       let g = listed_suffixes (x ∷ ss) b h in
-      let span = ap (λ l. span_from_to (t.span_of e) (last_suffix (t.span_of e) l)) (sym (suffixes_list (x ∷ ss))) ∙ chain_span e (t.suffixes_of (x ∷ ss)) a b ts cut m.1 g.0 in
-      (refl, (a, b, cut, m.0, m.1, tt, g.0, span), fits_max u n (depth e) (suffixes_depth (t.suffixes_of (x ∷ ss))) m.2 g.1)
+      let span = ap (λ l. span_from_to (t.span_of e) (last_suffix (t.span_of e) l)) (sym (suffixes_list (x ∷ ss))) ∙ chain_span e (suffixes_of (x ∷ ss)) a b ts cut m.1 g.0 in
+      (refl, (a, b, cut, m.0, m.1, tt, g.0, span), fits_max u n (depth e) (suffixes_depth (suffixes_of (x ∷ ss))) m.2 g.1)
 
   module _ (i : Inner) (hs : 0 < n → (ts : List Token) → Explained u (SeqIn u (n - 1)) ts (i.seq ts)) (he : 0 < n → (ts : List Token) → Explained u (ExprIn u (n - 1)) ts (i.expr ts)) where
     abbrev ChainRest : t.Expr → t.Expr → List Token → Type 0

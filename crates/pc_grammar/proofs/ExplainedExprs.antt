@@ -9,8 +9,9 @@ use Rattle.pc_tree.specs.Depths.{depth, exprs_depth}
 use Rattle.pc_token.specs.declared.kinds.Token.{Token}
 use Rattle.pc_token.specs.declared.words.Word.TheVariants as w
 use Rattle.pc_token.specs.declared.signs.Sign.TheVariants as s
-use Rattle.pc_token.specs.Asking.{is_sign, is_word}
-use Rattle.pc_grammar.specs.Spells.{op_of, same_op, no_span, span_from_to, over, is_term, is_infix, is_place, IsMore, Spells, SpellsTerms, SpellsMoreTerms}
+use Rattle.pc_token.specs.Words.{is_sign, is_word}
+use Rattle.pc_grammar.specs.Spells.{op_of, no_span, span_from_to, over, is_term, is_infix, is_place, IsMore, Spells, SpellsTerms, SpellsMoreTerms}
+use Rattle.pc_grammar.specs.Parts.{same_op}
 use Rattle.pc_grammar.specs.Reading.{Inner, pure, ◌>>=◌, peek, after, is_op, is_this, name, consume, negation, postfix, term, infix_in, infix_with, infix_by, infix_of, first_expr, last_expr, becomes, expr_by, expr_in, expr_with}
 use Rattle.pc_grammar.proofs.Follow.{after_op}
 use Rattle.pc_grammar.proofs.Lists.{exprs_list}
@@ -18,6 +19,7 @@ use Rattle.pc_grammar.proofs.Spans.{over_not, over_assign, terms_span}
 use Rattle.pc_grammar.proofs.Explained.{Fits, fits_zero, fits_max, fits_suc, fits_some, Explained, Then, Only, Listed, some_only, some_then, explained_bind, explained_weaker, explained_only, explained_refuse, explained_deeper, explained_more}
 use Rattle.pc_grammar.proofs.ExplainedParts.{explained_cons, taken, opened, ends_nil, joined, begins_one, TermIn, InfixIn, ExprIn, SeqIn, NameAt, some_term, some_expr, explained_name}
 use Rattle.pc_grammar.proofs.ExplainedChains.{after_is, explained_postfix}
+use Rattle.pc_tree.specs.Parts.{exprs_of}
 
 -- what may come inside is explained
 abbrev pub InnerAt : Bool → ℕ → Inner → Type 0
@@ -53,7 +55,7 @@ term_is_infix (t.if_ a o sp) h = refl
 term_is_infix (t.while_ c b sp) h = refl
 term_is_infix (t.recover c b sp) h = refl
 
-is_more : (es : List t.Expr) → 0 < length es → IsMore (t.exprs_of es)
+is_more : (es : List t.Expr) → 0 < length es → IsMore (exprs_of es)
 is_more [] h = absurd (omega arith)
 is_more (e ∷ es) h = tt
 
@@ -61,12 +63,12 @@ module _ (u : Bool) (n : ℕ) where
   abbrev MoreTerm : Op → t.Expr → List Token → Type 0
   MoreTerm o e ts = (x : Token) × (a : List Token) × (ts ≡ x ∷ a) × (op_of x ≡ Some o) × TermIn u n e a
 
-  listed_terms : (o : Op) (es : List t.Expr) (ts : List Token) → Listed (MoreTerm o) es ts → SpellsMoreTerms (t.exprs_of es) o ts × Fits u n (exprs_depth (t.exprs_of es))
+  listed_terms : (o : Op) (es : List t.Expr) (ts : List Token) → Listed (MoreTerm o) es ts → SpellsMoreTerms (exprs_of es) o ts × Fits u n (exprs_depth (exprs_of es))
   listed_terms o [] ts h = (h, fits_zero u n)
   listed_terms o (e ∷ es) ts h =
       let x = h.3 in
       let g = listed_terms o es h.1 h.4 in
-      ((x.0, x.1, h.1, h.2 ∙ ap (λ l. l ++ h.1) x.2, x.3, x.4.0, x.4.1, g.0), fits_max u n (depth e) (exprs_depth (t.exprs_of es)) x.4.2 g.1)
+      ((x.0, x.1, h.1, h.2 ∙ ap (λ l. l ++ h.1) x.2, x.3, x.4.0, x.4.1, g.0), fits_max u n (depth e) (exprs_depth (exprs_of es)) x.4.2 g.1)
 
   -- ---- `consume`
 
@@ -150,9 +152,9 @@ module _ (u : Bool) (n : ℕ) where
       | inr g ↦ (
           let Q : t.Expr → Type 0 = λ e. InfixIn u n e ts in
           let more = listed_terms g.0 g.1 h.2 g.3 in
-          let terms : SpellsTerms (t.exprs_of (h.0 ∷ g.1)) g.0 ts = (h.1, h.2, h.3, h.4.0, h.4.1, is_more g.1 g.2, more.0) in
-          let span = ap (λ l. span_from_to (first_expr l) (last_expr no_span l)) (sym (exprs_list (h.0 ∷ g.1))) ∙ terms_span (t.exprs_of (h.0 ∷ g.1)) g.0 ts terms in
-          subst Q (sym g.4) (refl, (terms, span), fits_max u n (depth h.0) (exprs_depth (t.exprs_of g.1)) h.4.2 more.1))
+          let terms : SpellsTerms (exprs_of (h.0 ∷ g.1)) g.0 ts = (h.1, h.2, h.3, h.4.0, h.4.1, is_more g.1 g.2, more.0) in
+          let span = ap (λ l. span_from_to (first_expr l) (last_expr no_span l)) (sym (exprs_list (h.0 ∷ g.1))) ∙ terms_span (exprs_of (h.0 ∷ g.1)) g.0 ts terms in
+          subst Q (sym g.4) (refl, (terms, span), fits_max u n (depth h.0) (exprs_depth (exprs_of g.1)) h.4.2 more.1))
     ]
 
     pub explained_infix : (ts : List Token) → Explained u (InfixIn u n) ts (infix_in n i ts)

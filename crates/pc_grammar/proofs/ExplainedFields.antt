@@ -1,7 +1,8 @@
 -- Fields are explained.
 use Rattle.std.proofs.Common.{◌≡◌, ℕ, suc, Bool, true, false, List, [], ◌∷◌, ◌++◌, Option, Some, None, refl, sym, ap, ◌∙◌, subst, arith, cond}
 use Rattle.pc_tree.specs.Tree as t
-use Rattle.pc_tree.specs.Depths.{depth, value_depth, fields_depth}
+use Rattle.pc_tree.specs.Depths.{depth}
+use Rattle.pc_tree.specs.Levels.{value_depth, fields_depth}
 use Rattle.pc_tree.specs.declared.written_names.Name.{Name}
 use Rattle.pc_tree.specs.declared.written_names.TypeRef.{TypeRef}
 use Rattle.pc_tree.specs.declared.kinds.EntityKind.{EntityKind}
@@ -10,9 +11,9 @@ use Rattle.pc_token.specs.declared.kinds.Token.{Token}
 use Rattle.pc_token.specs.declared.kinds.TokenKind.TheVariants as k
 use Rattle.pc_token.specs.declared.words.Word.TheVariants as w
 use Rattle.pc_token.specs.declared.signs.Sign.TheVariants as s
-use Rattle.pc_token.specs.Asking.{is_sign, is_word}
-use Rattle.pc_grammar.specs.Spells.{local_word}
-use Rattle.pc_grammar.specs.SpellsFile.{SpellsValue, SpellsField, SpellsFields}
+use Rattle.pc_token.specs.Words.{is_sign, is_word}
+use Rattle.pc_grammar.specs.Spells.{local_word, SpellsValue, SpellsField}
+use Rattle.pc_grammar.specs.Parts.{SpellsFields}
 use Rattle.pc_grammar.specs.Reading.{pure, ◌>>=◌, ◌>>◌, peek, take_if, all, at, name, infix_, inner}
 use Rattle.pc_grammar.specs.ReadingFile.{maybe_doc, value, field, begins_field, some_field, fields}
 use Rattle.pc_grammar.proofs.Explained.{Fits, fits_zero, fits_max, Explained, Then, Tok, Only, Listed, Inhabited, some_only, some_then, explained_bind, explained_weaker, explained_only, explained_refuse, explained_take, explained_all}

@@ -2,7 +2,8 @@
 use Rattle.std.proofs.Common.{◌≡◌, ℕ, suc, max, Bool, true, false, List, [], ◌∷◌, ◌++◌, Option, Some, refl, sym, ap, ap₂, ◌∙◌, subst, cond, append_assoc, ◌⊎◌, inl, inr}
 use Rattle.pc_caps.specs.declared.capability.Cap.{Cap}
 use Rattle.pc_tree.specs.Tree as t
-use Rattle.pc_tree.specs.Depths.{fields_depth, methods_depth, entities_depth, file_depth}
+use Rattle.pc_tree.specs.Depths.{file_depth}
+use Rattle.pc_tree.specs.Levels.{fields_depth, methods_depth, entities_depth}
 use Rattle.pc_tree.specs.declared.written_names.Name.{Name}
 use Rattle.pc_tree.specs.declared.kinds.EntityKind.{EntityKind}
 use Rattle.pc_tree.specs.declared.kinds.EntityKind.TheVariants as kind
@@ -12,8 +13,9 @@ use Rattle.pc_token.specs.declared.kinds.TokenKind.{TokenKind}
 use Rattle.pc_token.specs.declared.kinds.TokenKind.TheVariants as k
 use Rattle.pc_token.specs.declared.words.Word.TheVariants as w
 use Rattle.pc_token.specs.declared.signs.Sign.TheVariants as s
-use Rattle.pc_token.specs.Asking.{is_sign, is_word}
-use Rattle.pc_grammar.specs.SpellsFile.{SpellsMoreNames, SpellsNames, SpellsBracketed, SpellsAlone, SpellsProvides, entity_word, SpellsEntity, SpellsMoreEntities, SpellsFile}
+use Rattle.pc_token.specs.Words.{is_sign, is_word}
+use Rattle.pc_grammar.specs.Spells.{SpellsMoreNames, SpellsNames, SpellsBracketed, SpellsAlone, SpellsProvides, entity_word, SpellsEntity, SpellsFile}
+use Rattle.pc_grammar.specs.Parts.{SpellsMoreEntities}
 use Rattle.pc_grammar.specs.Reading.{pure, refuse, ◌>>=◌, ◌>>◌, peek, take_if, at, after, type_name}
 use Rattle.pc_grammar.specs.ReadingFile.{kind_is_end, is_end, maybe_doc, type_names, provided, provides, entity_cap, fields, entity_of, entity, begins_entity, file}
 use Rattle.pc_grammar.proofs.Explained.{Fits, fits_zero, fits_max, Explained, Then, Tok, Only, Listed, Inhabited, some_only, some_then, explained_bind, explained_weaker, explained_only, explained_refuse, explained_take, explained_all}

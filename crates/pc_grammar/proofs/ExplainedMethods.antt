@@ -2,7 +2,8 @@
 use Rattle.std.proofs.Common.{◌≡◌, ℕ, suc, Bool, true, false, ◌||◌, List, [], ◌∷◌, ◌++◌, Option, Some, None, refl, sym, ap, ◌∙◌, subst, cond}
 use Rattle.pc_caps.specs.declared.capability.Cap.{Cap}
 use Rattle.pc_tree.specs.Tree as t
-use Rattle.pc_tree.specs.Depths.{seq_depth, body_depth, methods_depth}
+use Rattle.pc_tree.specs.Depths.{seq_depth}
+use Rattle.pc_tree.specs.Levels.{body_depth, methods_depth}
 use Rattle.pc_tree.specs.declared.written_names.Name.{Name}
 use Rattle.pc_tree.specs.declared.written_names.TypeRef.{TypeRef}
 use Rattle.pc_tree.specs.declared.file.ParamDef.{ParamDef}
@@ -13,9 +14,9 @@ use Rattle.pc_tree.specs.Kinds.{is_abstract, may_stand, may_have_method_cap, Cap
 use Rattle.pc_token.specs.declared.kinds.Token.{Token}
 use Rattle.pc_token.specs.declared.kinds.TokenKind.TheVariants as k
 use Rattle.pc_token.specs.declared.signs.Sign.TheVariants as s
-use Rattle.pc_token.specs.Asking.{is_sign, is_word}
-use Rattle.pc_grammar.specs.Spells.{SpellsCap}
-use Rattle.pc_grammar.specs.SpellsFile.{SpellsReturns, SpellsParams, SpellsBody, method_word, MayReturn, SpellsMethod, SpellsMethods}
+use Rattle.pc_token.specs.Words.{is_sign, is_word}
+use Rattle.pc_grammar.specs.Spells.{SpellsCap, SpellsReturns, SpellsParams, SpellsBody, method_word, MayReturn, SpellsMethod}
+use Rattle.pc_grammar.specs.Parts.{SpellsMethods}
 use Rattle.pc_grammar.specs.Reading.{◌>>◌, pure, peek, take_if, all, at, name, seq, inner}
 use Rattle.pc_grammar.specs.ReadingFile.{maybe_doc, params, written_body, maybe_body, body, cap_if, method_cap, method_result, method_of, word_in, begins_method, some_method}
 use Rattle.pc_grammar.proofs.Explained.{Fits, fits_zero, fits_max, Explained, Then, Tok, Only, Listed, Inhabited, some_only, some_then, explained_bind, explained_weaker, explained_only, explained_refuse, explained_take, explained_all}

@@ -8,9 +8,8 @@ use Rattle.pc_token.specs.declared.kinds.Token.{Token}
 use Rattle.pc_token.specs.declared.kinds.TokenKind.{TokenKind}
 use Rattle.pc_token.specs.declared.kinds.TokenKind.TheVariants as k
 use Rattle.pc_token.specs.declared.signs.Sign.TheVariants as s
-use Rattle.pc_token.specs.Asking.{is_sign}
-use Rattle.pc_grammar.specs.Spells.{SpellsCap, SpellsType}
-use Rattle.pc_grammar.specs.SpellsFile.{IsDoc, SpellsHat, SpellsResult, SpellsReturns, SpellsParam, SpellsMoreParams, SpellsParamList, SpellsParams}
+use Rattle.pc_token.specs.Words.{is_sign}
+use Rattle.pc_grammar.specs.Spells.{SpellsCap, SpellsType, IsDoc, SpellsHat, SpellsResult, SpellsReturns, SpellsParam, SpellsMoreParams, SpellsParamList, SpellsParams}
 use Rattle.pc_grammar.specs.Reading.{pure, ◌>>=◌, ◌>>◌, peek, take_if, take_any, all, after, name, type_name, maybe_cap, written_type}
 use Rattle.pc_grammar.specs.ReadingFile.{kind_is_doc, is_doc, maybe_doc, maybe_hat, result_type, returns, param, param_list, params}
 use Rattle.pc_grammar.proofs.Explained.{Explained, Then, Tok, Only, Listed, Inhabited, some_only, some_then, explained_bind, explained_weaker, explained_only, explained_refuse, explained_take, explained_all}

@@ -14,7 +14,7 @@ use Rattle.pc_token.specs.declared.kinds.TokenKind.TheVariants as k
 use Rattle.pc_token.specs.declared.words.Word.{Word}
 use Rattle.pc_token.specs.declared.signs.Sign.{Sign}
 use Rattle.pc_token.specs.declared.signs.Sign.TheVariants as s
-use Rattle.pc_token.specs.Asking.{is_sign, is_word, same_sign, same_word}
+use Rattle.pc_token.specs.Words.{is_sign, is_word, same_sign, same_word}
 use Rattle.pc_grammar.specs.Spells.{cap_of, no_span, IsName, IsTypeName, SpellsCap, SpellsType, SpellsTyped, is_atom, is_term, is_infix, Spells, SpellsSuffix, SpellsArgs, SpellsArm, SpellsOther, SpellsSeq, SpellsItem}
 use Rattle.pc_grammar.specs.Reading.{ReadingOutcome, Parser, and_then, pure, ◌>>=◌, ◌>>◌, peek, take_if, name, name_at, type_name, type_name_at, cap_by, maybe_cap, written_type, maybe_type}
 use Rattle.pc_grammar.proofs.Explained.{Fits, fits_zero, Explained, Then, Tok, Only, Inhabited, some_tok, some_only, some_then, explained_bind, explained_weaker, explained_only, explained_refuse}

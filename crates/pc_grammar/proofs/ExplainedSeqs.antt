@@ -8,7 +8,7 @@ use Rattle.pc_token.specs.declared.kinds.Token.{Token}
 use Rattle.pc_token.specs.declared.kinds.TokenKind.TheVariants as k
 use Rattle.pc_token.specs.declared.words.Word.TheVariants as w
 use Rattle.pc_token.specs.declared.signs.Sign.TheVariants as s
-use Rattle.pc_token.specs.Asking.{is_sign, is_word}
+use Rattle.pc_token.specs.Words.{is_sign, is_word}
 use Rattle.pc_grammar.specs.Spells.{local_word, no_span, span_from_to, over, IsNext, Spells, SpellsTyped, SpellsItems, SpellsMoreItems}
 use Rattle.pc_grammar.specs.Reading.{ReadingFault, unexpected, too_deep, ReadingOutcome, Parser, Inner, pure, ◌>>=◌, ◌>>◌, peek, take_if, next_item, begins_item, name, maybe_type, local, item, expr_in, seq_in, seq_with, seq_of, first_item, last_item, inner}
 use Rattle.pc_grammar.proofs.First.{First, Item, first_item as item_first}
@@ -18,6 +18,7 @@ use Rattle.pc_grammar.proofs.Explained.{Fits, fits_zero, fits_max, shown, Explai
 use Rattle.pc_grammar.proofs.ExplainedParts.{explained_cons, opened, ends_nil, joined, begins_one, of_kind, a_sign, some_sign, a_name, ExprIn, ItemIn, SeqIn, NameAt, some_expr, some_item, explained_name, explained_typed}
 use Rattle.pc_grammar.proofs.ExplainedExprs.{ExplainedInner, InnerAt, explained_term, explained_expr}
 use Rattle.pc_lists.proofs.Bools.{first_true}
+use Rattle.pc_tree.specs.Parts.{items_of}
 
 abbrev first_name : Token
 first_name = record { kind = k.Name []; first = true; span = no_span }
@@ -36,12 +37,12 @@ module _ (u : Bool) (n : ℕ) where
   abbrev MoreItem : t.Item → List Token → Type 0
   MoreItem i ts = (m a : List Token) × (ts ≡ m ++ a) × IsNext m a × ItemIn u n i a
 
-  listed_items : (is : List t.Item) (ts : List Token) → Listed MoreItem is ts → SpellsMoreItems (t.items_of is) ts × Fits u n (items_depth (t.items_of is))
+  listed_items : (is : List t.Item) (ts : List Token) → Listed MoreItem is ts → SpellsMoreItems (items_of is) ts × Fits u n (items_depth (items_of is))
   listed_items [] ts h = (h, fits_zero u n)
   listed_items (i ∷ is) ts h =
       let x = h.3 in
       let g = listed_items is h.1 h.4 in
-      ((x.0, x.1, h.1, h.2 ∙ ap (λ l. l ++ h.1) x.2 ∙ append_assoc x.0 x.1 h.1, x.3, x.4.0, g.0), fits_max u n (item_depth i) (items_depth (t.items_of is)) x.4.1 g.1)
+      ((x.0, x.1, h.1, h.2 ∙ ap (λ l. l ++ h.1) x.2 ∙ append_assoc x.0 x.1 h.1, x.3, x.4.0, g.0), fits_max u n (item_depth i) (items_depth (items_of is)) x.4.1 g.1)
 
   some_more_item : MoreItem (t.plain (t.name a_name)) (first_name ∷ [])
   some_more_item = ([], first_name ∷ [], refl, refl, ((first_name, refl, (refl, refl)), fits_zero u n))
@@ -143,10 +144,10 @@ module _ (u : Bool) (n : ℕ) where
         let Q : t.Seq → Type 0 = λ v. SeqIn u n v a in
         let more = listed_items g.0 g.1 g.4 in
         let cut = joined a h.1 h.2 g.1 h.3 (ends_nil h.2 g.1 g.2 g.3 g.5.0) in
-        let items : SpellsItems (t.items_of (h.0 ∷ g.0)) a = (h.1, g.1, cut, h.4.0, more.0) in
+        let items : SpellsItems (items_of (h.0 ∷ g.0)) a = (h.1, g.1, cut, h.4.0, more.0) in
         let span = ap (λ l. span_from_to (first_item l) (last_item no_span l)) (sym (items_list (h.0 ∷ g.0)))
-        ∙ items_span (t.items_of (h.0 ∷ g.0)) a items in
-        subst Q (sym g.5.1) ((items, span), fits_max u n (item_depth h.0) (items_depth (t.items_of g.0)) h.4.1 more.1)
+        ∙ items_span (items_of (h.0 ∷ g.0)) a items in
+        subst Q (sym g.5.1) ((items, span), fits_max u n (item_depth h.0) (items_depth (items_of g.0)) h.4.1 more.1)
 
     some_seq_rest : (i : t.Item) → Inhabited (SeqRest i)
     some_seq_rest i = some_then (Listed MoreItem) (λ is. Only (seq_of (i ∷ is))) ([], [], refl) (λ is. some_only _)

@@ -3,7 +3,7 @@ use Rattle.std.proofs.Common.{◌≡◌, ◌≤◌, List, [], ◌∷◌, ◌++�
 use Rattle.pc_tree.specs.Tree as t
 use Rattle.pc_tree.specs.Depths.{file_depth}
 use Rattle.pc_token.specs.declared.kinds.Token.{Token}
-use Rattle.pc_grammar.specs.SpellsFile.{SpellsFile, level_limit}
+use Rattle.pc_grammar.specs.Spells.{SpellsFile, level_limit}
 use Rattle.pc_grammar.specs.FileAnswers.{Begins, IsTooDeep, IsUnexpected}
 use Rattle.pc_grammar.specs.Parsing.{IsStopped}
 use Rattle.pc_grammar.specs.Reading.{unexpected, too_deep, ReadingOutcome}

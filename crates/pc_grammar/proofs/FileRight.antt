@@ -3,7 +3,7 @@ use Rattle.std.proofs.Common.{◌≡◌, ℕ, suc, ◌≤◌, max, true, false, 
 use Rattle.pc_tree.specs.Tree as t
 use Rattle.pc_tree.specs.Depths.{file_depth}
 use Rattle.pc_token.specs.declared.kinds.Token.{Token}
-use Rattle.pc_grammar.specs.SpellsFile.{SpellsFile}
+use Rattle.pc_grammar.specs.Spells.{SpellsFile}
 use Rattle.pc_grammar.specs.FileAnswers.{Begins}
 use Rattle.pc_grammar.specs.Parsing.{SpellsNoTree, IsOne, IsRead, IsRefused}
 use Rattle.pc_grammar.specs.Laws.{FileDeepRight}

@@ -12,8 +12,9 @@ use Rattle.pc_token.specs.declared.signs.Sign.TheVariants as s
 use Rattle.pc_token.specs.declared.kinds.Token.{Token}
 use Rattle.pc_token.specs.declared.kinds.TokenKind.{TokenKind}
 use Rattle.pc_token.specs.declared.kinds.TokenKind.TheVariants as k
-use Rattle.pc_token.specs.Asking.{is_sign, is_word, kind_is_sign, kind_is_word, same_sign, same_word}
-use Rattle.pc_grammar.specs.Spells.{op_of, kind_op, cap_of, kind_cap, same_op, local_word, truth_word}
+use Rattle.pc_token.specs.Words.{is_sign, is_word, kind_is_sign, kind_is_word, same_sign, same_word}
+use Rattle.pc_grammar.specs.Spells.{op_of, kind_op, cap_of, kind_cap, local_word, truth_word}
+use Rattle.pc_grammar.specs.Parts.{same_op}
 use Rattle.pc_grammar.specs.Reading.{begins_suffix, begins_item, kind_begins, is_op, after, at, next_item}
 
 sign_kind : (s : Sign) (x : TokenKind) → kind_is_sign s x ≡ true → x ≡ k.Sign s

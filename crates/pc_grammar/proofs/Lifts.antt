@@ -5,7 +5,7 @@ use Rattle.pc_token.specs.declared.kinds.Token.{Token}
 use Rattle.pc_token.specs.declared.kinds.TokenKind.TheVariants as k
 use Rattle.pc_token.specs.declared.words.Word.TheVariants as w
 use Rattle.pc_token.specs.declared.signs.Sign.TheVariants as s
-use Rattle.pc_token.specs.Asking.{is_sign, is_word}
+use Rattle.pc_token.specs.Words.{is_sign, is_word}
 use Rattle.pc_grammar.specs.Spells.{op_of}
 use Rattle.pc_grammar.specs.Reading.{ReadingOutcome, Parser, Inner, and_then, pure, ◌>>=◌, peek, many, many_step, all, at, begins_suffix, expr_in, expr_with, expr_by, infix_in, infix_with, infix_by, term, atom, atom_at, suffix, postfix, chain_of}
 use Rattle.pc_grammar.proofs.Follow.{Stops_chain, kind_of_word}

@@ -7,7 +7,7 @@ use Rattle.pc_tree.specs.declared.kinds.MethodWord.TheVariants as method
 use Rattle.pc_tree.specs.Kinds.{is_abstract, may_have_cap, may_have_fields, may_have_method_cap}
 use Rattle.pc_token.specs.declared.words.Word.TheVariants as w
 use Rattle.pc_token.specs.declared.signs.Sign.TheVariants as s
-use Rattle.pc_token.specs.Asking.{is_sign, is_word}
+use Rattle.pc_token.specs.Words.{is_sign, is_word}
 use Rattle.pc_grammar.specs.Reading.{after, at, type_name, inner}
 use Rattle.pc_grammar.specs.ReadingFile.{is_doc, maybe_doc, maybe_hat, result_type, returns, param, param_list, params, value, field, begins_field, some_field, fields, written_body, maybe_body, body, cap_if, method_result, method_of, word_in, begins_method, some_method, type_names, provided, provides, entity_of, entity, begins_entity, file}
 use Rattle.pc_grammar.proofs.Local.{Local, local_bind, local_pure, local_peek, local_take}

@@ -10,7 +10,7 @@ use Rattle.pc_token.specs.declared.kinds.TokenKind.TheVariants as k
 use Rattle.pc_token.specs.declared.words.Word.{Word}
 use Rattle.pc_token.specs.declared.words.Word.TheVariants as w
 use Rattle.pc_token.specs.declared.signs.Sign.TheVariants as s
-use Rattle.pc_token.specs.Asking.{is_sign, is_word}
+use Rattle.pc_token.specs.Words.{is_sign, is_word}
 use Rattle.pc_grammar.specs.Spells.{op_of, cap_of}
 use Rattle.pc_grammar.specs.Reading.{unexpected, ReadingOutcome, Parser, Inner, refuse, ◌>>=◌, take_if, deeper, name, name_at, type_name, type_name_at, cap_by, maybe_cap, written_type, maybe_type, group, arm, if_, while_, recover_, other, leaf, atom, atom_at, args, arg_list, suffix, postfix, negation, consume, term, infix_in, infix_with, infix_by, becomes, assigns, expr_in, expr_with, local, item, seq_in, seq_with, inner, next_item, after, at, is_op, begins_suffix}
 use Rattle.pc_grammar.proofs.Lifts.{bind_ok}

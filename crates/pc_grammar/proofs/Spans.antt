@@ -9,6 +9,7 @@ use Rattle.pc_grammar.specs.Spells.{no_span, first_span, last_span, span_from_to
 use Rattle.pc_grammar.specs.Reading.{last_expr, last_suffix, last_item, first_expr, first_item}
 use Rattle.pc_grammar.proofs.First.{First, IsWord, first_append, first_of, first_item as item_first, first_seq, first_suffix, first_arm}
 use Rattle.pc_grammar.proofs.Lists.{list_of, suffix_list, item_list}
+use Rattle.pc_tree.specs.Parts.{suffix_span, arm_span, seq_span, item_span}
 
 pub join_by : (a b c d : Span) → a.start ≡ c.start → b.end ≡ d.end → span_from_to a b ≡ span_from_to c d
 join_by a b c d e f = ap₂ (λ s t. record { start = s; end = t }) e f
@@ -49,13 +50,13 @@ span_is (t.while_ c b sp) ts h = h.11
 span_is (t.recover c b sp) ts h = h.9
 span_is (t.assign l r sp) ts h = h.8
 
-pub seq_span_is : (b : t.Seq) (ts : List Token) → SpellsSeq b ts → t.seq_span b ≡ over ts
+pub seq_span_is : (b : t.Seq) (ts : List Token) → SpellsSeq b ts → seq_span b ≡ over ts
 seq_span_is (t.seq is sp) ts h = h.1
 
-pub arm_span_is : (a : t.Arm) (word : Word) (ts : List Token) → SpellsArm a word ts → t.arm_span a ≡ over ts
+pub arm_span_is : (a : t.Arm) (word : Word) (ts : List Token) → SpellsArm a word ts → arm_span a ≡ over ts
 arm_span_is (t.arm_of c b sp) word ts h = h.9
 
-pub item_span_is : (i : t.Item) (ts : List Token) → SpellsItem i ts → t.item_span i ≡ over ts
+pub item_span_is : (i : t.Item) (ts : List Token) → SpellsItem i ts → item_span i ≡ over ts
 item_span_is (t.local f m ty e sp) ts h = h.11
 item_span_is (t.plain e) ts h = span_is e ts h
 
@@ -64,19 +65,19 @@ item_span_is (t.plain e) ts h = span_is e ts h
 expr_end : (e : t.Expr) (ts : List Token) (s : Span) → Spells e ts → (t.span_of e).end ≡ (last_span s ts).end
 expr_end e ts s h = ap (λ s. s.end) (span_is e ts h ∙ ap (span_from_to (first_span ts)) (last_first no_span s ts (first_of e ts h)))
 
-item_end : (i : t.Item) (ts : List Token) (s : Span) → SpellsItem i ts → (t.item_span i).end ≡ (last_span s ts).end
+item_end : (i : t.Item) (ts : List Token) (s : Span) → SpellsItem i ts → (item_span i).end ≡ (last_span s ts).end
 item_end i ts s h = ap (λ s. s.end) (item_span_is i ts h ∙ ap (span_from_to (first_span ts)) (last_first no_span s ts (item_first i ts h)))
 
-seq_end : (b : t.Seq) (ts : List Token) (s : Span) → SpellsSeq b ts → (t.seq_span b).end ≡ (last_span s ts).end
+seq_end : (b : t.Seq) (ts : List Token) (s : Span) → SpellsSeq b ts → (seq_span b).end ≡ (last_span s ts).end
 seq_end b ts s h = ap (λ s. s.end) (seq_span_is b ts h ∙ ap (span_from_to (first_span ts)) (last_first no_span s ts (first_seq b ts h)))
 
-suffix_end : (x : t.Suffix) (ts : List Token) (s : Span) → SpellsSuffix x ts → (t.suffix_span x).end ≡ (last_span s ts).end
+suffix_end : (x : t.Suffix) (ts : List Token) (s : Span) → SpellsSuffix x ts → (suffix_span x).end ≡ (last_span s ts).end
 suffix_end (t.dot m) ts s h = ap (λ s. s.end) (sym h.4.1) ∙ sym (ap (λ l. (last_span s l).end) h.2)
 suffix_end (t.args es sp) ts s h = ap (λ s. s.end) (h.8 ∙ ap (span_from_to (first_span ts)) (last_first no_span s ts (first_suffix (t.args es sp) ts h)))
 
 suffixes_end : (ss : t.Suffixes) (ts : List Token) (s r : Span) → SpellsSuffixes ss ts → s.end ≡ r.end → (last_suffix s (suffix_list ss)).end ≡ (last_span r ts).end
 suffixes_end t.no_suffixes ts s r h e = e ∙ sym (ap (λ l. (last_span r l).end) h)
-suffixes_end (t.suffix x ss) ts s r h e = suffixes_end ss h.1 (t.suffix_span x) (last_span r h.0) h.4 (suffix_end x h.0 r h.3) ∙ sym (ap (λ s. s.end) (ap (last_span r) h.2 ∙ last_append r h.0 h.1))
+suffixes_end (t.suffix x ss) ts s r h e = suffixes_end ss h.1 (suffix_span x) (last_span r h.0) h.4 (suffix_end x h.0 r h.3) ∙ sym (ap (λ s. s.end) (ap (last_span r) h.2 ∙ last_append r h.0 h.1))
 
 terms_end : (es : t.Exprs) (o : Op) (ts : List Token) (s r : Span) → SpellsMoreTerms es o ts → s.end ≡ r.end → (last_expr s (list_of es)).end ≡ (last_span r ts).end
 terms_end t.no_exprs o ts s r h e = e ∙ sym (ap (λ l. (last_span r l).end) h)
@@ -88,7 +89,7 @@ items_end : (is : t.Items) (ts : List Token) (s r : Span) → SpellsMoreItems is
 items_end t.no_items ts s r h e = e ∙ sym (ap (λ l. (last_span r l).end) h)
 items_end (t.item i is) ts s r h e =
     let c = last_span r h.0 in
-    items_end is h.2 (t.item_span i) (last_span c h.1) h.6 (item_end i h.1 c h.5) ∙ sym (ap (λ s. s.end) (ap (last_span r) h.3 ∙ last_append r h.0 (h.1 ++ h.2) ∙ last_append c h.1 h.2))
+    items_end is h.2 (item_span i) (last_span c h.1) h.6 (item_end i h.1 c h.5) ∙ sym (ap (λ s. s.end) (ap (last_span r) h.3 ∙ last_append r h.0 (h.1 ++ h.2) ∙ last_append c h.1 h.2))
 
 -- ---- the whole
 
@@ -110,8 +111,8 @@ pub items_span : (is : t.Items) (ts : List Token) → SpellsItems is ts
 items_span t.no_items ts h = absurd h
 items_span (t.item i is) ts h =
     let same = item_span_is i h.0 h.3 in
-    let ends = items_end is h.1 (t.item_span i) (last_span no_span h.0) h.4 (ap (λ s. s.end) same) in
-    join_by (t.item_span i) (last_item (t.item_span i) (item_list is)) (first_span (h.0 ++ h.1)) (last_span no_span (h.0 ++ h.1)) (ap (λ s. s.start) same ∙ ap (λ s. s.start) (sym (first_of_append h.0 h.1 (item_first i h.0 h.3)))) (ends ∙ ap (λ s. s.end) (sym (last_append no_span h.0 h.1))) ∙ ap over (sym h.2)
+    let ends = items_end is h.1 (item_span i) (last_span no_span h.0) h.4 (ap (λ s. s.end) same) in
+    join_by (item_span i) (last_item (item_span i) (item_list is)) (first_span (h.0 ++ h.1)) (last_span no_span (h.0 ++ h.1)) (ap (λ s. s.start) same ∙ ap (λ s. s.start) (sym (first_of_append h.0 h.1 (item_first i h.0 h.3)))) (ends ∙ ap (λ s. s.end) (sym (last_append no_span h.0 h.1))) ∙ ap over (sym h.2)
 
 module _ (x : Token) where
   pub over_two : (y z : Token) (a d : List Token) → over (x ∷ (a ++ y ∷ (d ++ z ∷ []))) ≡ span_from_to x.span z.span
@@ -123,8 +124,8 @@ module _ (x : Token) where
   pub over_not : (e : t.Expr) (a : List Token) → Spells e a → over (x ∷ a) ≡ span_from_to x.span (t.span_of e)
   over_not e a h = join_by x.span (last_span x.span a) x.span (t.span_of e) refl (sym (expr_end e a x.span h))
 
-  pub over_arm : (y : Token) (b : t.Seq) (a d : List Token) → SpellsSeq b d → over (x ∷ (a ++ y ∷ d)) ≡ span_from_to x.span (t.seq_span b)
-  over_arm y b a d h = join_by x.span (last_span x.span (a ++ y ∷ d)) x.span (t.seq_span b) refl (ap (λ s. s.end) (last_append x.span a (y ∷ d)) ∙ sym (seq_end b d y.span h))
+  pub over_arm : (y : Token) (b : t.Seq) (a d : List Token) → SpellsSeq b d → over (x ∷ (a ++ y ∷ d)) ≡ span_from_to x.span (seq_span b)
+  over_arm y b a d h = join_by x.span (last_span x.span (a ++ y ∷ d)) x.span (seq_span b) refl (ap (λ s. s.end) (last_append x.span a (y ∷ d)) ∙ sym (seq_end b d y.span h))
 
   pub over_local : (y z : Token) (e : t.Expr) (a b : List Token) → Spells e b → over (x ∷ y ∷ (a ++ z ∷ b)) ≡ span_from_to x.span (t.span_of e)
   over_local y z e a b h = join_by x.span (last_span y.span (a ++ z ∷ b)) x.span (t.span_of e) refl (ap (λ s. s.end) (last_append y.span a (z ∷ b)) ∙ sym (expr_end e b z.span h))
@@ -134,9 +135,9 @@ module _ (x : Token) where
       join_by (first_span (a ++ x ∷ b)) (last_span no_span (a ++ x ∷ b)) (t.span_of l) (t.span_of r) (ap (λ s. s.start) (first_of_append a (x ∷ b) (first_of l a hl)) ∙ sym (ap (λ s. s.start) (span_is l a hl)))
       (ap (λ s. s.end) (last_append no_span a (x ∷ b)) ∙ sym (expr_end r b x.span hr))
 
-pub over_if : (x : t.Arm) (word : Word) (z : Token) (a b d all : List Token) → SpellsArm x word a → all ≡ a ++ b → over (all ++ (d ++ z ∷ [])) ≡ span_from_to (t.arm_span x) z.span
+pub over_if : (x : t.Arm) (word : Word) (z : Token) (a b d all : List Token) → SpellsArm x word a → all ≡ a ++ b → over (all ++ (d ++ z ∷ [])) ≡ span_from_to (arm_span x) z.span
 over_if x word z a b d all h cut =
     let f = first_append (IsWord word) all a b cut (first_arm x word a h) in
     let here = ap (λ s. s.start) (first_of_append all (d ++ z ∷ []) f ∙ ap first_span cut ∙ first_of_append a b (first_arm x word a h)) in
-    join_by (first_span (all ++ (d ++ z ∷ []))) (last_span no_span (all ++ (d ++ z ∷ []))) (t.arm_span x) z.span (here ∙ sym (ap (λ s. s.start) (arm_span_is x word a h)))
+    join_by (first_span (all ++ (d ++ z ∷ []))) (last_span no_span (all ++ (d ++ z ∷ []))) (arm_span x) z.span (here ∙ sym (ap (λ s. s.start) (arm_span_is x word a h)))
     (ap (λ s. s.end) (last_append no_span all (d ++ z ∷ []) ∙ last_append (last_span no_span all) d (z ∷ [])))

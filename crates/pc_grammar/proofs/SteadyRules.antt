@@ -11,7 +11,7 @@ use Rattle.pc_token.specs.declared.words.Word.{Word}
 use Rattle.pc_token.specs.declared.words.Word.TheVariants as w
 use Rattle.pc_token.specs.declared.signs.Sign.{Sign}
 use Rattle.pc_token.specs.declared.signs.Sign.TheVariants as s
-use Rattle.pc_token.specs.Asking.{is_sign, is_word, kind_is_word, same_word}
+use Rattle.pc_token.specs.Words.{is_sign, is_word, kind_is_word, same_word}
 use Rattle.pc_grammar.specs.Spells.{op_of, cap_of, local_word, is_place, span_from_to}
 use Rattle.pc_grammar.specs.Reading.{ReadingOutcome, Parser, Inner, and_then, pure, refuse, ◌>>=◌, ◌>>◌, peek, take_if, deeper, all, name, name_at, type_name, type_name_at, cap_by, maybe_cap, written_type, maybe_type, typed_at, group, arm, if_, while_, recover_, other, other_at, leaf, atom, atom_at, args, arg_list, arg_list_at, suffix, suffix_at, postfix, negation, consume, term, term_at, infix_in, infix_with, infix_by, becomes, assigns, expr_by, expr_in, expr_with, local, item, item_at, seq_in, seq_with, inner, next_item, after, at, is_op, begins_suffix, begins_item, kind_begins}
 use Rattle.pc_grammar.proofs.Follow.{after_op}
@@ -23,6 +23,7 @@ use Rattle.pc_grammar.proofs.ExplainedParts.{word_is, sign_is}
 use Rattle.pc_grammar.proofs.ExplainedAtoms.{at_is}
 use Rattle.pc_grammar.proofs.ExplainedChains.{after_is, open_suffix_is}
 use Rattle.pc_lists.proofs.Bools.{first_true}
+use Rattle.pc_tree.specs.Parts.{exprs_of, arms_of, arm_span, seq_span}
 
 -- ---- the end is no token of any kind
 
@@ -166,7 +167,7 @@ module _ (n : ℕ) (p : Parser t.Seq) (a : Fine p) where
   fine_other = fine_peek (other_at p) (λ y. fine_cond (is_word w.ElseWord y) _ _ (fine_behind (is_word w.ElseWord) p (λ b. t.other b) (fine_word w.ElseWord) a) (fine_pure t.no_other))
       (λ x more others ends plain. ends_cond _ _ x more others (Ok (t.no_other, the_end ∷ others)) (is_word w.ElseWord x) (λ is. enters_behind (is_word w.ElseWord) p (λ b. t.other b) x a is) (λ e q. refl) ends plain)
 
-  arm_inside : (x : Token) → Fine (p >>= λ c. take_if (is_word w.ThenWord) >> p >>= λ b. pure (t.arm_of c b (span_from_to x.span (t.seq_span b))))
+  arm_inside : (x : Token) → Fine (p >>= λ c. take_if (is_word w.ThenWord) >> p >>= λ b. pure (t.arm_of c b (span_from_to x.span (seq_span b))))
   arm_inside x = fine_bind _ _ a (λ c. fine_bind _ _ (fine_bind _ _ (fine_word w.ThenWord) (λ y. a)) (λ b. fine_pure _))
 
   fine_arm : (word : Word) → Fine (arm word p)
@@ -181,7 +182,7 @@ module _ (n : ℕ) (p : Parser t.Seq) (a : Fine p) where
   fine_arms = fine_all (at (is_word w.ElseifWord)) (arm w.ElseifWord p) (at_ahead _) (good_arm n p a.local w.ElseifWord).takes (fine_arm w.ElseifWord) (at_end (is_word w.ElseifWord) (no_end w.ElseifWord))
       (λ x more e. enters_arm w.ElseifWord x (at_is (is_word w.ElseifWord) x more (x ∷ more) e).1)
 
-  if_inside : (x : t.Arm) → Fine (all (at (is_word w.ElseifWord)) (arm w.ElseifWord p) >>= λ more. other p >>= λ o. take_if (is_word w.EndWord) >>= λ close. pure (t.if_ (t.arms_of (x ∷ more)) o (span_from_to (t.arm_span x) close.span)))
+  if_inside : (x : t.Arm) → Fine (all (at (is_word w.ElseifWord)) (arm w.ElseifWord p) >>= λ more. other p >>= λ o. take_if (is_word w.EndWord) >>= λ close. pure (t.if_ (arms_of (x ∷ more)) o (span_from_to (arm_span x) close.span)))
   if_inside x = fine_bind _ _ fine_arms (λ xs. fine_bind _ _ fine_other (λ o. fine_bind _ _ (fine_word w.EndWord) (λ z. fine_pure _)))
 
   fine_if : Fine (if_ n p)
@@ -292,7 +293,7 @@ module _ (e : Parser t.Expr) (a : Fine e) (takes : Takes e) where
   after_stays : (test : Token → Bool) (x : Token) (more : List Token) → after test (x ∷ more) ≡ Some (x ∷ more) → ⊥
   after_stays test x more h = let f = after_is test (x ∷ more) (x ∷ more) h in omega (arith, ap length f.1)
 
-  fine_first_args : Fine (e >>= λ first. all (after (is_sign s.Comma)) e >>= λ more. pure (t.exprs_of (first ∷ more)))
+  fine_first_args : Fine (e >>= λ first. all (after (is_sign s.Comma)) e >>= λ more. pure (exprs_of (first ∷ more)))
   fine_first_args = fine_bind _ _ a (λ first. fine_bind _ _ (fine_all (after (is_sign s.Comma)) e (after_ahead _) takes a after_end (λ x more h. absurd (after_stays (is_sign s.Comma) x more h))) (λ more. fine_pure _))
 
   module _ (f : t.Exprs → Token → t.Suffix) where
@@ -303,7 +304,7 @@ module _ (e : Parser t.Expr) (a : Fine e) (takes : Takes e) where
     fine_close es = fine_bind _ _ (fine_sign s.CloseParen) (λ y. fine_pure _)
 
     abbrev chosen : Bool → Parser t.Suffix
-    chosen b = cond b (pure t.no_exprs) (e >>= λ first. all (after (is_sign s.Comma)) e >>= λ more. pure (t.exprs_of (first ∷ more))) >>= close_args
+    chosen b = cond b (pure t.no_exprs) (e >>= λ first. all (after (is_sign s.Comma)) e >>= λ more. pure (exprs_of (first ∷ more))) >>= close_args
 
     fine_chosen : (b : Bool) → Fine (chosen b)
     fine_chosen true = fine_close t.no_exprs

@@ -12,11 +12,12 @@ use Rattle.pc_token.specs.declared.kinds.TokenKind.TheVariants as k
 use Rattle.pc_token.specs.declared.words.Word.{Word}
 use Rattle.pc_token.specs.declared.words.Word.TheVariants as w
 use Rattle.pc_token.specs.declared.signs.Sign.TheVariants as s
-use Rattle.pc_token.specs.Asking.{is_sign, is_word}
+use Rattle.pc_token.specs.Words.{is_sign, is_word}
 use Rattle.pc_grammar.specs.Spells.{op_of, cap_of, local_word, truth_word, span_from_to, is_place, IsName, IsTypeName, SpellsCap, SpellsType, SpellsTyped}
 use Rattle.pc_grammar.specs.Reading.{ReadingOutcome, Parser, Inner, and_then, pure, ◌>>=◌, peek, take_if, many, all, next_item, after, at, is_op, begins_suffix, name, type_name, cap_by, maybe_cap, written_type, maybe_type, group, arm, if_, while_, recover_, leaf, negation, consume, becomes, args, arg_list, other, suffix, atom, atom_at, term, local, item, seq_with, seq_of, infix_in, infix_with, infix_of, expr_in, expr_with, postfix, chain_of}
 use Rattle.pc_grammar.proofs.Levels.{one_deeper}
 use Rattle.pc_grammar.proofs.Follow.{Leads, kind_of_word, consume_not_not, var_not_let}
+use Rattle.pc_tree.specs.Parts.{exprs_of, arms_of, arm_span, seq_span}
 
 -- ---- names, capabilities and types
 
@@ -81,7 +82,7 @@ module _ (n : ℕ) (p : Parser t.Seq) where
   group_read x y inside rest b some opens read closes = rw (one_deeper, opens, read, closes)
 
   pub if_read : (ts second third rest : List Token) (z : Token) (a : t.Arm) (xs : List t.Arm) (o : t.Other) → 0 < n → arm w.IfWord p ts ≡ Ok (a, second) → all (at (is_word w.ElseifWord)) (arm w.ElseifWord p) second ≡ Ok (xs, third)
-      → other p third ≡ Ok (o, z ∷ rest) → is_word w.EndWord z ≡ true → if_ n p ts ≡ Ok (t.if_ (t.arms_of (a ∷ xs)) o (span_from_to (t.arm_span a) z.span), rest)
+      → other p third ≡ Ok (o, z ∷ rest) → is_word w.EndWord z ≡ true → if_ n p ts ≡ Ok (t.if_ (arms_of (a ∷ xs)) o (span_from_to (arm_span a) z.span), rest)
   unfolding if_ take_if
   if_read ts second third rest z a xs o some one two three ends = rw (one_deeper, one, two, three, ends)
 
@@ -97,7 +98,7 @@ module _ (n : ℕ) (p : Parser t.Seq) where
 
 module _ (p : Parser t.Seq) where
   pub arm_read : (word : Word) (x y : Token) (first second rest : List Token) (c b : t.Seq) → is_word word x ≡ true → p first ≡ Ok (c, y ∷ second) → is_word w.ThenWord y ≡ true → p second ≡ Ok (b, rest)
-      → arm word p (x ∷ first) ≡ Ok (t.arm_of c b (span_from_to x.span (t.seq_span b)), rest)
+      → arm word p (x ∷ first) ≡ Ok (t.arm_of c b (span_from_to x.span (seq_span b)), rest)
   unfolding arm take_if
   arm_read word x y first second rest c b opens one then two = rw (opens, one, then, two)
 
@@ -177,7 +178,7 @@ module _ (n : ℕ) (i : Inner) where
 -- ---- lists and items
 
 pub args_list_read : (p : Parser t.Expr) (x : Token) (ts rest end : List Token) (e : t.Expr) (es : List t.Expr) → is_sign s.CloseParen x ≡ false → p (x ∷ ts) ≡ Ok (e, rest) → all (after (is_sign s.Comma)) p rest ≡ Ok (es, end)
-    → arg_list p (x ∷ ts) ≡ Ok (t.exprs_of (e ∷ es), end)
+    → arg_list p (x ∷ ts) ≡ Ok (exprs_of (e ∷ es), end)
 unfolding arg_list peek
 args_list_read p x ts rest end e es other one more = rw (other, one, more)
 

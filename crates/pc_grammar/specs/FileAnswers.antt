@@ -1,9 +1,9 @@
 -- The answers for a whole list of tokens: the file that they spell, or the first token with which no file begins any
 -- more, or the first that opens a level too many.
-use Rattle.std.specs.Prelude.{◌≡◌, ℕ, ◌≤◌, List, [], ◌∷◌, ◌++◌, ◌-◌}
+use Rattle.std.specs.Prelude.{◌≡◌, ℕ, ◌≤◌, List, [], ◌∷◌, ◌++◌}
 use Rattle.pc_token.specs.declared.kinds.Token.{Token}
 use Rattle.pc_tree.specs.Depths.{file_depth}
-use Rattle.pc_grammar.specs.SpellsFile.{IsSpelled, SpellsFile, level_limit}
+use Rattle.pc_grammar.specs.Spells.{IsSpelled, SpellsFile, level_limit}
 use Rattle.pc_tree.specs.Tree as t
 
 -- ---- how far a list of tokens begins something
@@ -31,10 +31,6 @@ pub data FileAnswer : Type 0 where
   spelled : t.File → FileAnswer
   unexpected : List Token → FileAnswer
   too_deep : List Token → FileAnswer
-
--- How many levels are left inside these.
-abbrev pub inner_levels : ℕ
-inner_levels = level_limit - 1
 
 -- The tokens up to `rest` begin a file within the levels, and with the next token no file begins, of any depth.
 abbrev pub IsUnexpected : List Token → List Token → Type 0

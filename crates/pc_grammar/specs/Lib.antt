@@ -2,6 +2,6 @@ pub mod Spells
 pub mod Reading
 pub mod FileAnswers
 pub mod Laws
-pub mod SpellsFile
 pub mod ReadingFile
 pub mod Parsing
+pub mod Parts

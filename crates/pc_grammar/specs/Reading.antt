@@ -1,9 +1,9 @@
 -- How the grammar is read from the left, with one token of lookahead.
 use Rattle.std.specs.Prelude.{ℕ, zero, suc, Bool, true, false, not, ◌&&◌, ◌||◌, List, [], ◌∷◌, length, Option, Some, None, Result, Ok, Err, if◌then◌else◌}
 use Rattle.pc_caps.specs.{declared.span.Span.Span, declared.capability.Cap.Cap}
-use Rattle.pc_tree.specs.{declared.written_names.Name.Name, declared.written_names.TypeRef.TypeRef, declared.kinds.Op.Op}
-use Rattle.pc_token.specs.{declared.kinds.Token.Token, declared.kinds.TokenKind.TokenKind, declared.words.Word.Word, Asking.is_sign, Asking.is_word}
-use Rattle.pc_grammar.specs.Spells.{op_of, cap_of, same_op, local_word, no_span, span_from_to, is_place}
+use Rattle.pc_tree.specs.{declared.written_names.Name.Name, declared.written_names.TypeRef.TypeRef, declared.kinds.Op.Op, Parts.exprs_of, Parts.suffixes_of, Parts.arms_of, Parts.items_of, Parts.suffix_span, Parts.arm_span, Parts.seq_span, Parts.item_span}
+use Rattle.pc_token.specs.{declared.kinds.Token.Token, declared.kinds.TokenKind.TokenKind, declared.words.Word.Word, Words.is_sign, Words.is_word}
+use Rattle.pc_grammar.specs.{Spells.op_of, Spells.cap_of, Spells.local_word, Spells.no_span, Spells.span_from_to, Spells.is_place, Parts.same_op}
 use Rattle.pc_tree.specs.Tree as t
 use Rattle.pc_token.specs.declared.kinds.TokenKind.TheVariants as k
 use Rattle.pc_token.specs.declared.words.Word.TheVariants as w
@@ -176,11 +176,11 @@ pub record Inner : Type 0 where
 
 abbrev pub first_item : List t.Item → Span
 first_item [] = no_span
-first_item (i ∷ is) = t.item_span i
+first_item (i ∷ is) = item_span i
 
 abbrev pub last_item : Span → List t.Item → Span
 last_item s [] = s
-last_item s (i ∷ is) = last_item (t.item_span i) is
+last_item s (i ∷ is) = last_item (item_span i) is
 
 abbrev pub first_expr : List t.Expr → Span
 first_expr [] = no_span
@@ -192,10 +192,10 @@ last_expr s (e ∷ es) = last_expr (t.span_of e) es
 
 abbrev pub last_suffix : Span → List t.Suffix → Span
 last_suffix s [] = s
-last_suffix s (e ∷ es) = last_suffix (t.suffix_span e) es
+last_suffix s (e ∷ es) = last_suffix (suffix_span e) es
 
 unfoldable pub seq_of : List t.Item → t.Seq
-seq_of is = t.seq (t.items_of is) (span_from_to (first_item is) (last_item no_span is))
+seq_of is = t.seq (items_of is) (span_from_to (first_item is) (last_item no_span is))
 
 -- Item {Next Item}
 unfoldable pub seq_with : Parser t.Item → Parser t.Seq
@@ -212,7 +212,7 @@ unfoldable pub item : Parser t.Expr → Parser t.Item
 item e = peek >>= item_at e
 
 abbrev pub arg_list_at : Parser t.Expr → Token → Parser t.Exprs
-arg_list_at e x = if is_sign s.CloseParen x then pure t.no_exprs else (e >>= λ first. all (after (is_sign s.Comma)) e >>= λ more. pure (t.exprs_of (first ∷ more)))
+arg_list_at e x = if is_sign s.CloseParen x then pure t.no_exprs else (e >>= λ first. all (after (is_sign s.Comma)) e >>= λ more. pure (exprs_of (first ∷ more)))
 
 -- [Expr {"," Expr}], before a ")"
 unfoldable pub arg_list : Parser t.Expr → Parser t.Exprs
@@ -233,7 +233,7 @@ group n body = deeper n (take_if (is_sign s.OpenParen) >>= λ opener. body >>= �
 
 -- "if" Seq "then" Seq, or the same with another keyword
 unfoldable pub arm : Word → Parser t.Seq → Parser t.Arm
-arm word body = take_if (is_word word) >>= λ opener. body >>= λ c. take_if (is_word w.ThenWord) >> body >>= λ b. pure (t.arm_of c b (span_from_to opener.span (t.seq_span b)))
+arm word body = take_if (is_word word) >>= λ opener. body >>= λ c. take_if (is_word w.ThenWord) >> body >>= λ b. pure (t.arm_of c b (span_from_to opener.span (seq_span b)))
 
 abbrev pub other_at : Parser t.Seq → Token → Parser t.Other
 other_at body x = if is_word w.ElseWord x then (take_if (is_word w.ElseWord) >> body >>= λ b. pure (t.other b)) else pure t.no_other
@@ -245,7 +245,7 @@ other body = peek >>= other_at body
 unfoldable pub if_ : ℕ → Parser t.Seq → Parser t.Expr
 if_ n body = deeper n (
     arm w.IfWord body >>= λ a. all (at (is_word w.ElseifWord)) (arm w.ElseifWord body) >>= λ more. other body >>= λ o.
-    take_if (is_word w.EndWord) >>= λ close. pure (t.if_ (t.arms_of (a ∷ more)) o (span_from_to (t.arm_span a) close.span)))
+    take_if (is_word w.EndWord) >>= λ close. pure (t.if_ (arms_of (a ∷ more)) o (span_from_to (arm_span a) close.span)))
 
 unfoldable pub while_ : ℕ → Parser t.Seq → Parser t.Expr
 while_ n body = deeper n (
@@ -280,7 +280,7 @@ atom n body = peek >>= λ x. atom_at n body x.kind
 
 abbrev pub chain_at : t.Expr → List t.Suffix → Span → t.Expr
 chain_at e [] sp = e
-chain_at e (s ∷ ss) sp = t.chain e (t.suffixes_of (s ∷ ss)) sp
+chain_at e (s ∷ ss) sp = t.chain e (suffixes_of (s ∷ ss)) sp
 
 unfoldable pub chain_of : t.Expr → List t.Suffix → t.Expr
 chain_of e ss = chain_at e ss (span_from_to (t.span_of e) (last_suffix (t.span_of e) ss))
@@ -303,7 +303,7 @@ unfoldable pub term : ℕ → Inner → Parser t.Expr
 term n i = peek >>= term_at n i
 
 unfoldable pub infix_of : Op → List t.Expr → t.Expr
-infix_of o es = t.infix_ o (t.exprs_of es) (span_from_to (first_expr es) (last_expr no_span es))
+infix_of o es = t.infix_ o (exprs_of es) (span_from_to (first_expr es) (last_expr no_span es))
 
 abbrev pub infix_by : Parser t.Expr → t.Expr → Option Op → Parser t.Expr
 infix_by term e None = pure e

@@ -1,5 +1,15 @@
--- Which tokens spell which tree: by cases on the tree, one for each alternative of the grammar.
+-- Which tokens spell which tree and which file: by cases on the tree, one for each alternative of the grammar.
 --
+--   File    = [doc] Entity {Entity} End
+--   Entity  = ("class" [Cap] | "trait" [Cap] | "interface" [Cap] | "actor" | "primitive") TypeName
+--             ["is" (TypeName | "(" TypeName {"&" TypeName} ")")] [doc] {Field} {Method}
+--   Field   = ("var" | "let") Name ":" Type ["=" Infix] [doc]
+--   Method  = "fun" [Cap] Name Params [":" Result] [doc] [Body]
+--           | "be" Name Params [doc] [Body]
+--           | "new" [Cap] Name Params [doc] [Body]
+--   Body    = "=>" [doc] Seq
+--   Params  = "(" [Name ":" Type {"," Name ":" Type}] ")"
+--   Result  = TypeName [Cap] ["^"]
 --   Seq     = Item {Next Item}
 --   Item    = ("var" | "let") Name [":" Type] "=" Expr | Expr
 --   Type    = TypeName [Cap]
@@ -10,22 +20,23 @@
 --   Atom    = Name | TypeName | "this" | number | text | "true" | "false" | "(" Seq ")"
 --           | "if" Seq "then" Seq {"elseif" Seq "then" Seq} ["else" Seq] "end"
 --           | "while" Seq "do" Seq "end" | "recover" [Cap] Seq "end"
-use denote.Enum.Bare.{sameb}
-use Rattle.std.specs.Prelude.{Bool, true, false, Option, Some, None, if◌then◌else◌, ◌≡◌, List, [], ◌∷◌, ◌++◌}
+--
+-- Classes and actors have fields and `new`, actors, traits and interfaces have `be`, and only in classes may a
+-- capability follow `new`. In a trait or an interface a body is optional, elsewhere every method has one. This is the
+-- table of the kinds of entities in `pc_tree`.
+use Rattle.std.specs.Prelude.{Bool, true, false, Option, Some, None, if◌then◌else◌, ◌≡◌, List, [], ◌∷◌, ◌++◌, ℕ, nat_le, ◌≤◌, ◌⊎◌}
 use Rattle.pc_caps.specs.{declared.capability.Cap.Cap, declared.span.Span.Span}
-use Rattle.pc_tree.specs.{declared.kinds.Op.Op, contracts.kinds.Op.the_type as op_type, declared.written_names.Name.Name, declared.written_names.TypeRef.TypeRef}
-use Rattle.pc_token.specs.{declared.kinds.Token.Token, declared.kinds.TokenKind.TokenKind, declared.words.Word.Word, Asking.is_sign, Asking.is_word}
+use Rattle.pc_tree.specs.{declared.kinds.Op.Op, declared.written_names.Name.Name, declared.written_names.TypeRef.TypeRef, Depths.file_depth, declared.file.ParamDef.ParamDef, declared.kinds.EntityKind.EntityKind, declared.kinds.MethodWord.MethodWord, Kinds.may_have_cap, Kinds.may_stand, Kinds.may_have_method_cap, Kinds.CapIf, Kinds.at_kind, Kinds.FieldsIf, Kinds.BodyUnless, Kinds.may_have_fields, Kinds.is_abstract}
+use Rattle.pc_token.specs.{declared.kinds.Token.Token, declared.kinds.TokenKind.TokenKind, declared.words.Word.Word, Words.is_sign, Words.is_word}
 use Rattle.pc_caps.specs.declared.capability.Cap.TheVariants as c
 use Rattle.pc_tree.specs.declared.kinds.Op.TheVariants as o
 use Rattle.pc_token.specs.declared.kinds.TokenKind.TheVariants as k
 use Rattle.pc_token.specs.declared.words.Word.TheVariants as w
 use Rattle.pc_token.specs.declared.signs.Sign.TheVariants as s
 use Rattle.pc_tree.specs.Tree as t
+use Rattle.pc_tree.specs.declared.kinds.MethodWord.TheVariants as method
 
 -- ---- what a token means to the grammar
-
-unfoldable pub same_op : Op → Op → Bool
-same_op = sameb op_type
 
 abbrev pub kind_op : Bool → TokenKind → Option Op
 kind_op first (k.Sign s.Plus) = Some o.Add
@@ -117,56 +128,33 @@ SpellsTyped (Some r) ts = (x : Token) × (a : List Token) × (ts ≡ x ∷ a) ×
 
 -- ---- the kinds of expressions
 
+-- How far an expression is from an atom in the grammar: 0 for an atom, 1 for another term, 2 for terms with operators, 3
+-- for an assignment.
+abbrev pub rank : t.Expr → ℕ
+rank (t.number n sp) = 0
+rank (t.truth b sp) = 0
+rank (t.text b sp) = 0
+rank (t.name m) = 0
+rank (t.type_name m) = 0
+rank (t.this sp) = 0
+rank (t.consume m sp) = 1
+rank (t.not_ e sp) = 1
+rank (t.infix_ o es sp) = 2
+rank (t.chain e ss sp) = 1
+rank (t.group b sp) = 0
+rank (t.if_ a o sp) = 0
+rank (t.while_ c b sp) = 0
+rank (t.recover c b sp) = 0
+rank (t.assign l r sp) = 3
+
 abbrev pub is_atom : t.Expr → Bool
-is_atom (t.number n sp) = true
-is_atom (t.truth b sp) = true
-is_atom (t.text b sp) = true
-is_atom (t.name m) = true
-is_atom (t.type_name m) = true
-is_atom (t.this sp) = true
-is_atom (t.consume m sp) = false
-is_atom (t.not_ e sp) = false
-is_atom (t.infix_ o es sp) = false
-is_atom (t.chain e ss sp) = false
-is_atom (t.group b sp) = true
-is_atom (t.if_ a o sp) = true
-is_atom (t.while_ c b sp) = true
-is_atom (t.recover c b sp) = true
-is_atom (t.assign l r sp) = false
+is_atom e = nat_le (rank e) 0
 
 abbrev pub is_term : t.Expr → Bool
-is_term (t.number n sp) = true
-is_term (t.truth b sp) = true
-is_term (t.text b sp) = true
-is_term (t.name m) = true
-is_term (t.type_name m) = true
-is_term (t.this sp) = true
-is_term (t.consume m sp) = true
-is_term (t.not_ e sp) = true
-is_term (t.infix_ o es sp) = false
-is_term (t.chain e ss sp) = true
-is_term (t.group b sp) = true
-is_term (t.if_ a o sp) = true
-is_term (t.while_ c b sp) = true
-is_term (t.recover c b sp) = true
-is_term (t.assign l r sp) = false
+is_term e = nat_le (rank e) 1
 
 abbrev pub is_infix : t.Expr → Bool
-is_infix (t.number n sp) = true
-is_infix (t.truth b sp) = true
-is_infix (t.text b sp) = true
-is_infix (t.name m) = true
-is_infix (t.type_name m) = true
-is_infix (t.this sp) = true
-is_infix (t.consume m sp) = true
-is_infix (t.not_ e sp) = true
-is_infix (t.infix_ o es sp) = true
-is_infix (t.chain e ss sp) = true
-is_infix (t.group b sp) = true
-is_infix (t.if_ a o sp) = true
-is_infix (t.while_ c b sp) = true
-is_infix (t.recover c b sp) = true
-is_infix (t.assign l r sp) = false
+is_infix e = nat_le (rank e) 2
 
 abbrev pub is_dot : t.Suffix → Bool
 is_dot (t.dot m) = true
@@ -300,3 +288,133 @@ abbrev mutual
 -- an `Infix`, which has no `=`
 abbrev pub SpellsInfix : t.Expr → List Token → Type 0
 SpellsInfix e ts = (is_infix e ≡ true) × Spells e ts
+
+-- ---- the file: its parts, its limit and the parts of its entities
+
+-- How many nested levels may be opened. A body and a field's value are at level 1.
+abbrev pub level_limit : ℕ
+level_limit = 200
+
+-- [doc], which is not kept in the tree
+abbrev pub IsDoc : List Token → Type 0
+IsDoc [] = Unit {0}
+IsDoc (x ∷ []) = x.kind ≡ k.Doc
+IsDoc (x ∷ y ∷ ts) = ⊥
+
+-- These, one after the other.
+abbrev pub SpellsEach : {A : Type 0} → (A → List Token → Type 0) → List A → List Token → Type 0
+SpellsEach spells [] ts = ts ≡ []
+SpellsEach spells (x ∷ xs) ts = (a b : List Token) × (ts ≡ a ++ b) × spells x a × SpellsEach spells xs b
+
+-- ---- types and parameters
+
+-- ["^"]
+abbrev pub SpellsHat : Bool → List Token → Type 0
+SpellsHat false ts = ts ≡ []
+SpellsHat true ts = (x : Token) × (ts ≡ x ∷ []) × (is_sign s.Caret x ≡ true)
+
+-- TypeName [Cap] ["^"]
+abbrev pub SpellsResult : TypeRef → List Token → Type 0
+SpellsResult r ts = (x : Token) × (a b : List Token) × (ts ≡ x ∷ (a ++ b)) × IsTypeName x r.name × SpellsCap r.cap a × SpellsHat r.hat b
+
+-- [":" Result]
+abbrev pub SpellsReturns : Option TypeRef → List Token → Type 0
+SpellsReturns None ts = ts ≡ []
+SpellsReturns (Some r) ts = (x : Token) × (a : List Token) × (ts ≡ x ∷ a) × (is_sign s.Colon x ≡ true) × SpellsResult r a
+
+-- Name ":" Type
+abbrev pub SpellsParam : ParamDef → List Token → Type 0
+SpellsParam p ts = (x y : Token) × (a : List Token) × (ts ≡ x ∷ y ∷ a) × IsName x p.name × (is_sign s.Colon y ≡ true) × SpellsType p.ty a
+
+-- {"," Name ":" Type}
+abbrev pub SpellsMoreParams : List ParamDef → List Token → Type 0
+SpellsMoreParams [] ts = ts ≡ []
+SpellsMoreParams (p ∷ ps) ts = (x : Token) × (a b : List Token) × (ts ≡ x ∷ (a ++ b)) × (is_sign s.Comma x ≡ true) × SpellsParam p a × SpellsMoreParams ps b
+
+-- [Name ":" Type {"," Name ":" Type}]
+abbrev pub SpellsParamList : List ParamDef → List Token → Type 0
+SpellsParamList [] ts = ts ≡ []
+SpellsParamList (p ∷ ps) ts = (a b : List Token) × (ts ≡ a ++ b) × SpellsParam p a × SpellsMoreParams ps b
+
+abbrev pub SpellsParams : List ParamDef → List Token → Type 0
+SpellsParams ps ts = (x y : Token) × (a : List Token) × (ts ≡ x ∷ (a ++ y ∷ [])) × (is_sign s.OpenParen x ≡ true) × SpellsParamList ps a × (is_sign s.CloseParen y ≡ true)
+
+-- ---- fields and methods
+
+-- ["=" Infix]
+abbrev pub SpellsValue : Option t.Expr → List Token → Type 0
+SpellsValue None ts = ts ≡ []
+SpellsValue (Some e) ts = (x : Token) × (a : List Token) × (ts ≡ x ∷ a) × (is_sign s.Assign x ≡ true) × SpellsInfix e a
+
+abbrev pub SpellsField : t.Field → List Token → Type 0
+SpellsField f ts =
+    (x y z : Token) × (a b d : List Token) × (ts ≡ x ∷ y ∷ z ∷ (a ++ (b ++ d))) × (is_word (local_word f.fixed) x ≡ true) × IsName y f.name
+    × (is_sign s.Colon z ≡ true) × SpellsType f.ty a × SpellsValue f.value b × IsDoc d
+
+-- ["=>" [doc] Seq]
+abbrev pub SpellsBody : Option t.Seq → List Token → Type 0
+SpellsBody None ts = ts ≡ []
+SpellsBody (Some b) ts = (x : Token) × (d a : List Token) × (ts ≡ x ∷ (d ++ a)) × (is_sign s.Arrow x ≡ true) × IsDoc d × SpellsSeq b a
+
+abbrev pub method_word : MethodWord → Word
+method_word method.Fun = w.FunWord
+method_word method.Be = w.BeWord
+method_word method.New = w.NewWord
+
+-- only a function has a written result
+abbrev pub MayReturn : MethodWord → Option TypeRef → Type 0
+MayReturn method.Fun r = Unit {0}
+MayReturn m r = r ≡ None
+
+abbrev pub SpellsMethod : EntityKind → t.Method → List Token → Type 0
+SpellsMethod e m ts =
+    (x y : Token) × (a p r d b : List Token) × (ts ≡ x ∷ (a ++ y ∷ (p ++ (r ++ (d ++ b))))) × (is_word (method_word m.word) x ≡ true) × SpellsCap m.cap a × IsName y m.name
+    × SpellsParams m.params p × SpellsReturns m.result r × IsDoc d × SpellsBody m.body b
+    × (may_stand e m.word ≡ true) × CapIf (may_have_method_cap e m.word) m.cap × MayReturn m.word m.result × BodyUnless (is_abstract e) m.body
+
+-- ---- entities and files
+
+abbrev pub entity_word : EntityKind → Word
+entity_word = at_kind w.ClassWord w.ActorWord w.PrimitiveWord w.TraitWord w.InterfaceWord
+
+-- {"&" TypeName}
+abbrev pub SpellsMoreNames : List Name → List Token → Type 0
+SpellsMoreNames [] ts = ts ≡ []
+SpellsMoreNames (m ∷ ms) ts = (x y : Token) × (a : List Token) × (ts ≡ x ∷ y ∷ a) × (is_sign s.Ampersand x ≡ true) × IsTypeName y m × SpellsMoreNames ms a
+
+-- TypeName {"&" TypeName}
+abbrev pub SpellsNames : List Name → List Token → Type 0
+SpellsNames [] ts = ⊥
+SpellsNames (m ∷ ms) ts = (x : Token) × (a : List Token) × (ts ≡ x ∷ a) × IsTypeName x m × SpellsMoreNames ms a
+
+-- "(" TypeName {"&" TypeName} ")"
+abbrev pub SpellsBracketed : List Name → List Token → Type 0
+SpellsBracketed ms ts = (x y : Token) × (a : List Token) × (ts ≡ x ∷ (a ++ y ∷ [])) × (is_sign s.OpenParen x ≡ true) × SpellsNames ms a × (is_sign s.CloseParen y ≡ true)
+
+-- a type name alone
+abbrev pub SpellsAlone : List Name → List Token → Type 0
+SpellsAlone (m ∷ []) ts = (x : Token) × (ts ≡ x ∷ []) × IsTypeName x m
+SpellsAlone ms ts = ⊥
+
+-- ["is" (TypeName | "(" TypeName {"&" TypeName} ")")]
+abbrev pub SpellsProvides : List Name → List Token → Type 0
+SpellsProvides [] ts = ts ≡ []
+SpellsProvides (m ∷ ms) ts = (x : Token) × (a : List Token) × (ts ≡ x ∷ a) × (is_word w.IsWord x ≡ true) × (SpellsAlone (m ∷ ms) a ⊎ SpellsBracketed (m ∷ ms) a)
+
+abbrev pub SpellsEntity : t.Entity → List Token → Type 0
+SpellsEntity e ts =
+    (x y : Token) × (a p d f b : List Token) × (ts ≡ x ∷ (a ++ y ∷ (p ++ (d ++ (f ++ b))))) × (is_word (entity_word e.kind) x ≡ true) × SpellsCap e.cap a × IsTypeName y e.name
+    × SpellsProvides e.provides p × IsDoc d × SpellsEach SpellsField e.fields f × SpellsEach (SpellsMethod e.kind) e.methods b × CapIf (may_have_cap e.kind) e.cap × FieldsIf (may_have_fields e.kind) e.fields
+
+-- Entity {Entity}
+abbrev pub SpellsEntities : List t.Entity → List Token → Type 0
+SpellsEntities [] ts = ⊥
+SpellsEntities (e ∷ es) ts = (a b : List Token) × (ts ≡ a ++ b) × SpellsEntity e a × SpellsEach SpellsEntity es b
+
+-- the whole list, with its `End`
+abbrev pub SpellsFile : t.File → List Token → Type 0
+SpellsFile f ts = (d a : List Token) × (x : Token) × (ts ≡ d ++ (a ++ x ∷ [])) × IsDoc d × SpellsEntities f.entities a × (x.kind ≡ k.End)
+
+-- These tokens spell the file, which opens no more levels than the limit.
+abbrev pub IsSpelled : t.File → List Token → Type 0
+IsSpelled f ts = SpellsFile f ts × (file_depth f ≤ level_limit)

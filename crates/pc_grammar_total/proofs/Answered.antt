@@ -3,8 +3,7 @@ use Rattle.std.proofs.Common.{◌≡◌, ℕ, suc, true, List, [], ◌∷◌, �
 use Rattle.pc_tree.specs.Tree as t
 use Rattle.pc_tree.specs.Depths.{depth, seq_depth, file_depth}
 use Rattle.pc_token.specs.declared.kinds.Token.{Token}
-use Rattle.pc_grammar.specs.Spells.{Spells, SpellsInfix, SpellsSeq}
-use Rattle.pc_grammar.specs.SpellsFile.{SpellsFile, level_limit}
+use Rattle.pc_grammar.specs.Spells.{Spells, SpellsInfix, SpellsSeq, SpellsFile, level_limit}
 use Rattle.pc_grammar.specs.FileAnswers.{IsTooDeep, FileAnswer, IsFileAnswer}
 use Rattle.pc_grammar.specs.Parsing.{ParseAnswer, read, refused, deep, IsAnswer, IsOneAnswer}
 use Rattle.pc_grammar.specs.FileAnswers as answer

@@ -10,9 +10,8 @@ use Rattle.pc_token.specs.declared.kinds.TokenKind.{TokenKind}
 use Rattle.pc_token.specs.declared.kinds.TokenKind.TheVariants as k
 use Rattle.pc_token.specs.declared.words.Word.TheVariants as w
 use Rattle.pc_token.specs.declared.signs.Sign.TheVariants as s
-use Rattle.pc_token.specs.Asking.{is_sign, is_word}
-use Rattle.pc_grammar.specs.Spells.{local_word}
-use Rattle.pc_grammar.specs.SpellsFile.{method_word, entity_word}
+use Rattle.pc_token.specs.Words.{is_sign, is_word}
+use Rattle.pc_grammar.specs.Spells.{local_word, method_word, entity_word}
 use Rattle.pc_grammar.specs.Reading.{unexpected, too_deep, ReadingOutcome, Parser, and_then, pure, ◌>>=◌, ◌>>◌, take_if, type_name, inner}
 use Rattle.pc_grammar.specs.ReadingFile.{kind_is_doc, is_doc, is_end, maybe_doc, maybe_hat, result_type, returns, param, param_list, params, value, field, begins_field, some_field, fields, written_body, maybe_body, body, cap_if, method_result, method_of, word_in, begins_method, some_method, type_names, provided, provides, entity_of, entity, begins_entity, file}
 use Rattle.pc_expr.proofs.Ends.{is_sign_not_end}

@@ -8,10 +8,10 @@ use Rattle.std.proofs.lemmas.Bool.{eq-eqb, eqb-true}
 use Rattle.std.proofs.lemmas.Option.{none-some, same_Some, slice_get_within, slice_get_past}
 use Rattle.std.proofs.lemmas.Map.Views.{tells_apart}
 use Rattle.pc_heap.specs.declared.value.Address.{Address}
-use Rattle.pc_heap.specs.Objects.{Object, address_cmp, ObjectMap, made_by, new_object, with_field, with_value, object_in}
+use Rattle.pc_heap.specs.Objects.{Object, address_cmp, ObjectMap, made_by, new_object, with_field, with_value}
+use Rattle.pc_heap.specs.Parts.{object_in, field_in}
 use Rattle.pc_heap.specs.declared.value.Value.{Value}
 use Rattle.pc_heap.specs.declared.entry.Entry.{Entry}
-use Rattle.pc_heap.specs.Fields.{field_in}
 use Rattle.pc_heap.specs.Heaps.{Room, object_limit}
 use Rattle.pc_heap.proofs.Maps.{addresses_total, exact_addresses, get_at}
 use Rattle.pc_heap.proofs.Counts.{made_more, made_same, len_more, len_same, made_few}

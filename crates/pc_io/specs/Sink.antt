@@ -2,13 +2,9 @@
 use Rattle.std.specs.Prelude.{ℕ, ◌+◌, ◌-◌, ◌^◌, min, List, ◌≤◌, take}
 use Rattle.std.specs.{declared.option.Option.Option, Io.KnownBytes.Appends}
 
--- ---- counters of 64 bits
-
 -- the next value of a counter, which stays at its last value
 abbrev pub one_more : ℕ → ℕ
 one_more count = min (count + 1) (2 ^ 64 - 1)
-
--- ---- what happened to a sink
 
 -- What a sink reported as written and how often it had failed, before and after a call.
 pub record Change : Type 0 where
@@ -20,8 +16,6 @@ pub record Change : Type 0 where
 abbrev pub change : Option (List ℕ) → Option (List ℕ) → (faults_before faults_now : ℕ) → Change
 change before now faults_before faults_now =
     record { before = before; now = now; faults_before = faults_before; faults_now = faults_now }
-
--- ---- what a sink does with a piece of text
 
 -- A counter rose, or is at its last value.
 abbrev pub HasRisen : (before now : ℕ) → Type 0

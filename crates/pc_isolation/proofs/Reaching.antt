@@ -5,7 +5,8 @@ use Rattle.std.proofs.Common.{inl, inr, ap, sym, ◌∙◌}
 use Rattle.std.proofs.lemmas.Option.{none-some}
 use Rattle.pc_lists.proofs.Options.{bind_some, bind_is}
 use Rattle.pc_heap.specs.Objects.{class_at}
-use Rattle.pc_heap.specs.Fields.{value_in, value_at}
+use Rattle.pc_heap.specs.Parts.{value_in}
+use Rattle.pc_heap.specs.Fields.{value_at}
 use Rattle.pc_heap.specs.declared.value.Address.{Address}
 use Rattle.pc_heap.specs.declared.value.Value.TheVariants.{At}
 use Rattle.pc_caps.specs.declared.capability.Cap.{Cap}

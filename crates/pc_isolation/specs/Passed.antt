@@ -8,8 +8,6 @@ use Rattle.pc_events.specs.Before.{takes_from}
 use Rattle.pc_isolation.specs.Isolated.{waiting_at, Waits, Inside, SeenFrom}
 use Rattle.pc_semantics.specs.declared.ahead.Ahead.TheVariants as ahead
 
--- ---- while it waits
-
 -- The message that was the k-th for actor j at c is the l-th at d, and is unchanged: the same objects are inside each
 -- of its arguments and seen from it, and the contents of each of their fields are the same.
 pub record Whole (core : CoreData) (c d : Configuration) (j k l : ℕ) (message : Message) : Type 0 where
@@ -22,8 +20,6 @@ pub record Whole (core : CoreData) (c d : Configuration) (j k l : ℕ) (message 
 abbrev pub StaysWhole : CoreData → Configuration → Type 0
 StaysWhole core c =
     (more : List ℕ) (j k l : ℕ) (message : Message) → waiting_at c j k ≡ Some message → k ≡ l + takes_from core c j more → Whole core c (run_from core c more) j k l message
-
--- ---- when it is taken
 
 -- At d actor j has one frame, which holds the object at a in the slot of parameter n, and the objects are those of c:
 -- so the same fields lead to the same objects.

@@ -14,7 +14,7 @@ use Rattle.pc_rules.specs.Parts.{full}
 use Rattle.pc_valid.specs.Valid.{MeetsRule, SetsFields}
 use Rattle.pc_rules.proofs.RecordWords.{constructs_iff, all_set_iff}
 use Rattle.pc_judge.specs.declared.faults.JudgeFault.TheVariants as fault
-use Rattle.pc_judge.specs.Faults as spec
+use Rattle.pc_judge.specs.AtNodes as spec
 use Rattle.pc_judge.specs.Computed as computed
 use Rattle.pc_judge.proofs.Bodies.{body_method}
 use Rattle.pc_lists.proofs.Bools.{no_both}

@@ -2,22 +2,23 @@
 use Rattle.std.specs.Prelude.{◌≡◌, ◌⊎◌, ◌↔◌, ℕ, ◌+◌, ◌<◌, ◌≤◌, true, false, List, length, Result, Ok, Err, IsOk, MatchResult, Some, refl}
 use Rattle.std.proofs.Common.{inl, inr, ap, sym, subst, ◌∙◌, arith}
 use Rattle.std.proofs.lemmas.Bool.{cases_lt}
-use Rattle.std.proofs.lemmas.Option.{same_Some}
 use Rattle.pc_core.specs.declared.nodes.Node.{Node}
 use Rattle.pc_core.specs.CoreData.{CoreData}
 use Rattle.pc_core.specs.Formed.{Formed}
 use Rattle.pc_ann.specs.declared.annotation.Ann.{Ann}
-use Rattle.pc_sub.specs.Faults.{faulted}
+use Rattle.pc_sub.proofs.FirstFaults.{faulted, one_fault}
+use Rattle.pc_sub.proofs.Firsts.{first_once}
 use Rattle.pc_valid.specs.Valid.{MeetsRule, Valid, KeepsWritten}
 use Rattle.pc_judge.specs.declared.faults.JudgeFault.{JudgeFault}
 use Rattle.pc_judge.specs.declared.faults.JudgeFault.TheVariants as fault
 use Rattle.pc_judge.specs.Faults as spec
+use Rattle.pc_judge.specs.AtNodes as atnodes
 use Rattle.pc_judge.specs.Laws as law
 use Rattle.pc_judge.proofs.Bodies.{body_within, one_body}
 
 -- ---- from node to node
 
-pub before_next : (core : CoreData) (ann : Ann) (n : ℕ) → spec.NothingWrongBefore core ann n → spec.NodePasses core ann n
+pub before_next : (core : CoreData) (ann : Ann) (n : ℕ) → spec.NothingWrongBefore core ann n → atnodes.NodePasses core ann n
     → spec.NothingWrongBefore core ann (n + 1)
 before_next core ann n b p =
     record {
@@ -47,10 +48,13 @@ before_seen core ann ys n i f same l at m b =
 
 -- ---- valid or faulted
 
+slot_clash : (core : CoreData) (ann : Ann) (k : ℕ) → spec.FirstWrong core ann k → KeepsWritten core ann → ⊥
+slot_clash core ann k h w = h.1.1 (w k h.0 h.1.0)
+
 pub not_valid : law.NotValid
 not_valid core ann (fault.Decl d) f h v = faulted core d f h v.declarations
 not_valid core ann fault.Shape f h v = h.1 (v.slots, v.notes)
-not_valid core ann (fault.Slot k) f h v = h.2.0.2 (v.written k h.2.0.0 h.2.0.1)
+not_valid core ann (fault.Slot k) f h v = slot_clash core ann k h.2 v.written
 not_valid core ann (fault.Node n) f h v = h.2 (v.rules n h.0)
 not_valid core ann (fault.Unset m) f h v = h.6 (v.sets m h.0 h.2)
 
@@ -60,19 +64,12 @@ not_valid core ann (fault.Unset m) f h v = h.6 (v.sets m h.0 h.2)
 places : (n k : ℕ) → (n < k) ⊎ (k < n) ⊎ (n ≡ k)
 places n k = elim (cases_lt n k) [ inl l ↦ inl l | inr l ↦ elim (cases_lt k n) [ inl m ↦ inr (inl m) | inr m ↦ inr (inr (omega (arith, l, m))) ] ]
 
-slot_clash : (core : CoreData) (ann : Ann) (k : ℕ) → spec.FirstWrong core ann k → KeepsWritten core ann → ⊥
-slot_clash core ann k h w = h.0.2 (w k h.0.0 h.0.1)
-
 -- A constructor that leaves a field unset contradicts what comes after its body.
 unset_clash : (core : CoreData) (ann : Ann) (m n : ℕ) (h : spec.LeavesUnset core ann m) → h.1 < n → spec.NothingWrongBefore core ann n → ⊥
 unset_clash core ann m n h l b = h.6 (b.sets h.1 l m h.0 h.2 h.3)
 
 two_slots : (core : CoreData) (ann : Ann) (k j : ℕ) → spec.FirstWrong core ann k → spec.FirstWrong core ann j → k ≡ j
-two_slots core ann k j h i =
-    elim (places k j) [
-      | inl l ↦ absurd (h.0.2 (i.1 k h.0.0 l h.0.1))
-      | inr r ↦ elim r [ inl l ↦ absurd (i.0.2 (h.1 j i.0.0 l i.0.1)) | inr e ↦ e ]
-    ]
+two_slots core ann k j h i = first_once (λ n y. spec.KeepsType ann n y) core.slots k j h.0 i.0 h.1 i.1
 
 two_nodes : (core : CoreData) (ann : Ann) (n k : ℕ) → spec.FailsRule core ann n → spec.FailsRule core ann k → n ≡ k
 two_nodes core ann n k h i =
@@ -99,7 +96,7 @@ two_unset core ann m k f h i =
     ]
 
 pub one_first : law.OneFirst
-one_first core ann (fault.Decl d) (fault.Decl e) f h i = ap fault.Decl (same_Some d e (sym h ∙ i))
+one_first core ann (fault.Decl d) (fault.Decl e) f h i = ap fault.Decl (one_fault core d e f h i)
 one_first core ann (fault.Decl d) fault.Shape f h i = absurd (faulted core d f h i.0)
 one_first core ann (fault.Decl d) (fault.Slot k) f h i = absurd (faulted core d f h i.0)
 one_first core ann (fault.Decl d) (fault.Node n) f h i = absurd (faulted core d f h i.1.declarations)

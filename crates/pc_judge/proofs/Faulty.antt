@@ -16,10 +16,9 @@ use Rattle.pc_core.specs.declared.nodes.NodeKind.TheVariants as node
 use Rattle.pc_core.specs.declared.nodes.Slot.{Slot}
 use Rattle.pc_core.specs.declared.nodes.SlotKind.TheVariants as slot
 use Rattle.pc_lists.specs.Lists.{Each}
-use Rattle.pc_core.specs.Entities.{print_method}
+use Rattle.pc_core.specs.Entities.{print_method, Conforms}
 use Rattle.pc_ann.specs.declared.annotation.Note.{Note}
 use Rattle.pc_ann.specs.declared.annotation.Rule.TheVariants as rule
-use Rattle.pc_core.specs.Conforms.{Conforms}
 use Rattle.pc_sub.specs.Declarations.{TakesSendable, DeclOk}
 use Rattle.pc_masks.specs.declared.mask.Mask.{Mask}
 use Rattle.pc_masks.specs.Masks.{has}
@@ -173,7 +172,7 @@ slots_before (suc (suc zero)) y l e ty g = subst (λ (z : Slot). z.written ≡ S
 slots_before (suc (suc (suc j))) y l e ty g = absurd (omega (arith, l))
 
 slot_named : spec.FirstWrong four_slots example.held_as_val 3
-slot_named = ((local, refl, wrong_slot), slots_before)
+slot_named = (local, (refl, wrong_slot, slots_before))
 
 no_shape : spec.HasShape four_slots example.without_notes → ⊥
 no_shape h = let k : 0 ≡ 7 = h.1 in omega (arith, k)

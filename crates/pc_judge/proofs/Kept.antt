@@ -20,8 +20,8 @@ turn core ys i d same l = subst (λ zs. slice_get zs i ≡ Some (get_or ys i d))
 
 pub first_wrong : (core : CoreData) (ann : Ann) (ys : List Slot) (n i : ℕ) (d : Slot) → ys ≡ core.slots → i < length ys → n ≡ i → KeptBefore core ann i → (spec.KeepsType ann n (get_or ys i d) → ⊥) → spec.FirstWrong core ann n
 first_wrong core ann ys n i d same l at kept wrong = (
-  (get_or ys i d, ap (slice_get core.slots) at ∙ turn core ys i d same l, wrong),
-  λ j y m. kept j y (omega (arith, m, at)),
+  get_or ys i d,
+  (ap (slice_get core.slots) at ∙ turn core ys i d same l, wrong, λ j y m. kept j y (omega (arith, m, at))),
 )
 
 pub kept_next : (core : CoreData) (ann : Ann) (ys : List Slot) (n i : ℕ) (d : Slot) → ys ≡ core.slots → i < length ys → n ≡ i → KeptBefore core ann i → spec.KeepsType ann n (get_or ys i d) → KeptBefore core ann (i + 1)

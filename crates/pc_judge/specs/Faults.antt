@@ -4,14 +4,10 @@ use Rattle.pc_caps.specs.declared.capability.Cap.{Cap}
 use Rattle.pc_core.specs.{declared.declarations.Method.Method, declared.nodes.Slot.Slot, CoreData.CoreData}
 use Rattle.pc_lists.specs.Lists.{Each}
 use Rattle.pc_ann.specs.declared.annotation.Ann.{Ann}
-use Rattle.pc_sub.specs.{Declarations.DeclOk, DeclarationFaults.first_fault}
+use Rattle.pc_sub.specs.{Declarations.DeclOk, FirstFault.FirstWithout, FirstFault.IsFirstDeclarationFault}
 use Rattle.pc_valid.specs.Valid.{MeetsRule, KeepsWritten, SetsFields}
 use Rattle.pc_judge.specs.declared.faults.JudgeFault.{JudgeFault}
 use Rattle.pc_judge.specs.declared.faults.JudgeFault.TheVariants as fault
-
--- The faults of the code.
-abbrev pub AnnotationFault : Type 0
-AnnotationFault = JudgeFault
 
 -- There is one entry for each slot and one note for each node.
 abbrev pub HasShape : CoreData → Ann → Type 0
@@ -23,9 +19,7 @@ KeepsType ann k y = (ty : ℕ × Cap) → y.written ≡ Some ty → slice_get an
 
 -- Slot number k is the first one whose type is not the written one.
 abbrev pub FirstWrong : CoreData → Ann → ℕ → Type 0
-FirstWrong core ann k =
-    ((y : Slot) × (slice_get core.slots k ≡ Some y) × (KeepsType ann k y → ⊥))
-    × ((j : ℕ) (y : Slot) → j < k → slice_get core.slots j ≡ Some y → KeepsType ann j y)
+FirstWrong core ann k = (y : Slot) × FirstWithout (KeepsType ann) core.slots k y
 
 -- After node n, if it is the body of a constructor, all fields are set.
 abbrev pub SetsAfter : CoreData → Ann → ℕ → Type 0
@@ -52,22 +46,8 @@ LeavesUnset core ann m =
 
 -- The first fault.
 abbrev pub FirstAnnotationFault : CoreData → Ann → JudgeFault → Type 0
-FirstAnnotationFault core ann (fault.Decl f) = first_fault core ≡ Some f
+FirstAnnotationFault core ann (fault.Decl f) = IsFirstDeclarationFault core f
 FirstAnnotationFault core ann fault.Shape = DeclOk core × (HasShape core ann → ⊥)
 FirstAnnotationFault core ann (fault.Slot k) = DeclOk core × HasShape core ann × FirstWrong core ann k
 FirstAnnotationFault core ann (fault.Node n) = FailsRule core ann n
 FirstAnnotationFault core ann (fault.Unset m) = LeavesUnset core ann m
-
--- ---- one node
-
--- There is no fault at node n.
-abbrev pub NodePasses : CoreData → Ann → ℕ → Type 0
-NodePasses core ann n = MeetsRule core ann n × SetsAfter core ann n
-
--- Node n has this fault.
-abbrev pub FailsAt : CoreData → Ann → ℕ → JudgeFault → Type 0
-FailsAt core ann n (fault.Node k) = (k ≡ n) × (n < length core.nodes) × (MeetsRule core ann n → ⊥)
-FailsAt core ann n (fault.Unset m) = MeetsRule core ann n × ((x : Method) × (slice_get core.methods m ≡ Some x) × (x.body ≡ Some n) × (SetsFields core ann x → ⊥))
-FailsAt core ann n f = ⊥
-
--- ---- laws

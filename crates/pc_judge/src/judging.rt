@@ -3,6 +3,7 @@ ghost use Rattle.std.specs.Prelude.{◌≡◌, ◌↔◌, IsOk, IsTrue, Err, Mat
 ghost use Rattle.pc_sub.specs.Declarations.{DeclOk};
 ghost use Rattle.pc_valid.specs.Valid.{Valid};
 ghost use Rattle.pc_judge.specs.Faults as spec;
+ghost use Rattle.pc_judge.specs.AtNodes as atnodes;
 
 use crate::faults::JudgeFault;
 use crate::nodes::judge_nodes;
@@ -18,7 +19,7 @@ use pc_sub::declarations;
 /// allocate.
 pub fn judge(core: &Core, ann: &Ann) -> Result<(), JudgeFault>
     ensures ok { IsOk result ↔ Valid core.now ann.now }
-    ensures fault { (f : spec.AnnotationFault) → (result ≡ Err f) ↔ spec.FirstAnnotationFault core.now ann.now f }
+    ensures fault { (f : atnodes.AnnotationFault) → (result ≡ Err f) ↔ spec.FirstAnnotationFault core.now ann.now f }
 {
     core.formed();
     judge_declarations(core, ann)

@@ -2,6 +2,7 @@
 ghost use Rattle.std.specs.Prelude.{◌≡◌, Some, MatchOption, MatchResult, length, slice_get};
 ghost use Rattle.pc_valid.specs.Valid.{Valid};
 ghost use Rattle.pc_judge.specs.Faults as spec;
+ghost use Rattle.pc_judge.specs.AtNodes as atnodes;
 ghost use Rattle.pc_judge.specs.Computed as computed;
 
 use crate::faults::JudgeFault;
@@ -43,7 +44,7 @@ fn fault_at(core: &Core, ann: &Ann, number: u32, node: &Node) -> Option<JudgeFau
     requires slots { length ann.now.slots ≡ length core.now.slots }
     requires notes { length ann.now.notes ≡ length core.now.nodes }
     requires node { slice_get core.now.nodes number ≡ Some node.now }
-    ensures { MatchOption result (spec.NodePasses core.now ann.now number) (λ f. spec.FailsAt core.now ann.now number f) }
+    ensures { MatchOption result (atnodes.NodePasses core.now ann.now number) (λ f. atnodes.FailsAt core.now ann.now number f) }
 {
     core.formed();
     if !rule_holds(core, ann, number) {

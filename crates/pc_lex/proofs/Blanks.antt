@@ -4,8 +4,8 @@ use Rattle.std.proofs.lemmas.Bool.{true≢false}
 use Rattle.std.proofs.lemmas.List.{drop_more}
 use Rattle.pc_token.specs.declared.kinds.Token.{Token}
 use Rattle.pc_lex.specs.declared.pieces.Found.TheVariants as found
-use Rattle.pc_lex.specs.Texts.{is_blank}
-use Rattle.pc_lex.specs.Pieces.{has_line_end}
+use Rattle.pc_lex.specs.Pieces.{is_blank}
+use Rattle.pc_lex.specs.Parts.{has_line_end}
 use Rattle.pc_lex.specs.Reading.{piece_at, Passes, stays, blank}
 use Rattle.pc_lex.proofs.OneCut.{gap_read}
 use Rattle.pc_lex.proofs.Reached.{Sofar, goes_on}

@@ -3,8 +3,8 @@ use Rattle.std.proofs.Common.{◌≡◌, ℕ, zero, suc, ◌+◌, ◌-◌, ◌<�
 use Rattle.std.proofs.lemmas.Bool.{and_parts, eqb-true}
 use Rattle.std.proofs.lemmas.Bool.Decides.{nat_tests}
 use Rattle.std.specs.List.{prefix_len}
-use Rattle.pc_lex.specs.Texts.{is_line, begins, open_mark, line_mark}
-use Rattle.pc_lex.specs.Pieces.{ClosesComment, close, inner, other, AtLineEnd, IsGap}
+use Rattle.pc_lex.specs.Pieces.{is_line, begins, ClosesComment, close, inner, other, AtLineEnd, IsGap}
+use Rattle.pc_lex.specs.Parts.{open_mark, line_mark}
 use Rattle.pc_lex.specs.Reading.{behind}
 use Rattle.pc_lex.proofs.Runs.{begins_cut}
 use Rattle.pc_lists.proofs.Prefixes.{run_all}

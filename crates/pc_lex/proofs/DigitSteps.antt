@@ -3,7 +3,7 @@ use Rattle.std.proofs.Common.{◌≡◌, ℕ, ◌+◌, ◌*◌, ◌<◌, ◌≤�
 use Rattle.std.proofs.lemmas.Bool.{and_parts, true≢false, ne_eqb}
 use Rattle.std.proofs.lemmas.List.{drop_more, drop_all}
 use Rattle.std.specs.Char.{is_digit, digit_value}
-use Rattle.pc_lex.specs.Texts.{first_test}
+use Rattle.pc_lex.specs.Pieces.{first_test}
 use Rattle.pc_lex.specs.Reading.{more_len, digits_len, value_of}
 
 pub step : (base b : ℕ) (bs : List ℕ) → is_digit b base ≡ true → more_len base (b ∷ bs) ≡ 1 + more_len base bs

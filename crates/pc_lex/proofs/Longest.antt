@@ -10,8 +10,7 @@ use Rattle.pc_token.specs.declared.kinds.TokenKind.{TokenKind}
 use Rattle.pc_token.specs.declared.kinds.TokenKind.TheVariants as kinds
 use Rattle.pc_token.specs.Words.{sign_text}
 use Rattle.pc_token.specs.Finding.{sign_at}
-use Rattle.pc_lex.specs.Texts.{is_letter, first_test, TextBytes, DocBytes}
-use Rattle.pc_lex.specs.Pieces.{NameText, SpellsToken, NumberText}
+use Rattle.pc_lex.specs.Pieces.{is_letter, first_test, TextBytes, DocBytes, NameText, SpellsToken, NumberText}
 use Rattle.pc_lex.specs.Faults.{is_quote}
 use Rattle.pc_lex.specs.Reading.{letter_len, under_len, name_len}
 use Rattle.pc_lists.proofs.Prefixes.{begins_own}

@@ -4,8 +4,7 @@ use Rattle.std.proofs.lemmas.Bool.{and_parts, eqb-true}
 use Rattle.std.proofs.lemmas.Bool.Decides.{nat_tests}
 use Rattle.std.specs.List.{prefix_len, list_all}
 use Rattle.std.specs.Char.{is_ascii_lowercase, is_ascii_uppercase}
-use Rattle.pc_lex.specs.Texts.{is_letter, is_tail, is_prime}
-use Rattle.pc_lex.specs.Pieces.{NameText}
+use Rattle.pc_lex.specs.Pieces.{is_letter, is_tail, is_prime, NameText}
 use Rattle.pc_lex.specs.Reading.{tail_len, letter_len, under_len, name_len, is_type}
 use Rattle.std.proofs.lemmas.List.Sums.{prefix_len-le-length}
 use Rattle.pc_lists.proofs.Prefixes.{run_app, run_all}

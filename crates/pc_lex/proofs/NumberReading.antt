@@ -4,8 +4,8 @@ use Rattle.std.proofs.lemmas.Bool.{and_parts, true≢false, eqb-true, cases_lt}
 use Rattle.std.proofs.lemmas.Bool.Decides.{nat_tests}
 use Rattle.std.specs.List.{list_all}
 use Rattle.std.specs.Char.{is_digit, digit_value, is_ascii_digit}
-use Rattle.pc_lex.specs.Texts.{first_test, is_tail, is_joined, hex_mark, bin_mark, begins}
-use Rattle.pc_lex.specs.Pieces.{Digits, one, next, spaced, value_of_digits, DigitsOf, NumberText}
+use Rattle.pc_lex.specs.Pieces.{first_test, is_tail, is_joined, begins, Digits, one, next, spaced, value_of_digits, DigitsOf, NumberText}
+use Rattle.pc_lex.specs.Parts.{hex_mark, bin_mark}
 use Rattle.pc_lex.specs.Reading.{more_len, digits_len, value_of, base_at}
 use Rattle.pc_lex.proofs.DigitSteps.{step, space, ends, len_first}
 use Rattle.pc_lex.proofs.CommentEnds.{behind_word}

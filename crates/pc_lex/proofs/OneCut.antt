@@ -14,10 +14,9 @@ use Rattle.pc_lex.specs.declared.pieces.Found.{Found}
 use Rattle.pc_lex.specs.declared.pieces.Found.TheVariants as found
 use Rattle.pc_lex.specs.declared.pieces.LexStop.{LexStop}
 use Rattle.pc_lex.specs.declared.pieces.LexStop.TheVariants as stop
-use Rattle.pc_lex.specs.Texts.{first_test, is_blank, is_line, is_letter, begins_comment, begins_doc, TextBytes}
+use Rattle.pc_lex.specs.Pieces.{first_test, is_blank, is_line, is_letter, begins_comment, begins_doc, TextBytes, NameText, SpellsToken, Piece, gap, token, bytes_of, IsPiece, IsToken, IsGap, AtLineEnd, Pieces, tokens_of, Tokens}
 use Rattle.pc_lex.specs.Faults.{is_quote, NoPiece}
 use Rattle.pc_lex.specs.TextReading.{unescape}
-use Rattle.pc_lex.specs.Pieces.{NameText, SpellsToken, Piece, gap, token, bytes_of, IsPiece, IsToken, IsGap, AtLineEnd, Pieces, tokens_of, Tokens}
 use Rattle.pc_lex.specs.Reading.{is_type, name_kind, behind, value_of, digits_len, base_at, between, piece_at}
 use Rattle.pc_lists.proofs.Prefixes.{run_app}
 use Rattle.pc_lex.proofs.CommentSteps.{behind_all}

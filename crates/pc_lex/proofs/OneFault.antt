@@ -5,11 +5,11 @@ use Rattle.std.specs.Char.{is_ascii_digit}
 use Rattle.pc_token.specs.declared.kinds.TokenKind.{TokenKind}
 use Rattle.pc_lex.specs.declared.fault.LexFault.{LexFault}
 use Rattle.pc_lex.specs.declared.fault.LexFault.TheVariants as fault
-use Rattle.pc_lex.specs.Texts.{first_test, begins, open_mark, begins_doc}
+use Rattle.pc_lex.specs.Pieces.{first_test, begins, begins_doc, Piece, gap, token, IsToken, Pieces}
+use Rattle.pc_lex.specs.Parts.{open_mark}
 use Rattle.pc_lex.specs.Faults.{is_quote, NeverEnds, BadEscapeIn, OpensCommentOrText, NoPiece, count, Faulty, FaultAfter, TokenAfter, FirstLexFault}
 use Rattle.pc_lex.specs.TextReading.{text_behind, unescape}
 use Rattle.pc_lex.specs.Reading.{between}
-use Rattle.pc_lex.specs.Pieces.{Piece, gap, token, IsToken, Pieces}
 use Rattle.pc_lex.proofs.Longest.{quote_none}
 use Rattle.pc_lex.proofs.QuoteEnds.{behind_covered}
 use Rattle.pc_lex.proofs.QuotedBytes.{no_doc, doc_quote, quote_cut}

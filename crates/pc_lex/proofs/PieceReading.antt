@@ -12,9 +12,9 @@ use Rattle.pc_token.specs.Finding.{word_of, sign_at}
 use Rattle.pc_token.specs.Words.{sign_text}
 use Rattle.pc_lex.specs.declared.pieces.Found.TheVariants as found
 use Rattle.pc_lex.specs.declared.pieces.LexStop.TheVariants as stop
-use Rattle.pc_lex.specs.Texts.{first_test, is_joined, is_blank, is_line, begins, begins_comment, line_mark, open_mark, begins_doc}
+use Rattle.pc_lex.specs.Pieces.{first_test, is_joined, is_blank, is_line, begins, begins_comment, begins_doc, EndsWell, NameText, SpellsToken, gap, token, IsGap}
+use Rattle.pc_lex.specs.Parts.{line_mark, open_mark}
 use Rattle.pc_lex.specs.Faults.{is_quote, NoPiece}
-use Rattle.pc_lex.specs.Pieces.{EndsWell, NameText, SpellsToken, gap, token, IsGap}
 use Rattle.pc_lex.specs.Reading.{value_of, digits_len, number_or, number_of, number_at, name_len, is_type, word_kind, name_kind, behind, block_at, sign_or, name_or_sign, doc_at, text_at, piece_at}
 use Rattle.std.proofs.lemmas.List.Sums.{prefix_len-le-length}
 use Rattle.pc_lex.proofs.CommentSteps.{behind_all}

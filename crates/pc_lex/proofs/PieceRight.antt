@@ -8,9 +8,9 @@ use Rattle.pc_lex.specs.declared.pieces.Found.{Found}
 use Rattle.pc_lex.specs.declared.pieces.Found.TheVariants as found
 use Rattle.pc_lex.specs.declared.pieces.LexStop.{LexStop}
 use Rattle.pc_lex.specs.declared.pieces.LexStop.TheVariants as stop
-use Rattle.pc_lex.specs.Texts.{first_test, is_blank, begins, begins_comment, line_mark, open_mark, begins_doc}
+use Rattle.pc_lex.specs.Pieces.{first_test, is_blank, begins, begins_comment, begins_doc, EndsWell, SpellsToken, Piece, gap, token, IsPiece, IsGap, ClosesComment}
+use Rattle.pc_lex.specs.Parts.{line_mark, open_mark}
 use Rattle.pc_lex.specs.Faults.{is_quote, BadEscapeIn, OpensCommentOrText, NoPiece}
-use Rattle.pc_lex.specs.Pieces.{EndsWell, SpellsToken, Piece, gap, token, IsPiece, IsGap, ClosesComment}
 
 abbrev pub piece_of : Found → List ℕ → Piece
 piece_of found.Gap b = gap b

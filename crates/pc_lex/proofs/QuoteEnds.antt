@@ -3,7 +3,7 @@ use Rattle.std.proofs.Common.{◌≡◌, ℕ, ◌+◌, ◌<◌, ◌≤◌, Bool,
 use Rattle.std.proofs.lemmas.List.{drop_more, drop_all}
 use Rattle.std.proofs.lemmas.Bool.{eqb-true}
 use Rattle.std.proofs.lemmas.Bool.Decides.{nat_tests}
-use Rattle.pc_lex.specs.Texts.{is_plain, BetweenQuotes, nothing, plain, covered}
+use Rattle.pc_lex.specs.Pieces.{is_plain, BetweenQuotes, nothing, plain, covered}
 use Rattle.pc_lex.specs.TextReading.{text_behind, width}
 
 one : (b : ℕ) (bs : List ℕ) → text_behind (b ∷ bs) ≡ cond (b == 34) (Some bs) (text_behind (drop (width b) (b ∷ bs)))

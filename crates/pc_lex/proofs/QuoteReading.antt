@@ -3,10 +3,10 @@ use Rattle.std.proofs.Common.{◌≡◌, ℕ, ◌+◌, ◌-◌, ◌≤◌, true,
 use Rattle.std.proofs.lemmas.Bool.{true≢false}
 use Rattle.pc_token.specs.declared.kinds.TokenKind.{TokenKind}
 use Rattle.pc_token.specs.declared.kinds.TokenKind.TheVariants as kinds
-use Rattle.pc_lex.specs.Texts.{first_test, begins, line_mark, open_mark, begins_doc, BetweenQuotes, Written, TextBytes, DocBytes}
+use Rattle.pc_lex.specs.Pieces.{first_test, begins, begins_doc, BetweenQuotes, Written, TextBytes, DocBytes, SpellsToken, gap, token}
+use Rattle.pc_lex.specs.Parts.{line_mark, open_mark}
 use Rattle.pc_lex.specs.Faults.{is_quote, NeverEnds, NoPiece}
 use Rattle.pc_lex.specs.TextReading.{text_behind, doc_behind, unescape}
-use Rattle.pc_lex.specs.Pieces.{SpellsToken, gap, token}
 use Rattle.pc_lex.specs.Reading.{doc_or, value_or, between, text_or, text_at, doc_at}
 use Rattle.pc_lex.proofs.PieceRight.{Right, token_right, first_blank, never_gap}
 use Rattle.pc_lex.proofs.Longest.{quote_only}

@@ -4,7 +4,7 @@ use Rattle.std.proofs.lemmas.Bool.{true≢false, and_parts, eqb-true}
 use Rattle.std.specs.Prelude.{nat_eq}
 use Rattle.std.proofs.lemmas.Bool.Decides.{nat_tests}
 use Rattle.std.specs.Char.{is_digit}
-use Rattle.pc_lex.specs.Texts.{first_test, is_plain, BetweenQuotes, nothing, plain, covered, Writes, Written, DocEnds, ends, other, begins_doc, DocBytes}
+use Rattle.pc_lex.specs.Pieces.{first_test, is_plain, BetweenQuotes, nothing, plain, covered, Writes, Written, DocEnds, ends, other, begins_doc, DocBytes}
 use Rattle.pc_lex.specs.Faults.{is_quote}
 use Rattle.pc_lex.specs.TextReading.{doc_behind}
 

@@ -10,7 +10,8 @@ use Rattle.pc_lex.specs.declared.pieces.Found.{Found}
 use Rattle.pc_lex.specs.declared.pieces.Found.TheVariants as found
 use Rattle.pc_lex.specs.declared.pieces.LexStop.TheVariants as stop
 use Rattle.pc_lex.specs.Pieces.{Piece, gap, token, bytes_of, IsPiece, Pieces, tokens_of, Tokens, token_limit}
-use Rattle.pc_lex.specs.Faults.{count, FirstLexFault, RefusesTokens}
+use Rattle.pc_lex.specs.Faults.{count, FirstLexFault}
+use Rattle.pc_lex.specs.Refusals.{RefusesTokens}
 use Rattle.pc_lex.specs.Reading.{piece_at, step_of, is_gap, Steps, Stuck}
 use Rattle.pc_lex.proofs.PieceRight.{piece_of, Right}
 use Rattle.pc_lex.proofs.PieceReading.{piece_right}

@@ -3,7 +3,7 @@ use Rattle.std.proofs.Common.{◌≡◌, ℕ, zero, suc, ◌+◌, ◌*◌, ◌<�
 use Rattle.std.specs.Prelude.{IfErr}
 use Rattle.std.proofs.lemmas.Bool.{eqb-true, and_parts}
 use Rattle.std.specs.Char.{is_digit, digit_value}
-use Rattle.pc_lex.specs.Texts.{is_plain, escape_of, Writes, Written}
+use Rattle.pc_lex.specs.Pieces.{is_plain, escape_of, Writes, Written}
 use Rattle.pc_lex.specs.Faults.{NoByte, BadAt}
 use Rattle.pc_lex.specs.TextReading.{escape_at, escape_here, byte_at, with_first, on_byte, unescape_in, unescape, EscapeWithin}
 use Rattle.pc_lex.specs.EscapeFaults.{IsBadEscape, GivesValue}

@@ -12,9 +12,10 @@ use Rattle.pc_lex.specs.declared.pieces.Found.{Found}
 use Rattle.pc_lex.specs.declared.pieces.Found.TheVariants as found
 use Rattle.pc_lex.specs.declared.pieces.LexStop.{LexStop}
 use Rattle.pc_lex.specs.declared.pieces.LexStop.TheVariants as stop
-use Rattle.pc_lex.specs.Pieces.{token_limit, Piece, gap, token, bytes_of, IsToken, Pieces, tokens_of, Tokens, TokenList}
-use Rattle.pc_lex.specs.Texts.{first_test, begins, open_mark}
-use Rattle.pc_lex.specs.Faults.{is_quote, OpensCommentOrText, count, Faulty, FaultAfter, TokenAfter, FirstLexFault, RefusesTokens, AnswersTokens}
+use Rattle.pc_lex.specs.Pieces.{token_limit, Piece, gap, token, bytes_of, IsToken, Pieces, tokens_of, Tokens, TokenList, first_test, begins}
+use Rattle.pc_lex.specs.Parts.{open_mark}
+use Rattle.pc_lex.specs.Faults.{is_quote, OpensCommentOrText, count, Faulty, FaultAfter, TokenAfter, FirstLexFault}
+use Rattle.pc_lex.specs.Refusals.{RefusesTokens, AnswersTokens}
 use Rattle.pc_lex.specs.Reading.{piece_at, step_of, is_gap, Steps}
 use Rattle.pc_lex.proofs.Longest.{spelled_some}
 use Rattle.pc_lex.proofs.OneCut.{piece_one, piece_some, not_both, tokens_one}

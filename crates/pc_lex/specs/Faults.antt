@@ -1,8 +1,8 @@
 -- The first fault of a text that has no token list, and what lexing may return.
-use Rattle.std.specs.Prelude.{◌≡◌, ℕ, ◌+◌, ◌<◌, ◌≤◌, Bool, true, false, ◌==◌, List, ◌∷◌, ◌++◌, length, take, drop, Result, Err, ◌⊎◌, ⊤, []}
+use Rattle.std.specs.Prelude.{◌≡◌, ℕ, ◌+◌, ◌<◌, ◌≤◌, Bool, true, false, ◌==◌, List, ◌∷◌, ◌++◌, length, take, drop, ◌⊎◌, [], codes}
 use Rattle.std.specs.Char.{is_ascii_digit}
-use Rattle.pc_token.specs.{declared.kinds.Token.Token, declared.kinds.TokenKind.TokenKind}
-use Rattle.pc_lex.specs.{declared.fault.LexFault.LexFault, Pieces.token_limit, Pieces.Piece, Pieces.gap, Pieces.token, Pieces.bytes_of, Pieces.IsPiece, Pieces.Pieces, Pieces.IsToken, Texts.begins, Texts.open_mark, Texts.first_test, Texts.BetweenQuotes, Texts.Writes, Texts.Written, Texts.begins_doc}
+use Rattle.pc_token.specs.declared.kinds.TokenKind.{TokenKind}
+use Rattle.pc_lex.specs.{declared.fault.LexFault.LexFault, Pieces.token_limit, Pieces.Piece, Pieces.gap, Pieces.token, Pieces.bytes_of, Pieces.IsPiece, Pieces.Pieces, Pieces.IsToken, Pieces.begins, Pieces.first_test, Pieces.BetweenQuotes, Pieces.Writes, Pieces.Written, Pieces.begins_doc}
 use Rattle.pc_lex.specs.declared.fault.LexFault.TheVariants as fault
 
 -- `"`
@@ -39,14 +39,14 @@ NoPiece text = (p : Piece) (rest : List ℕ) → text ≡ bytes_of p ++ rest →
 -- The text begins with `/*`, with `"""`, or with a text literal that no `"` ends.
 abbrev pub OpensCommentOrText : List ℕ → Type 0
 OpensCommentOrText text =
-    (begins text open_mark ≡ true)
+    (begins text (codes "/*") ≡ true)
     ⊎ ((begins_doc text ≡ true)
     ⊎ ((begins_doc text ≡ false) × (first_test is_quote text ≡ true) × NeverEnds text))
 
 -- The fault of a text that begins with no piece, and its place: a comment, text or doc that does not end, digits that
 -- are no number, a text with a bad escape, or another byte.
 abbrev pub Faulty : List ℕ → ℕ → LexFault → Type 0
-Faulty text at (fault.BadByte p) = (p ≡ at) × NoPiece text × (0 < length text) × (begins text open_mark ≡ false) × (first_test is_ascii_digit text ≡ false) × (first_test is_quote text ≡ false)
+Faulty text at (fault.BadByte p) = (p ≡ at) × NoPiece text × (0 < length text) × (begins text (codes "/*") ≡ false) × (first_test is_ascii_digit text ≡ false) × (first_test is_quote text ≡ false)
 Faulty text at (fault.Unclosed p) = (p ≡ at) × NoPiece text × OpensCommentOrText text
 Faulty text at (fault.BadNumber p) = (p ≡ at) × NoPiece text × (first_test is_ascii_digit text ≡ true)
 Faulty text at (fault.BadEscape p) = (offset : ℕ) × (p ≡ at + offset) × NoPiece text × (begins_doc text ≡ false) × BadEscapeIn text offset
@@ -65,12 +65,3 @@ TokenAfter text p = (ps : List Piece) × (kind : TokenKind) × (b rest : List �
 abbrev pub FirstLexFault : List ℕ → LexFault → Type 0
 FirstLexFault text (fault.TooMany p) = TokenAfter text p
 FirstLexFault text f = FaultAfter text f
-
--- The fault is the first of the text, or memory ran out.
-abbrev pub RefusesTokens : List ℕ → LexFault → Type 0
-RefusesTokens text fault.Memory = ⊤
-RefusesTokens text f = FirstLexFault text f
-
--- The result is this answer, or memory ran out.
-abbrev pub AnswersTokens : Result (List Token) LexFault → Result (List Token) LexFault → Type 0
-AnswersTokens result wanted = (result ≡ wanted) ⊎ (result ≡ Err fault.Memory)

@@ -1,7 +1,8 @@
-pub mod Pieces
 pub mod Laws
-pub mod Texts
 pub mod TextReading
+pub mod Pieces
 pub mod EscapeFaults
 pub mod Reading
 pub mod Faults
+pub mod Refusals
+pub mod Parts

@@ -1,8 +1,8 @@
 //! Classes of bytes, and runs of them.
 ghost use Rattle.std.specs.Prelude.{◌≡◌, ◌≤◌, length};
 ghost use Rattle.std.specs.List.{prefix_len};
-ghost use Rattle.pc_lex.specs.Texts as bytes;
-ghost use Rattle.pc_lex.specs.Texts.{first_test};
+ghost use Rattle.pc_lex.specs.Pieces as spec;
+ghost use Rattle.pc_lex.specs.Pieces.{first_test};
 ghost use Rattle.pc_lex.specs.Reading as reading;
 
 /// A class of bytes.
@@ -18,14 +18,14 @@ pub enum Class {
 
 /// Whether a byte separates tokens.
 pub fn is_blank(byte: u8) -> bool
-    ensures { result ≡ bytes.is_blank byte }
+    ensures { result ≡ spec.is_blank byte }
 {
     byte == b' ' || byte == b'\t' || byte == b'\r' || byte == b'\n'
 }
 
 /// Whether a byte is a letter of either case.
 pub fn is_letter(byte: u8) -> bool
-    ensures { result ≡ bytes.is_letter byte }
+    ensures { result ≡ spec.is_letter byte }
 {
     byte.is_ascii_lowercase() || byte.is_ascii_uppercase()
 }
@@ -55,7 +55,7 @@ pub fn run(class: Class, text: &[u8]) -> usize
 
 /// Whether the text begins with a byte that may not follow a number.
 pub fn is_joined(text: &[u8]) -> bool
-    ensures { result ≡ first_test bytes.is_joined text.now }
+    ensures { result ≡ first_test spec.is_joined text.now }
 {
     match text {
         [b, ..] => is_in(Class::Tail, *b) || is_in(Class::Prime, *b),

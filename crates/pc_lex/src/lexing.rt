@@ -3,8 +3,9 @@ ghost use Rattle.std.specs.Prelude.{◌≡◌, ◌<◌, ◌≤◌, ◌||◌, ◌
 ghost use Rattle.pc_token.specs.declared.kinds.Token.{Token};
 ghost use Rattle.pc_lex.specs.declared.fault.LexFault.{LexFault};
 ghost use Rattle.pc_lex.specs.Pieces.{bytes_limit, TokenList};
-ghost use Rattle.pc_lex.specs.Pieces as pieces;
-ghost use Rattle.pc_lex.specs.Faults.{FirstLexFault, RefusesTokens, AnswersTokens};
+ghost use Rattle.pc_lex.specs.Parts as parts;
+ghost use Rattle.pc_lex.specs.Faults.{FirstLexFault};
+ghost use Rattle.pc_lex.specs.Refusals.{RefusesTokens, AnswersTokens};
 ghost use Rattle.pc_lex.specs.Reading as reading;
 ghost use Rattle.pc_lex.specs.Reading.{Passes, Steps, StopWithin, Stuck};
 
@@ -20,7 +21,7 @@ const TOKEN_LIMIT: usize = 200_000;
 
 /// Whether there is an LF among these bytes.
 fn has_line_end(text: &[u8]) -> bool
-    ensures { result ≡ pieces.has_line_end text.now }
+    ensures { result ≡ parts.has_line_end text.now }
 {
     text.contains(&b'\n')
 }

@@ -1,7 +1,7 @@
 //! Numbers: decimal, hexadecimal and binary, with their values.
 ghost use Rattle.std.specs.Prelude.{◌≡◌, ◌<◌, ◌≤◌, ◌+◌, ◌*◌, ◌==◌, ◌&&◌, length, drop, slice_index, true, IfOk, IfErr};
 ghost use Rattle.std.specs.Char.{is_digit, digit_value};
-ghost use Rattle.pc_lex.specs.Texts.{first_test};
+ghost use Rattle.pc_lex.specs.Pieces.{first_test};
 ghost use Rattle.pc_lex.specs.Reading.{BelowOrNone64, StopWithin};
 ghost use Rattle.pc_lex.specs.Reading as reading;
 

@@ -1,6 +1,6 @@
 //! What a text begins with: a gap, a token, or a fault.
 ghost use Rattle.std.specs.Prelude.{◌≡◌, ◌<◌, ◌≤◌, [], ◌∷◌, length, true, IfOk, IfErr};
-ghost use Rattle.pc_lex.specs.Texts.{begins};
+ghost use Rattle.pc_lex.specs.Pieces.{begins};
 ghost use Rattle.pc_lex.specs.Reading as reading;
 ghost use Rattle.pc_lex.specs.Reading.{GivesRead, StopWithin};
 

@@ -1,8 +1,8 @@
 //! Text literals and docs: where they end, and the bytes that they denote.
 ghost use Rattle.std.specs.Prelude.{◌≡◌, ◌<◌, ◌≤◌, ◌+◌, length, drop, true, IfSome, IfOk, IfErr};
 ghost use Rattle.std.specs.Option.{option_map};
-ghost use Rattle.pc_lex.specs.Texts.{Written};
-ghost use Rattle.pc_lex.specs.Texts as spec;
+ghost use Rattle.pc_lex.specs.Pieces.{Written};
+ghost use Rattle.pc_lex.specs.Pieces as spec;
 ghost use Rattle.pc_lex.specs.TextReading as reading;
 ghost use Rattle.pc_lex.specs.EscapeFaults.{IsBadEscape, GivesValue};
 
@@ -137,7 +137,7 @@ pub fn text_value(alloc: Global, body: &[u8]) -> Result<List<u8>, EscapeFault>
 }
 
 /// Whether a text begins with `"""`.
-#[tactic(auto, unfolding(crate::specs::Texts::begins_doc))]
+#[tactic(auto, unfolding(crate::specs::Pieces::begins_doc))]
 pub fn begins_doc(text: &[u8]) -> bool
     ensures value { result ≡ spec.begins_doc text.now }
     ensures within { result ≡ true → 3 ≤ length text.now }

@@ -1,15 +1,16 @@
 -- Words on lists: elements by their names and places, runs of numbers, and texts; and computations that may have no
 -- result.
-use Rattle.std.specs.Prelude.{ℕ, ◌+◌, List, [], ◌∷◌, Option, Some, None, nat_eq, if◌then◌else◌, ◌≡◌, ◌⊎◌, ◌<◌, slice_get}
-
--- ---- elements of a list by their names
+use Rattle.std.specs.Prelude.{ℕ, ◌+◌, List, [], ◌∷◌, Option, Some, None, nat_eq, if◌then◌else◌, ◌≡◌, ◌⊎◌, ◌<◌, slice_get, Bool, true, false, ◌++◌, flat_map}
 
 -- The place of the first element with this name, counting the first element of the list as place `at`.
 abbrev pub place_of : {T : Type 0} → (T → ℕ) → ℕ → List T → ℕ → Option ℕ
 place_of name_of name [] at = None
 place_of name_of name (x ∷ xs) at = if nat_eq (name_of x) name then Some at else place_of name_of name xs (at + 1)
 
--- ---- computations that may have no result
+-- The list of this one element if the test holds, or else the empty list.
+abbrev pub one_if : {T : Type 0} → Bool → T → List T
+one_if true x = x ∷ []
+one_if false x = []
 
 -- The next step of a computation, if there is a result so far.
 infixl 10 ◌>>=◌
@@ -40,8 +41,6 @@ abbrev pub IsIn : ℕ → List ℕ → Type 0
 IsIn n [] = ⊥
 IsIn n (x ∷ xs) = (n ≡ x) ⊎ IsIn n xs
 
--- ---- runs of numbers, each given by its first number and its count
-
 -- Runs, each a first number and a count, that cover all numbers from one up to, but not including, another, in order and
 -- without gaps.
 abbrev pub Follow : ℕ → List (ℕ × ℕ) → ℕ → Type 0
@@ -52,6 +51,11 @@ Follow at (run ∷ runs) last = (run.0 ≡ at) × Follow (at + run.1) runs last
 
 abbrev pub Text : Type 0
 Text = List ℕ
+
+-- The texts of these, one after the other, with a text between any two.
+abbrev pub separated : {T : Type 0} → (between : Text) → (T → Text) → List T → Text
+separated between text [] = []
+separated between text (x ∷ xs) = text x ++ flat_map (λ y. between ++ text y) xs
 
 -- The end of a line.
 abbrev pub line_end : Text

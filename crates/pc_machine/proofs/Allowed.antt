@@ -21,12 +21,11 @@ use Rattle.pc_core.specs.declared.nodes.NodeKind.TheVariants as node
 use Rattle.pc_semantics.specs.declared.frames.Frame.{Frame}
 use Rattle.pc_semantics.specs.declared.frames.Task.{Task}
 use Rattle.pc_semantics.specs.declared.frames.Task.TheVariants as task
-use Rattle.pc_semantics.specs.Around.{Around, Move, Writes, Makes, Spawns, Sends, with_top, popped, with_popped, value_entity}
-use Rattle.pc_semantics.specs.Configurations.{blank_object, number_of_fields}
-use Rattle.pc_semantics.specs.Calls.{counted, begin_new, make_of, make_task, spawn_of, spawn_task, enter, send, invoke_kind, text_of, is_string, push_text, invoke_found, invoke_method, invoke_on, invoke_task, leave_object, leave, return_task, get_value, get_field, get_of, get_from, put_value, put_field, put_of, put_into, get_task, put_task, store_task}
-use Rattle.pc_semantics.specs.Evaluation.{truth, apply_task, right_side, test_and, test_or, test_task, branch, loop_turn, push_slot, take_slot, first_then, evaluate, evaluate_node}
-use Rattle.pc_semantics.specs.Operators.{push_or_lack, of_numbers, of_truths, of_texts, binary, negated}
-use Rattle.pc_semantics.specs.Step.{at_node, task_move}
+use Rattle.pc_semantics.specs.Configurations.{Around, Move, Goes, Writes, Makes, Spawns, Sends, Leaves, pop, popped, value_entity, blank_object}
+use Rattle.pc_semantics.specs.Parts.{with_top, with_popped, number_of_fields, begin_new, make_of, spawn_of, enter, send, push_text, invoke_found, invoke_method, invoke_on, leave_object, return_task, get_value, get_field, get_of, get_from, put_value, put_field, put_of, put_into, push_slot, take_slot, evaluate_node, push_or_lack, negated, compared, at_node}
+use Rattle.pc_semantics.specs.Calls.{counted, make_task, spawn_task, invoke_kind, text_of, is_string, invoke_task, leave, get_task, put_task, store, store_task}
+use Rattle.pc_semantics.specs.Evaluation.{truth, apply_task, right_side, test_and, test_or, test_task, branch, loop_turn, first_then, evaluate, of_numbers, of_truths, of_texts, binary}
+use Rattle.pc_semantics.specs.Step.{task_move}
 use Rattle.pc_tasks.specs.Fielded.{HasFields}
 use Rattle.pc_tasks.specs.Inside.{first_move, relieved}
 use Rattle.pc_machine.specs.declared.plan.Plan.{Plan}
@@ -141,8 +140,8 @@ module _ (core : CoreData) (around : Around) where
   put_allowed f k = tt
 
   store_allowed : (f : Frame) (k : NodeKind) → Allowed core around (store_task f k)
-  store_allowed f (node.Define s) = top f f.stack _ (λ v g. tt)
-  store_allowed f (node.Assign s) = top f f.stack _ (λ v g. tt)
+  store_allowed f (node.Define s) = top f f.stack (store s) (λ v g. tt)
+  store_allowed f (node.Assign s) = top f f.stack (store s) (λ v g. tt)
   store_allowed f k = tt
 
   -- ---- operators
@@ -172,7 +171,7 @@ module _ (core : CoreData) (around : Around) where
 
   apply_allowed : (f : Frame) (k : NodeKind) → Allowed core around (apply_task f k)
   apply_allowed f (node.Binary o) = top f f.stack _ (λ w g. top g g.stack _ (λ v h. operated h o v w))
-  apply_allowed f (node.Same b) = top f f.stack _ (λ w g. top g g.stack _ (λ v h. tt))
+  apply_allowed f (node.Same b) = top f f.stack (λ w g. pop g (λ v h. compared h b v w)) (λ w g. top g g.stack (λ v h. compared h b v w) (λ v h. tt))
   apply_allowed f node.Not = top f f.stack _ (λ v g. not_allowed g v)
   apply_allowed f k = tt
 
@@ -284,7 +283,7 @@ module _ (core : CoreData) (around : Around) where
   object_left (Some (Some v)) = tt
 
   left : (f : Frame) (k : MethodKind) → Allowed core around (leave f k)
-  left f method.Fun = top f f.stack _ (λ v g. tt)
+  left f method.Fun = top f f.stack (λ v g. Leaves (Some v)) (λ v g. tt)
   left f method.New = object_left (slice_get f.slots 0)
   left f method.Be = tt
   left f method.Spawn = tt
@@ -311,7 +310,7 @@ module _ (core : CoreData) (around : Around) where
   task_allowed f (task.Test n) = at (slice_get core.nodes n) _ (λ x. test_allowed f x.children x.kind)
   task_allowed f (task.Branch n) = at (slice_get core.nodes n) _ (λ x. top f f.stack _ (told (branch x.children) (branched x.children)))
   task_allowed f (task.Loop n) = at (slice_get core.nodes n) _ (λ x. top f f.stack _ (told (loop_turn n x.children) (turned n x.children)))
-  task_allowed f task.Discard = top f f.stack _ (λ v g. tt)
+  task_allowed f task.Discard = top f f.stack (λ v g. Goes g) (λ v g. tt)
   task_allowed f task.Return = return_allowed f (slice_get core.methods f.method)
 
   pub first_allowed : (f : Frame) (o : Option Task) → Allowed core around (first_move core around f o)

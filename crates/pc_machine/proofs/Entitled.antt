@@ -7,12 +7,14 @@ use Rattle.std.proofs.lemmas.List.{length-set, length-replicate}
 use Rattle.std.proofs.lemmas.Bool.{false≢true}
 use Rattle.std.proofs.lemmas.Option.{same_Some, none-some}
 use Rattle.pc_heap.specs.Addresses.{addresses_total}
-use Rattle.pc_heap.specs.Objects.{address_cmp, ObjectMap, object_in, with_field, with_value, Object}
+use Rattle.pc_heap.specs.Objects.{address_cmp, ObjectMap, with_field, with_value, Object}
+use Rattle.pc_heap.specs.Parts.{object_in}
 use Rattle.pc_heap.specs.declared.value.Address.{Address}
 use Rattle.pc_heap.specs.declared.value.Value.{Value}
 use Rattle.pc_heap.specs.declared.value.Value.TheVariants.{At}
 use Rattle.pc_core.specs.CoreData.{CoreData}
-use Rattle.pc_semantics.specs.Configurations.{own_address, environment_address, blank_object, environment, number_of_fields, main_create, start, start_of}
+use Rattle.pc_semantics.specs.Configurations.{own_address, environment_address, blank_object, environment, main_create, start, start_of}
+use Rattle.pc_semantics.specs.Parts.{number_of_fields}
 use Rattle.pc_tasks.specs.Fielded.{HasFields, Fielded}
 
 module _ (core : CoreData) where

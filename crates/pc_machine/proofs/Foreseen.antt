@@ -6,11 +6,11 @@ use Rattle.pc_semantics.specs.declared.actors.Actor.{Actor}
 use Rattle.pc_semantics.specs.declared.frames.Frame.{Frame}
 use Rattle.pc_semantics.specs.declared.frames.Task.{Task}
 use Rattle.pc_semantics.specs.declared.mailbox.Message.{Message}
-use Rattle.pc_semantics.specs.Configurations.{Configuration}
-use Rattle.pc_semantics.specs.Around.{Around, with_tasks}
-use Rattle.pc_semantics.specs.Step.{task_move, around, begin_method, printed_text, take_first}
+use Rattle.pc_semantics.specs.Configurations.{Configuration, Around, with_tasks}
+use Rattle.pc_semantics.specs.Step.{task_move, around, printed_text, take_first}
+use Rattle.pc_semantics.specs.Parts.{begin_method, of_tasks, of_actor}
 use Rattle.pc_semantics.specs.declared.ahead.Ahead.TheVariants as ahead
-use Rattle.pc_semantics.specs.Ahead.{by_move, by_outcome, of_tasks, of_frames, of_actor, ahead_of}
+use Rattle.pc_semantics.specs.Ahead.{by_move, by_outcome, of_frames, ahead_of}
 use Rattle.pc_tasks.specs.Inside.{first_move}
 use Rattle.pc_machine.proofs.Stepped.{head_rest, none_first}
 

@@ -19,9 +19,9 @@ use Rattle.pc_semantics.specs.declared.frames.Task.{Task}
 use Rattle.pc_semantics.specs.declared.mailbox.Message.{Message}
 use Rattle.pc_semantics.specs.declared.outcome.Outcome.{Outcome}
 use Rattle.pc_semantics.specs.declared.outcome.Outcome.TheVariants.{Moved, Skipped, Lacks, TooLong}
-use Rattle.pc_semantics.specs.Configurations.{Configuration, with_frames, own_address, blank_object, environment, environment_address, start, start_of, main_create}
-use Rattle.pc_semantics.specs.Around.{Move, Stuck, Overflows, Goes, Writes, Makes, Spawns, Enters, Sends, Leaves}
-use Rattle.pc_semantics.specs.Step.{begin_method, begun, delivered, left, made, printed_text, run_frames, run_task, step, step_of, take, take_first}
+use Rattle.pc_semantics.specs.Configurations.{Configuration, with_frames, own_address, blank_object, environment, environment_address, start, start_of, main_create, Move, Stuck, Overflows, Goes, Writes, Makes, Spawns, Enters, Sends, Leaves}
+use Rattle.pc_semantics.specs.Parts.{begin_method, begun, delivered, run_task, step_of}
+use Rattle.pc_semantics.specs.Step.{left, made, printed_text, run_frames, step, take, take_first}
 use Rattle.pc_semantics.specs.Text.{waiting}
 
 pub record Grown (c d : Configuration) : Type 0 where

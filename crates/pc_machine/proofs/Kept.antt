@@ -6,7 +6,8 @@ use Rattle.std.specs.FinMap.{get, len}
 use Rattle.std.proofs.lemmas.List.{length-set}
 use Rattle.pc_lists.proofs.Gets.{get_below}
 use Rattle.pc_heap.specs.Heaps.{object_limit}
-use Rattle.pc_heap.specs.Objects.{ObjectMap, with_field, object_in}
+use Rattle.pc_heap.specs.Objects.{ObjectMap, with_field}
+use Rattle.pc_heap.specs.Parts.{object_in}
 use Rattle.pc_heap.specs.declared.value.Address.{Address}
 use Rattle.pc_heap.specs.declared.value.Value.{Value}
 use Rattle.pc_heap.specs.declared.value.Value.TheVariants.{Num, Truth, Text, Prim, At}
@@ -17,9 +18,9 @@ use Rattle.pc_semantics.specs.declared.frames.Frame.{Frame}
 use Rattle.pc_semantics.specs.declared.frames.Task.{Task}
 use Rattle.pc_semantics.specs.declared.mailbox.Message.{Message}
 use Rattle.pc_semantics.specs.declared.outcome.Outcome.{Outcome}
-use Rattle.pc_semantics.specs.Configurations.{Configuration, own_address, with_frames}
-use Rattle.pc_semantics.specs.Around.{Move, Stuck, Overflows, Goes, Writes, Makes, Spawns, Enters, Sends, Leaves, with_tasks}
-use Rattle.pc_semantics.specs.Step.{around, begin_method, begun, delivered, made, printed_text, run_frames, run_task, step, step_of, take, take_first}
+use Rattle.pc_semantics.specs.Configurations.{Configuration, own_address, with_frames, Move, Stuck, Overflows, Goes, Writes, Makes, Spawns, Enters, Sends, Leaves, with_tasks}
+use Rattle.pc_semantics.specs.Step.{around, made, printed_text, run_frames, step, take, take_first}
+use Rattle.pc_semantics.specs.Parts.{begin_method, begun, delivered, run_task, step_of}
 use Rattle.pc_machine.specs.States.{Sound, IsSound}
 use Rattle.pc_machine.proofs.Allowed.{Allowed, task_allowed}
 use Rattle.pc_machine.proofs.Entitled.{field_written, object_comes}

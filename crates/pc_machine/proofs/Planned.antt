@@ -12,9 +12,9 @@ use Rattle.pc_semantics.specs.declared.frames.Frame.{Frame}
 use Rattle.pc_semantics.specs.declared.mailbox.Message.{Message}
 use Rattle.pc_semantics.specs.declared.outcome.Outcome.{Outcome}
 use Rattle.pc_semantics.specs.declared.outcome.Outcome.TheVariants.{Moved}
-use Rattle.pc_semantics.specs.Configurations.{Configuration, own_address, with_frames}
-use Rattle.pc_semantics.specs.Around.{with_slot, none}
-use Rattle.pc_semantics.specs.Step.{around, made, delivered}
+use Rattle.pc_semantics.specs.Configurations.{Configuration, own_address, with_frames, with_slot, none}
+use Rattle.pc_semantics.specs.Step.{around, made}
+use Rattle.pc_semantics.specs.Parts.{delivered}
 use Rattle.pc_machine.specs.declared.plan.Change.{Change}
 use Rattle.pc_machine.specs.declared.plan.Change.TheVariants.{Gives, Enters, Leaves}
 use Rattle.pc_machine.specs.declared.plan.Plan.{Plan}

@@ -1,10 +1,16 @@
 -- Arguments that are popped.
 use Rattle.std.proofs.Common.{Bor, ◌≡◌, ℕ, zero, suc, ◌-◌, ◌<◌, ◌≤◌, List, [], ◌∷◌, ◌++◌, length, take, drop, Option, Some, None, refl, sym, ap, ◌∙◌, inl, inr, arith, append_assoc}
-use Rattle.std.specs.Prelude.{reverse, IsSome, IfSome, ◌↔◌, MatchOption}
+use Rattle.std.specs.Prelude.{slice_get, reverse, IsSome, IfSome, ◌↔◌, MatchOption}
 use Rattle.std.proofs.lemmas.List.{append-nil, reverse-append, length-drop}
 use Rattle.std.proofs.lemmas.Bool.{cases_lt, true≢false}
 use Rattle.pc_heap.specs.declared.value.Value.{Value}
-use Rattle.pc_semantics.specs.Around.{popped}
+use Rattle.pc_core.specs.CoreData.{CoreData}
+use Rattle.pc_core.specs.declared.nodes.NodeKind.TheVariants as node
+use Rattle.pc_semantics.specs.declared.frames.Frame.{Frame}
+use Rattle.pc_semantics.specs.declared.outcome.Lack.TheVariants as lack
+use Rattle.pc_semantics.specs.Configurations.{Around, given, pop_arguments, popped, value_entity, with_stack}
+use Rattle.pc_semantics.specs.Calls.{invoke_task}
+use Rattle.pc_semantics.specs.Parts.{invoke_on, with_popped}
 
 pub popped_enough : (k : ℕ) (xs arguments : List Value) → k ≤ length xs → popped k xs arguments ≡ Some (reverse (take k xs) ++ arguments, drop k xs)
 popped_enough zero xs arguments l = refl
@@ -60,3 +66,11 @@ pub below_short : (count : ℕ) (xs : List Value) → 0 < count → 0 < length x
 below_short count xs some top l =
     let m : length (drop 1 xs) < count - 1 = omega (arith, length-drop 1 xs, some, top, l) in
     popped_short (count - 1) (drop 1 xs) [] m
+
+-- ---- a call, by what is popped
+
+pub invokes : (core : CoreData) (a : Around) (name : ℕ) (f : Frame) (cs : List ℕ) (this : Value) (vs rest : List Value) → slice_get f.stack 0 ≡ Some this → popped (length cs - 1) (drop 1 f.stack) [] ≡ Some (vs, rest)
+    → invoke_task core a f cs (node.Call name) ≡ invoke_on core a name this vs (with_stack f rest) (value_entity a.objects this)
+invokes core a name f cs this vs rest top below =
+    ap (λ (o : Option Value). given lack.Value o (λ v. pop_arguments (with_stack f (drop 1 f.stack)) (length cs - 1) (λ us g. invoke_on core a name v us g (value_entity a.objects v)))) top
+    ∙ ap (λ (o : Option (List Value × List Value)). with_popped (with_stack f (drop 1 f.stack)) o (λ us g. invoke_on core a name this us g (value_entity a.objects this))) below

@@ -13,9 +13,9 @@ use Rattle.pc_semantics.specs.declared.frames.Frame.{Frame}
 use Rattle.pc_semantics.specs.declared.mailbox.Message.{Message}
 use Rattle.pc_semantics.specs.declared.outcome.Outcome.{Outcome}
 use Rattle.pc_semantics.specs.declared.outcome.Outcome.TheVariants.{Moved}
-use Rattle.pc_semantics.specs.Configurations.{Configuration, own_address, with_frames}
-use Rattle.pc_semantics.specs.Around.{first_frame}
-use Rattle.pc_semantics.specs.Step.{begin_method, begun, printed_text, run_frames, step, step_of, take, take_first}
+use Rattle.pc_semantics.specs.Configurations.{Configuration, own_address, with_frames, first_frame}
+use Rattle.pc_semantics.specs.Parts.{begin_method, begun, step_of}
+use Rattle.pc_semantics.specs.Step.{printed_text, run_frames, step, take, take_first}
 use Rattle.pc_tasks.specs.Inside.{IsInside}
 use Rattle.pc_tasks.proofs.Steps.{inside_step}
 use Rattle.pc_machine.specs.Changed.{changed, framed, unmailed, frames_in, frames_of, messages_in}

@@ -3,7 +3,7 @@ use Rattle.std.specs.Prelude.{ℕ, List, [], ◌∷◌, Option, Some, None, slic
 use Rattle.pc_heap.specs.{declared.value.Value.Value, declared.value.Value.TheVariants.Text, declared.value.Value.TheVariants.At}
 use Rattle.pc_core.specs.CoreData.{CoreData}
 use Rattle.pc_lists.specs.Lists.{◌>>=◌}
-use Rattle.pc_semantics.specs.{declared.frames.Frame.Frame, declared.mailbox.Message.Message, Configurations.own_address, Around.first_frame}
+use Rattle.pc_semantics.specs.{declared.frames.Frame.Frame, declared.mailbox.Message.Message, Configurations.own_address, Configurations.first_frame}
 
 -- The text to print.
 abbrev pub only_text : List Value → Option (List ℕ)

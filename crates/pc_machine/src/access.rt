@@ -1,6 +1,7 @@
 //! What an actor is about to touch.
 ghost use Rattle.std.specs.Prelude.{◌≡◌, []};
 ghost use Rattle.pc_semantics.specs.Safety as spec;
+ghost use Rattle.pc_semantics.specs.Configurations as configurations;
 ghost use Rattle.pc_machine.specs.States.{configuration_of};
 
 use crate::state::State;
@@ -10,7 +11,7 @@ use pc_semantics::{Access, Frame, Task};
 
 // The address of the object that a value is.
 fn address_of(value: &Value) -> Option<Address>
-    ensures { result ≡ spec.address_of value.now }
+    ensures { result ≡ configurations.address_of value.now }
 {
     match value {
         Value::At(address) => Some(*address),

@@ -3,11 +3,12 @@ ghost use Rattle.std.specs.Prelude.{◌≡◌, ◌+◌, ℕ, length, slice_get, 
 ghost use Rattle.pc_semantics.specs.Ahead as spec;
 ghost use Rattle.pc_semantics.specs.Ahead.{by_move, by_outcome};
 ghost use Rattle.pc_heap.specs.Objects.{ObjectMap};
-ghost use Rattle.pc_semantics.specs.Around as around;
-ghost use Rattle.pc_semantics.specs.Around.{Around};
+ghost use Rattle.pc_semantics.specs.Configurations as around;
+ghost use Rattle.pc_semantics.specs.Configurations.{Around, Configuration};
 ghost use Rattle.pc_semantics.specs.Calls as calls;
-ghost use Rattle.pc_semantics.specs.Configurations.{Configuration};
-ghost use Rattle.pc_semantics.specs.Step.{begin_method, printed_text, take_first};
+ghost use Rattle.pc_semantics.specs.Parts as parts;
+ghost use Rattle.pc_semantics.specs.Parts.{begin_method};
+ghost use Rattle.pc_semantics.specs.Step.{printed_text, take_first};
 ghost use Rattle.pc_semantics.specs.declared.actors.Actor.{Actor};
 ghost use Rattle.pc_semantics.specs.declared.frames.Frame.{Frame};
 ghost use Rattle.pc_tasks.specs.Fielded.{Fielded};
@@ -26,7 +27,7 @@ use pc_tasks::{ahead_inside, is_inside};
 
 // A class's constructor with this number, with these arguments.
 fn object(core: &Core, number: u32, arguments: &[Value]) -> Ahead
-    ensures { (around : Around) (f : Frame) → result ≡ by_move (calls.make_of core.now around number arguments.now f (slice_get core.now.methods number)) }
+    ensures { (around : Around) (f : Frame) → result ≡ by_move (parts.make_of core.now around number arguments.now f (slice_get core.now.methods number)) }
 {
     let Some(method) = core.method_at(number) else {
         return Ahead::Lacks;
@@ -55,7 +56,7 @@ fn make(core: &Core, frame: &Frame, node: &Node) -> Ahead
 
 // An actor's constructor with this number, with these arguments.
 fn actor(core: &Core, number: u32, arguments: &[Value]) -> Ahead
-    ensures { (around : Around) (f : Frame) → result ≡ by_move (calls.spawn_of core.now around number arguments.now f (slice_get core.now.methods number)) }
+    ensures { (around : Around) (f : Frame) → result ≡ by_move (parts.spawn_of core.now around number arguments.now f (slice_get core.now.methods number)) }
 {
     let Some(method) = core.method_at(number) else {
         return Ahead::Lacks;
@@ -83,7 +84,7 @@ fn spawn(core: &Core, frame: &Frame, node: &Node) -> Ahead
 // The call of a function.
 fn function(method: &Method, arguments: &[Value]) -> Ahead
     ensures { (number : ℕ) (this : Value) (f : Frame) → result
-        ≡ by_move (calls.counted method.now arguments.now (calls.enter number method.now this arguments.now f method.now.body)) }
+        ≡ by_move (calls.counted method.now arguments.now (parts.enter number method.now this arguments.now f method.now.body)) }
 {
     if arguments.len() != method.params.len() {
         return Ahead::Lacks;
@@ -97,7 +98,7 @@ fn function(method: &Method, arguments: &[Value]) -> Ahead
 // The message of a method, to the receiver.
 fn message(actors: usize, method: &Method, this: &Value, arguments: &[Value]) -> Ahead
     ensures { (objects : ObjectMap) (i number : ℕ) (f : Frame) → result
-        ≡ by_move (calls.send (amid objects i actors) number method.now arguments.now f this.now) }
+        ≡ by_move (parts.send (amid objects i actors) number method.now arguments.now f this.now) }
 {
     let Some(receiver) = receiver_of(this, actors) else {
         return Ahead::Lacks;
@@ -147,7 +148,7 @@ fn call(
     this: &Value,
     arguments: &[Value],
 ) -> Ahead
-    ensures { (i : ℕ) (f : Frame) → result ≡ by_move (calls.invoke_on core.now (amid heap.now.objects i actors) name this.now arguments.now f
+    ensures { (i : ℕ) (f : Frame) → result ≡ by_move (parts.invoke_on core.now (amid heap.now.objects i actors) name this.now arguments.now f
         (around.value_entity heap.now.objects this.now)) }
 {
     let Some(entity) = entity_of(heap, this) else {
@@ -199,7 +200,7 @@ fn end_of(frame: &Frame, method: &Method) -> Ahead
 
 // The task Return of a frame.
 fn end(core: &Core, frame: &Frame) -> Ahead
-    ensures { result ≡ by_move (calls.return_task (relieved frame.now) (slice_get core.now.methods frame.now.method)) }
+    ensures { result ≡ by_move (parts.return_task (relieved frame.now) (slice_get core.now.methods frame.now.method)) }
 {
     match core.method_at(frame.method) {
         Some(method) => end_of(frame, method),

@@ -1,6 +1,6 @@
 //! The arguments of calls and messages.
 ghost use Rattle.std.specs.Prelude.{◌≡◌, ◌+◌, ◌-◌, ◌<◌, ◌≤◌, [], length, drop, Some, None, MatchOption, IfSome, OnSome, IfOk};
-ghost use Rattle.pc_semantics.specs.Around.{popped};
+ghost use Rattle.pc_semantics.specs.Configurations.{popped};
 
 use pc_heap::Value;
 use pc_semantics::{Arguments, Message, Stack};

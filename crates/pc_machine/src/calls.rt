@@ -1,7 +1,8 @@
 //! What constructors are about to do.
 ghost use Rattle.std.specs.Prelude.{◌≡◌, length, slice_get, IfOk};
-ghost use Rattle.pc_semantics.specs.Around.{Around};
-ghost use Rattle.pc_semantics.specs.Calls.{make_of, make_task, spawn_of, spawn_task};
+ghost use Rattle.pc_semantics.specs.Configurations.{Around};
+ghost use Rattle.pc_semantics.specs.Parts.{make_of, spawn_of};
+ghost use Rattle.pc_semantics.specs.Calls.{make_task, spawn_task};
 ghost use Rattle.pc_tasks.specs.Inside.{relieved};
 ghost use Rattle.pc_machine.specs.Plans.{after_call, move_of, PlanFits};
 ghost use Rattle.pc_semantics.specs.declared.frames.Frame.{Frame};

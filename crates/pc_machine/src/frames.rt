@@ -1,6 +1,6 @@
 //! The frames of an actor.
 ghost use Rattle.std.specs.Prelude.{◌≡◌, ◌-◌, ◌<◌, ◌≤◌, ◌++◌, ◌∷◌, [], length, map, replicate, slice_get, Some, None, IfSome, IfOk, OnOk, OnErr};
-ghost use Rattle.pc_semantics.specs.Around.{first_frame, pushed};
+ghost use Rattle.pc_semantics.specs.Configurations.{first_frame, pushed};
 ghost use Rattle.pc_semantics.specs.declared.frames.Task.TheVariants.{Eval};
 ghost use Rattle.pc_machine.specs.Plans.{after_call, given, entered, ended, frames_changed, Suits};
 

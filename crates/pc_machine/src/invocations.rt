@@ -1,9 +1,10 @@
 //! What the call of a method by its name is about to do.
 ghost use Rattle.std.specs.Prelude.{◌≡◌, ◌+◌, ℕ, length, IfOk};
 ghost use Rattle.pc_heap.specs.Objects.{ObjectMap};
-ghost use Rattle.pc_semantics.specs.Around as around;
-ghost use Rattle.pc_semantics.specs.Around.{Around};
+ghost use Rattle.pc_semantics.specs.Configurations as around;
+ghost use Rattle.pc_semantics.specs.Configurations.{Around};
 ghost use Rattle.pc_semantics.specs.Calls as spec;
+ghost use Rattle.pc_semantics.specs.Parts as parts;
 ghost use Rattle.pc_tasks.specs.Inside.{amid, relieved};
 ghost use Rattle.pc_machine.specs.Plans.{after_call, receiver_in, move_of, PlanFits};
 ghost use Rattle.pc_semantics.specs.declared.frames.Frame.{Frame};
@@ -28,7 +29,7 @@ fn plan_function(
 ) -> Result<Plan, AllocError>
     ensures means { IfOk result (λ plan. (around : Around) (f : Frame) → move_of around plan f
         ≡ spec.counted method.now arguments.now
-        (spec.enter number method.now this.now arguments.now (after_call (length arguments.now + 1) f) method.now.body)) }
+        (parts.enter number method.now this.now arguments.now (after_call (length arguments.now + 1) f) method.now.body)) }
     ensures fits { IfOk result (λ plan. PlanFits plan (length arguments.now + 1)) }
 {
     if arguments.len() != method.params.len() {
@@ -67,7 +68,7 @@ fn plan_message(
     arguments: &[Value],
 ) -> Result<Plan, AllocError>
     ensures means { IfOk result (λ plan. (objects : ObjectMap) (i : ℕ) (f : Frame) → move_of (amid objects i actors) plan f
-        ≡ spec.send (amid objects i actors) number method.now arguments.now (after_call (length arguments.now + 1) f) this.now) }
+        ≡ parts.send (amid objects i actors) number method.now arguments.now (after_call (length arguments.now + 1) f) this.now) }
     ensures fits { IfOk result (λ plan. PlanFits plan (length arguments.now + 1)) }
 {
     let Some(receiver) = receiver_of(this, actors) else {
@@ -116,7 +117,7 @@ fn plan_call(
     arguments: &[Value],
 ) -> Result<Plan, AllocError>
     ensures means { IfOk result (λ plan. (i : ℕ) (f : Frame) → move_of (amid heap.now.objects i actors) plan f
-        ≡ spec.invoke_on core.now (amid heap.now.objects i actors) name this.now arguments.now
+        ≡ parts.invoke_on core.now (amid heap.now.objects i actors) name this.now arguments.now
         (after_call (length arguments.now + 1) f) (around.value_entity heap.now.objects this.now)) }
     ensures fits { IfOk result (λ plan. PlanFits plan (length arguments.now + 1)) }
 {

@@ -1,8 +1,8 @@
 //! What a core and a heap determine about entities.
 ghost use Rattle.std.specs.Prelude.{◌≡◌, ◌≤◌, slice_get};
 ghost use Rattle.pc_caps.specs.Limits.{field_limit};
-ghost use Rattle.pc_semantics.specs.Around as around;
-ghost use Rattle.pc_semantics.specs.Configurations.{number_of_fields};
+ghost use Rattle.pc_semantics.specs.Configurations as around;
+ghost use Rattle.pc_semantics.specs.Parts.{number_of_fields};
 
 use pc_core::Core;
 use pc_heap::{Heap, Value};

@@ -1,7 +1,7 @@
 //! What the end of a method is about to do.
 ghost use Rattle.std.specs.Prelude.{◌≡◌, length, slice_get, Some, IfOk};
-ghost use Rattle.pc_semantics.specs.Around.{Around};
-ghost use Rattle.pc_semantics.specs.Calls.{return_task};
+ghost use Rattle.pc_semantics.specs.Configurations.{Around};
+ghost use Rattle.pc_semantics.specs.Parts.{return_task};
 ghost use Rattle.pc_tasks.specs.Inside.{relieved};
 ghost use Rattle.pc_machine.specs.Plans.{move_of, PlanFits};
 

@@ -1,7 +1,8 @@
 //! `string` of numbers and truth values, which no entity declares.
 ghost use Rattle.std.specs.Prelude.{◌≡◌, ◌+◌, decimal, length, IfOk};
 ghost use Rattle.pc_semantics.specs.Calls as spec;
-ghost use Rattle.pc_semantics.specs.Around.{Around};
+ghost use Rattle.pc_semantics.specs.Parts as parts;
+ghost use Rattle.pc_semantics.specs.Configurations.{Around};
 ghost use Rattle.pc_machine.specs.Plans.{after_call, move_of, PlanFits};
 ghost use Rattle.pc_semantics.specs.declared.frames.Frame.{Frame};
 
@@ -35,7 +36,7 @@ fn number_text(alloc: Global, number: u64) -> Result<List<u8>, AllocError>
 
 // The text of a truth value.
 fn truth_text(alloc: Global, truth: bool) -> Result<List<u8>, AllocError>
-    ensures { IfOk result (λ text. text ≡ spec.truth_text truth) }
+    ensures { IfOk result (λ text. text ≡ parts.truth_text truth) }
 {
     if truth {
         List::from_slice(alloc, b"true")

@@ -1,6 +1,7 @@
 //! The highest level of a tree.
 ghost use Rattle.std.specs.Prelude.{◌≡◌, min, max, map, ◌-◌, ◌^◌};
-ghost use Rattle.pc_tree.specs.Depths.{depth as expr_depth, seq_depth, item_depth, suffix_depth, arm_depth, exprs_depth, suffixes_depth, arms_depth, items_depth, other_depth, value_depth, body_depth, fields_depth, methods_depth, entities_depth, file_depth};
+ghost use Rattle.pc_tree.specs.Depths.{depth as expr_depth, seq_depth, item_depth, suffix_depth, arm_depth, exprs_depth, suffixes_depth, arms_depth, items_depth, other_depth, file_depth};
+ghost use Rattle.pc_tree.specs.Levels.{value_depth, body_depth, fields_depth, methods_depth, entities_depth};
 ghost use Rattle.pc_tree.specs.View.{expr_view, item_view, suffix_view, arm_view, seq_view, exprs_view, suffixes_view, arms_view, items_view, other_view, maybe_expr, maybe_seq, field_view, method_view, entity_view, file_view};
 
 use pc_tree::{Arm, Entity, Expr, FieldDef, File, Item, MethodDef, Seq, Suffix};

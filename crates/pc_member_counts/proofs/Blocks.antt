@@ -14,7 +14,8 @@ use Rattle.pc_tree.specs.Tree as t
 use Rattle.pc_members.specs.Members.{method_texts, entity_names, IsTransitiveClosure, is_takable}
 use Rattle.pc_members.specs.Founded.{IsFounded}
 use Rattle.pc_members.specs.Edges.{entity_numbers}
-use Rattle.pc_members.specs.MemberLists.{of_entity, of_each, trait_methods, abstract_methods}
+use Rattle.pc_members.specs.MemberLists.{of_each, trait_methods, abstract_methods}
+use Rattle.pc_members.specs.Parts.{of_entity}
 use Rattle.pc_members.proofs.Ranks.{Target, steady, rank_few}
 use Rattle.pc_member_counts.specs.declared.block.Block.{Block}
 use Rattle.pc_member_counts.specs.Blocks.{nothing, single, followed, takable}

@@ -8,7 +8,8 @@ use Rattle.pc_lists.proofs.Elements.{differ_none, has_on, has_either}
 use Rattle.pc_lists.proofs.Gets.{get_map}
 use Rattle.pc_tree.specs.declared.written_names.Name.{Name}
 use Rattle.pc_tree.specs.Tree as t
-use Rattle.pc_members.specs.MemberLists.{is_among, with_names, firsts, entity_named, of_entity, of_each, trait_methods}
+use Rattle.pc_members.specs.MemberLists.{is_among, with_names, firsts, entity_named, of_each, trait_methods}
+use Rattle.pc_members.specs.Parts.{of_entity}
 use Rattle.pc_members.specs.Members.{method_texts}
 use Rattle.pc_members.proofs.Differences.{names_differ, among_has, has_among}
 use Rattle.pc_members.proofs.Completed.{among_parts, names_known}

@@ -11,7 +11,8 @@ use Rattle.pc_masks.specs.declared.mask.Mask.{Mask}
 use Rattle.pc_masks.specs.Masks.{has, without_number}
 use Rattle.pc_lists.specs.Lists.{Differ, Text}
 use Rattle.pc_lists.proofs.Gets.{get_below}
-use Rattle.pc_members.specs.MemberLists.{is_among, find_name}
+use Rattle.pc_members.specs.MemberLists.{is_among}
+use Rattle.pc_members.specs.Parts.{find_name}
 use Rattle.pc_members.proofs.Differences.{same_text, equal_texts}
 use Rattle.pc_members.proofs.Ranks.{name_place}
 use Rattle.pc_member_counts.specs.Numbers.{number_in, numbers_in}

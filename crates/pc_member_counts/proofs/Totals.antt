@@ -9,7 +9,8 @@ use Rattle.pc_lists.proofs.Elements.{has_on}
 use Rattle.pc_tree.specs.Kinds.{is_abstract}
 use Rattle.pc_tree.specs.Tree as t
 use Rattle.pc_members.specs.MemberLists.{is_among, firsts, taken_over, of_each, trait_methods, abstract_methods, members, abstract_members, concrete_members}
-use Rattle.pc_members.specs.Members.{method_texts, has_added, written, without_body, own_texts, added_if}
+use Rattle.pc_members.specs.Members.{method_texts, has_added, written, without_body, own_texts}
+use Rattle.pc_members.specs.Parts.{added_if}
 use Rattle.pc_member_counts.specs.Numbers.{method_names}
 use Rattle.pc_member_counts.specs.Totals.{takes, gets, got, own_count, totals}
 use Rattle.pc_member_counts.proofs.Sights.{absent_is, sight_firsts}

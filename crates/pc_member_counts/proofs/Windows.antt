@@ -14,7 +14,8 @@ use Rattle.pc_lists.proofs.Gets.{get_below, get_take, get_drop}
 use Rattle.pc_tree.specs.Kinds.{is_abstract}
 use Rattle.pc_tree.specs.Tree as t
 use Rattle.pc_members.specs.MemberLists.{is_among, of_each, abstract_methods}
-use Rattle.pc_members.specs.Members.{field_texts, method_texts, entity_names, has_added, added_text, own_texts}
+use Rattle.pc_members.specs.Members.{field_texts, method_texts, entity_names, has_added, own_texts}
+use Rattle.pc_members.specs.Parts.{added_text}
 use Rattle.pc_members.specs.Founded.{IsFounded}
 use Rattle.pc_members.specs.Rounds.{ClosesOwn}
 use Rattle.pc_members.proofs.Completed.{among_parts}

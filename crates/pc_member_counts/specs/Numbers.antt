@@ -2,7 +2,7 @@
 use Rattle.std.specs.Prelude.{ℕ, List, [], ◌∷◌, ◌++◌, map}
 use Rattle.std.specs.{List.position_or_len, Str.bytes_eq}
 use Rattle.pc_lists.specs.Lists.{Text}
-use Rattle.pc_members.specs.{Members.field_texts, Members.method_texts, Members.has_added, Members.added_text, MemberLists.with_names, Edges.entity_numbers}
+use Rattle.pc_members.specs.{Members.field_texts, Members.method_texts, Members.has_added, Parts.added_text, MemberLists.with_names, Edges.entity_numbers}
 use Rattle.pc_member_counts.specs.declared.listing.Listing.{Listing}
 use Rattle.pc_tree.specs.Tree as t
 

@@ -1,7 +1,7 @@
 //! The names of each entity, by their numbers.
 ghost use Rattle.std.specs.Prelude.{◌≡◌, ◌++◌, map, IfOk, OnOk};
 ghost use Rattle.pc_tree.specs.View.{entity_view};
-ghost use Rattle.pc_members.specs.Members.{added_text};
+ghost use Rattle.pc_members.specs.Parts.{added_text};
 ghost use Rattle.pc_members.specs.Members as words;
 ghost use Rattle.pc_member_counts.specs.Numbers as spec;
 

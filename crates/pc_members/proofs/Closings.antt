@@ -8,7 +8,8 @@ use Rattle.std.proofs.lemmas.List.Quantifiers.{position-Some}
 use Rattle.pc_lists.specs.Lists.{Has, IsIn, Text}
 use Rattle.pc_tree.specs.declared.written_names.Name.{Name}
 use Rattle.pc_tree.specs.Tree as t
-use Rattle.pc_members.specs.Members.{entity_names, or_nil, ProvidesInFile, LeadsInFile, one, more, IsAbove, IsTransitiveClosure}
+use Rattle.pc_members.specs.Members.{entity_names, ProvidesInFile, LeadsInFile, one, more, IsAbove, IsTransitiveClosure}
+use Rattle.pc_members.specs.Parts.{or_nil}
 use Rattle.pc_members.specs.Edges.{edges_from, EdgePath, link, links, reached, ascending, above_all, entity_numbers, own_edges, edges_of}
 use Rattle.pc_tree.specs.Kinds.{first_own}
 use Rattle.pc_members.proofs.Reached.{Within, above_length, above_get, ascending_ascends, listed_led, led_listed}

@@ -6,8 +6,10 @@ use Rattle.pc_tree.specs.declared.kinds.EntityKind.{EntityKind}
 use Rattle.pc_tree.specs.Kinds.{is_abstract}
 use Rattle.pc_tree.specs.Tree as t
 use Rattle.pc_lists.specs.Lists.{Text}
-use Rattle.pc_members.specs.MemberLists.{is_among, with_name, with_names, or_no_members, methods_taken_over, of_each, abstract_methods, members, abstract_members, concrete_members}
-use Rattle.pc_members.specs.Members.{entity_names, has_added, IsTransitiveClosure, Member, written, without_body, is_takable, own_texts, added_if}
+use Rattle.pc_members.specs.MemberLists.{is_among, with_name, with_names, methods_taken_over, of_each, abstract_methods, members, abstract_members, concrete_members}
+use Rattle.pc_members.specs.Parts.{or_no_members}
+use Rattle.pc_members.specs.Members.{entity_names, has_added, IsTransitiveClosure, Member, written, without_body, is_takable, own_texts}
+use Rattle.pc_members.specs.Parts.{added_if}
 use Rattle.pc_members.specs.Founded.{IsFounded}
 use Rattle.pc_members.specs.Rounds.{ClosesOwn, Knows, methods_written, bodiless, taken_members, completed, completed_from, concrete, own_members, named_all}
 use Rattle.pc_members.proofs.Differences.{equal_texts}

@@ -3,7 +3,8 @@ use Rattle.std.proofs.Common.{◌≡◌, List, [], ◌∷◌, ◌++◌, Bool, tr
 use Rattle.pc_tree.specs.declared.kinds.EntityKind.{EntityKind}
 use Rattle.pc_tree.specs.declared.written_names.Name.{Name}
 use Rattle.pc_lists.specs.Lists.{Text}
-use Rattle.pc_members.specs.MemberLists.{is_among, find_name, with_names}
+use Rattle.pc_members.specs.MemberLists.{is_among, with_names}
+use Rattle.pc_members.specs.Parts.{find_name}
 use Rattle.pc_members.specs.Members.{Member, member_text}
 use Rattle.pc_members.specs.Rounds.{first_members, member_texts, taken_members, with_taken, is_taken, named_all, table_members}
 

@@ -14,8 +14,10 @@ use Rattle.pc_tree.specs.declared.written_names.Name.{Name}
 use Rattle.pc_tree.specs.Kinds.{is_abstract, first_own}
 use Rattle.pc_tree.specs.Tree as t
 use Rattle.pc_lists.specs.Lists.{Has, Differ, Ascends, Text}
-use Rattle.pc_members.specs.MemberLists.{is_among, find_name, or_no_members, firsts, entity_named, of_entity, of_each, trait_methods, abstract_methods}
-use Rattle.pc_members.specs.Members.{built_in_names, texts_of, entity_names, or_nil, entity_at, ProvidesInFile, LeadsInFile, one, more, IsAbove, IsTransitiveClosure, Member, written}
+use Rattle.pc_members.specs.MemberLists.{is_among, firsts, entity_named, of_each, trait_methods, abstract_methods}
+use Rattle.pc_members.specs.Parts.{find_name, or_no_members, of_entity}
+use Rattle.pc_members.specs.Members.{built_in_names, texts_of, entity_names, entity_at, ProvidesInFile, LeadsInFile, one, more, IsAbove, IsTransitiveClosure, Member, written}
+use Rattle.pc_members.specs.Parts.{or_nil}
 use Rattle.pc_members.specs.Founded.{IsFounded}
 use Rattle.pc_members.proofs.Differences.{same_text, equal_texts}
 use Rattle.pc_lists.proofs.Bools.{true_false}

@@ -7,7 +7,8 @@ use Rattle.pc_lists.proofs.Gets.{get_below, get_drop, get_set_same, get_set_othe
 use Rattle.pc_tree.specs.Kinds.{is_abstract, first_own}
 use Rattle.pc_tree.specs.Tree as t
 use Rattle.pc_lists.specs.Lists.{Text}
-use Rattle.pc_members.specs.Members.{entity_names, or_nil, Member}
+use Rattle.pc_members.specs.Members.{entity_names, Member}
+use Rattle.pc_members.specs.Parts.{or_nil}
 use Rattle.pc_members.specs.Founded.{IsFounded}
 use Rattle.pc_members.specs.Rounds.{gathered, methods_written, rank, ClosesOwn, Knows, IsReached}
 use Rattle.pc_members.proofs.Ranks.{gathers, rank_few, rank_at}

@@ -2,7 +2,8 @@
 use Rattle.std.proofs.Common.{◌≡◌, List, [], ◌∷◌, ◌++◌, refl, sym, ap, ◌∙◌, append_assoc}
 use Rattle.pc_tree.specs.Tree as t
 use Rattle.pc_lists.specs.Lists.{Text}
-use Rattle.pc_members.specs.Members.{field_texts, method_texts, has_added, added_text, own_texts}
+use Rattle.pc_members.specs.Members.{field_texts, method_texts, has_added, own_texts}
+use Rattle.pc_members.specs.Parts.{added_text}
 use Rattle.pc_members.specs.MemberLists.{with_name, with_names}
 
 -- The first ones, then the others.

@@ -1,8 +1,8 @@
 -- The `is` lists of a file, as edges between the numbers of its entities.
-use Rattle.std.specs.Prelude.{ℕ, zero, suc, ◌+◌, Bool, true, false, List, [], ◌∷◌, ◌++◌, length, Option, Some, None, slice_get, nat_eq, if◌then◌else◌, replicate, option_to_list, position}
+use Rattle.std.specs.Prelude.{ℕ, zero, suc, ◌+◌, Bool, true, false, List, [], ◌∷◌, ◌++◌, length, Option, Some, None, slice_get, nat_eq, if◌then◌else◌, replicate, option_to_list, position, unwrap_or}
 use Rattle.std.specs.Str.{bytes_eq}
 use Rattle.pc_lists.specs.Lists.{IsIn, Text}
-use Rattle.pc_members.specs.Members.{or_nil, entity_names}
+use Rattle.pc_members.specs.Members.{entity_names}
 use Rattle.pc_tree.specs.{declared.written_names.Name.Name, Kinds.first_own}
 use Rattle.pc_tree.specs.Tree as t
 
@@ -13,7 +13,7 @@ abbrev pub Edges : Type 0
 Edges = List (List ℕ)
 
 abbrev pub edges_from : Edges → ℕ → List ℕ
-edges_from e a = or_nil (slice_get e a)
+edges_from e a = unwrap_or (slice_get e a) []
 
 abbrev pub has_number : List ℕ → ℕ → Bool
 has_number [] b = false
@@ -58,8 +58,6 @@ above_from e a (suc k) = ascending (reached e a) 0 (length e) ∷ above_from e (
 
 abbrev pub above_all : Edges → List (List ℕ)
 above_all e = above_from e 0 (length e)
-
--- ---- chains
 
 -- A chain of one or more edges leads from one number to another.
 pub data EdgePath (e : Edges) : (from to : ℕ) → Type 0 where

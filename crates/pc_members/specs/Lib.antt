@@ -6,3 +6,4 @@ pub mod Views
 pub mod Rounds
 pub mod Numbered
 pub mod Marks
+pub mod Parts

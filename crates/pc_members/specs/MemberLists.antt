@@ -1,9 +1,9 @@
 -- The members of an entity in the order of their numbers, each list made from those of the entities above it.
-use Rattle.std.specs.Prelude.{ℕ, List, [], ◌∷◌, ◌++◌, Option, position, if◌then◌else◌, zero, suc, ◌&&◌, not, map, length, Some, None, Bool, true}
-use Rattle.std.specs.{Str.bytes_eq, List.list_any}
-use Rattle.pc_lists.specs.Lists.{Text}
+use Rattle.std.specs.Prelude.{ℕ, List, [], ◌∷◌, ◌++◌, Option, if◌then◌else◌, zero, suc, ◌&&◌, not, map, length, Some, None, Bool, true}
+use Rattle.std.specs.{Str.bytes_eq, List.list_any, Option.option_map_or}
+use Rattle.pc_lists.specs.Lists.{Text, one_if}
 use Rattle.pc_tree.specs.{Kinds.is_abstract, declared.kinds.EntityKind.EntityKind, declared.written_names.Name.Name}
-use Rattle.pc_members.specs.Members.{has_added, Member, written, added, without_body, own_texts, is_takable, added_if, is_new}
+use Rattle.pc_members.specs.Members.{has_added, Member, written, added, without_body, own_texts, is_takable, is_new}
 use Rattle.pc_caps.specs.declared.span.Span.{Span}
 use Rattle.pc_tree.specs.Tree as t
 
@@ -15,11 +15,6 @@ member_span entity added = entity
 abbrev pub is_constructor : Member → Bool
 is_constructor (written m) = is_new m.word
 is_constructor added = true
-
--- The members that a table has at a place, or none if it does not have the place.
-abbrev pub or_no_members : Option (List Member) → List Member
-or_no_members None = []
-or_no_members (Some ms) = ms
 
 -- The text is in the list.
 abbrev pub is_among : Text → List Text → Bool
@@ -34,10 +29,6 @@ with_name names name = if is_among name names then names else names ++ name ∷ 
 abbrev pub with_names : List Text → List Text → List Text
 with_names names [] = names
 with_names names (x ∷ xs) = with_names (with_name names x) xs
-
--- The number of a name.
-abbrev pub find_name : List Text → Text → Option ℕ
-find_name names name = position (bytes_eq name) names
 
 -- The known names, with those of the traits among these entities appended.
 abbrev pub with_traits : List Text → List t.Entity → List Text
@@ -58,14 +49,10 @@ abbrev pub entity_named : List t.Entity → Text → Option t.Entity
 entity_named [] name = None
 entity_named (e ∷ es) name = if bytes_eq e.name.text name then Some e else entity_named es name
 
-abbrev pub of_entity : (t.Entity → List t.Method) → Option t.Entity → List t.Method
-of_entity methods None = []
-of_entity methods (Some e) = methods e
-
 -- The methods of the entities with these names, one after the other.
 abbrev pub of_each : (t.Entity → List t.Method) → List t.Entity → List Name → List t.Method
 of_each methods all [] = []
-of_each methods all (n ∷ ns) = of_entity methods (entity_named all n.text) ++ of_each methods all ns
+of_each methods all (n ∷ ns) = option_map_or methods (entity_named all n.text) [] ++ of_each methods all ns
 
 -- The methods of a trait or an interface: its own, and then, for each name of its `is` list in order, the methods of
 -- that entity whose names are new. The number bounds the length of a chain of `is`.
@@ -94,7 +81,7 @@ abbrev pub abstract_members : List t.Entity → t.Entity → List Member
 abstract_members all e = map (λ m. written (without_body m)) (abstract_methods all e)
 
 abbrev pub concrete_members : List t.Entity → t.Entity → List Member
-concrete_members all e = map written e.methods ++ (added_if (has_added e) ++ map written (taken_over all e))
+concrete_members all e = map written e.methods ++ (one_if (has_added e) added ++ map written (taken_over all e))
 
 abbrev pub members : List t.Entity → t.Entity → List Member
 members all e = if is_abstract e.kind then abstract_members all e else concrete_members all e

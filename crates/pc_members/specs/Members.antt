@@ -2,7 +2,7 @@
 -- takes over; and what they rest on: names, the numbers of entities, and chains of `is`.
 use Rattle.std.specs.Prelude.{ℕ, Bool, true, false, List, [], ◌∷◌, ◌++◌, map, Option, position, codes, if◌then◌else◌, Some, None, ◌≡◌, ◌↔◌, ◌+◌, length, slice_get, replicate, ◌&&◌, is_some}
 use Rattle.std.specs.{List.list_any, Str.bytes_eq}
-use Rattle.pc_lists.specs.Lists.{Text, Each, Has, Ascends}
+use Rattle.pc_lists.specs.Lists.{Text, Each, Has, Ascends, one_if}
 use Rattle.pc_tree.specs.{declared.kinds.MethodWord.MethodWord, Kinds.may_stand, Kinds.is_abstract, Kinds.first_own, declared.written_names.Name.Name, declared.kinds.EntityKind.EntityKind}
 use Rattle.pc_tree.specs.declared.kinds.MethodWord.TheVariants as word
 use Rattle.pc_tree.specs.Tree as t
@@ -46,11 +46,6 @@ has_constructor e = list_any (λ (m : t.Method). is_new m.word) e.methods
 abbrev pub has_added : t.Entity → Bool
 has_added e = if has_constructor e then false else may_stand e.kind word.New
 
--- The list, or the empty one if there is none.
-abbrev pub or_nil : Option (List ℕ) → List ℕ
-or_nil None = []
-or_nil (Some l) = l
-
 -- ---- chains of `is`, from an entity to the traits and interfaces that it provides
 
 -- The entity with this number.
@@ -78,15 +73,12 @@ IsAbove file a above = Ascends above × ((b : ℕ) → Has above b ↔ LeadsInFi
 abbrev pub IsTransitiveClosure : t.File → List (List ℕ) → Type 0
 IsTransitiveClosure file lists = (length lists ≡ first_own + length file.entities) × Each (λ a above. IsAbove file a above) lists
 
--- ---- members
-
+-- A member of an entity.
 pub data Member : Type 0 where
   -- a written method, in the entity itself or in a trait or an interface from which it is taken over
   written : t.Method → Member
   -- the constructor `create`, added to a class or actor without a constructor
   added : Member
-
--- ---- traits and interfaces
 
 -- A trait or an interface has its methods without bodies. The body belongs to each entity that takes the method over.
 abbrev pub without_body : t.Method → t.Method
@@ -95,20 +87,12 @@ without_body m = record { word = m.word; cap = m.cap; name = m.name; params = m.
 -- ---- classes, actors and primitives
 
 -- An entity's own names: those of its fields and methods, and of an added `create`.
-abbrev pub added_text : Bool → List Text
-added_text true = codes "create" ∷ []
-added_text false = []
-
 abbrev pub own_texts : t.Entity → List Text
-own_texts e = field_texts e.fields ++ (method_texts e.methods ++ added_text (has_added e))
+own_texts e = field_texts e.fields ++ (method_texts e.methods ++ one_if (has_added e) (codes "create"))
 
 -- An entity of this kind can take a method over if the method has a body and may be in such an entity.
 abbrev pub is_takable : EntityKind → t.Method → Bool
 is_takable k m = is_some m.body && may_stand k m.word
-
-abbrev pub added_if : Bool → List Member
-added_if true = added ∷ []
-added_if false = []
 
 abbrev pub member_text : Member → Text
 member_text (written m) = m.name.text

@@ -4,7 +4,7 @@
 use Rattle.std.specs.Prelude.{◌≡◌, ◌⊎◌, ◌&&◌, ◌<◌, Bool, true, false, not, ℕ, ◌-◌, ◌+◌, List, [], ◌∷◌, ◌++◌, map, drop, length, Option, Some, None, slice_get, if◌then◌else◌}
 use Rattle.pc_tree.specs.{declared.kinds.EntityKind.EntityKind, declared.written_names.Name.Name, Kinds.is_abstract, Kinds.first_own}
 use Rattle.pc_lists.specs.Lists.{Text}
-use Rattle.pc_members.specs.{MemberLists.is_among, MemberLists.find_name, MemberLists.with_names, MemberLists.or_no_members, MemberLists.abstract_methods, Members.has_added, Members.or_nil, Members.IsTransitiveClosure, Members.Member, Members.member_text, Members.written, Members.added, Members.without_body, Members.is_takable, Members.own_texts, Members.added_if}
+use Rattle.pc_members.specs.{MemberLists.is_among, Parts.find_name, MemberLists.with_names, Parts.or_no_members, MemberLists.abstract_methods, Members.has_added, Parts.or_nil, Members.IsTransitiveClosure, Members.Member, Members.member_text, Members.written, Members.added, Members.without_body, Members.is_takable, Members.own_texts, Parts.added_if}
 use Rattle.pc_tree.specs.Tree as t
 
 -- Of all members with the same name, the first. Members whose names are in `known` are left out.

@@ -1,7 +1,8 @@
 //! Names in the order of their first appearance, with their numbers.
 ghost use Rattle.std.specs.Prelude.{◌≡◌, ◌<◌, ◌^◌, [], length, true, IsTrue, OnOk, OnErr, slice_get};
 ghost use Rattle.std.specs.Option.{option_copied};
-ghost use Rattle.pc_members.specs.MemberLists.{find_name, with_name, is_among};
+ghost use Rattle.pc_members.specs.MemberLists.{with_name, is_among};
+ghost use Rattle.pc_members.specs.Parts.{find_name};
 
 use indexmap::IndexSet;
 use pc_keyed::KeyedBy;

@@ -1,7 +1,8 @@
 //! An entity's own names.
 ghost use Rattle.std.specs.Prelude.{◌≡◌, [], ◌++◌, map, OnOk, IfOk};
 ghost use Rattle.pc_tree.specs.View.{entity_view, field_view, method_view};
-ghost use Rattle.pc_members.specs.Members.{added_text, own_texts, field_texts, method_texts};
+ghost use Rattle.pc_members.specs.Members.{own_texts, field_texts, method_texts};
+ghost use Rattle.pc_members.specs.Parts.{added_text};
 ghost use Rattle.pc_members.specs.Members as words;
 ghost use Rattle.pc_members.specs.MemberLists.{with_names};
 

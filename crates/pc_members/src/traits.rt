@@ -3,7 +3,8 @@ ghost use Rattle.std.specs.Prelude.{◌≡◌, ◌++◌, ◌+◌, [], map, lengt
 ghost use Rattle.std.specs.Option.{option_copied};
 ghost use Rattle.pc_tree.specs.View.{entity_view, file_view, method_view};
 ghost use Rattle.pc_members.specs.Founded.{IsFounded};
-ghost use Rattle.pc_members.specs.MemberLists.{or_no_members, find_name, with_names};
+ghost use Rattle.pc_members.specs.MemberLists.{with_names};
+ghost use Rattle.pc_members.specs.Parts.{or_no_members, find_name};
 ghost use Rattle.pc_members.specs.Members.{written, entity_names};
 ghost use Rattle.pc_members.specs.Rounds as spec;
 ghost use Rattle.pc_members.specs.Numbered.{maybe_numbered, numbered_table, numbered_view};

@@ -11,7 +11,8 @@ use Rattle.pc_names.specs.declared.fault.NameFault.{NameFault}
 use Rattle.pc_names.specs.declared.fault.NameFault.TheVariants as fault
 use Rattle.pc_names.specs.declared.fault.Which.TheVariants as which
 use Rattle.pc_members.specs.Members.{texts_of}
-use Rattle.pc_names.specs.Faults.{method_count, count_faults, main_faults, where_}
+use Rattle.pc_names.specs.Faults.{count_faults, main_faults}
+use Rattle.pc_names.specs.Parts.{method_count, where_}
 use Rattle.pc_caps.specs.Limits.{method_limit}
 use Rattle.pc_names.specs.Mains.{is_main}
 use Rattle.pc_names.specs.Laws.{fault_start}

@@ -20,7 +20,9 @@ use Rattle.pc_names.specs.declared.fault.Which.TheVariants as which
 use Rattle.pc_members.specs.MemberLists.{is_among, with_name, with_traits, trait_names}
 use Rattle.pc_members.specs.Members.{built_in_names, entity_names, texts_of, has_added, field_texts, method_texts}
 use Rattle.pc_names.specs.Faults as spec
-use Rattle.pc_names.specs.Faults.{where_, either_fault}
+use Rattle.pc_names.specs.Parts as parts
+use Rattle.pc_names.specs.Faults.{either_fault}
+use Rattle.pc_names.specs.Parts.{where_}
 use Rattle.pc_members.proofs.Named.{is_trait_named}
 use Rattle.pc_file_spec.proofs.Tables.{names_there, names_kept}
 use Rattle.pc_name_laws.specs.Uses.{param_texts}
@@ -52,7 +54,7 @@ abbrev entity_text : t.Entity → Text
 entity_text e = e.name.text
 
 abbrev name_part : List Text → t.Entity → List NameFault
-name_part known e = either_fault (is_among e.name.text known) (fault.Double e.name.span) (not (nat_lt (length known) spec.known_limit)) (fault.TooMany which.Entities e.name.span)
+name_part known e = either_fault (is_among e.name.text known) (fault.Double e.name.span) (not (nat_lt (length known) parts.known_limit)) (fault.TooMany which.Entities e.name.span)
 
 -- After known names: the list is one that is traversed.
 names_walk : (known : List Text) (es : List t.Entity) → spec.entity_name_faults known es ≡ walk entity_text name_part known es
@@ -82,9 +84,9 @@ name_lists : (file : t.File) (i : ℕ) (e : t.Entity) → slice_get file.entitie
 name_lists file i e at =
     let known = built_in_names ++ take i (texts_of file.entities) in
     let count : length known ≡ 6 + i = length-append built_in_names (take i (texts_of file.entities)) ∙ ap (λ n. 6 + n) (first_count entity_text file.entities i e at) in
-    lists_either (is_among e.name.text known) (not (nat_lt (length known) spec.known_limit)) (fault.Double e.name.span) (fault.TooMany which.Entities e.name.span) (IsRepeated file i e.name.text) (1000 ≤ i)
+    lists_either (is_among e.name.text known) (not (nat_lt (length known) parts.known_limit)) (fault.Double e.name.span) (fault.TooMany which.Entities e.name.span) (IsRepeated file i e.name.text) (1000 ≤ i)
     (tests_repeated e.name.text file.entities i)
-    (tests_turned (not (nat_lt (length known) spec.known_limit)) (spec.known_limit ≤ 6 + i) (1000 ≤ i) (λ l. omega (arith, l)) (λ l. omega (arith, l)) (tests_limit 6 (length known) i count spec.known_limit))
+    (tests_turned (not (nat_lt (length known) parts.known_limit)) (parts.known_limit ≤ 6 + i) (1000 ≤ i) (λ l. omega (arith, l)) (λ l. omega (arith, l)) (tests_limit 6 (length known) i count parts.known_limit))
 
 pub entities_list : (file : t.File) → Lists (spec.entity_name_faults built_in_names file.entities) (IsEntityFault file)
 entities_list file = subst (λ l. Lists l (IsEntityFault file)) (sym (names_walk built_in_names file.entities)) whole
@@ -113,7 +115,7 @@ Missing file ty f = (f ≡ fault.Unknown ty.name.span) × (IsEntity file ty.name
 type_lists : (file : t.File) (ty : TypeRef) → Lists (spec.type_faults (entity_names file) ty) (Missing file ty)
 type_lists file ty = lists_where (not (is_among ty.name.text (entity_names file))) (fault.Unknown ty.name.span) (IsEntity file ty.name.text → ⊥) (tests_entity file ty.name.text)
 
-result_lists : (file : t.File) (r : Option TypeRef) → Lists (spec.result_faults (entity_names file) r) (λ f. (ty : TypeRef) × (r ≡ Some ty) × Missing file ty f)
+result_lists : (file : t.File) (r : Option TypeRef) → Lists (parts.result_faults (entity_names file) r) (λ f. (ty : TypeRef) × (r ≡ Some ty) × Missing file ty f)
 result_lists file None = lists_turned [] (λ f. ⊥) (λ f. (ty : TypeRef) × (None ≡ Some ty) × Missing file ty f) (λ f h. absurd h) (λ f h. none-some h.0 h.1) lists_none
 result_lists file (Some r) =
     lists_turned (spec.type_faults (entity_names file) r) (Missing file r) (λ f. (ty : TypeRef) × (Some r ≡ Some ty) × Missing file ty f)
@@ -278,7 +280,7 @@ module _ (file : t.File) (e : t.Entity) where
       (λ i m at. lists_both (where_ (is_among m.name.text (field_texts e.fields) || is_among m.name.text (take i (method_texts e.methods))) (fault.Double m.name.span)) (spec.signature_faults (entity_names file) (field_texts e.fields) m)
       (λ f. (f ≡ fault.Double m.name.span) × Taken (method_texts e.methods) i m.name.text) (λ f. ParamsCase m.params f ⊎ ResultCase m f)
       (taken_lists (method_texts e.methods) i m.name)
-      (lists_both (spec.param_faults (entity_names file) (field_texts e.fields) [] m.params) (spec.result_faults (entity_names file) m.result) (ParamsCase m.params) (ResultCase m) (params_list m.params) (result_lists file m.result))))
+      (lists_both (spec.param_faults (entity_names file) (field_texts e.fields) [] m.params) (parts.result_faults (entity_names file) m.result) (ParamsCase m.params) (ResultCase m) (params_list m.params) (result_lists file m.result))))
 
   -- ---- a whole entity
 
@@ -297,8 +299,8 @@ module _ (file : t.File) (e : t.Entity) where
   added_lists : Lists (spec.added_faults e) AddedCase
   added_lists =
       let create = codes "create" in
-      lists_where (has_added e && spec.is_member_name create e) (fault.Double e.name.span) ((has_added e ≡ true) × (Has (field_texts e.fields) create ⊎ Has (method_texts e.methods) create))
-      (tests_and (has_added e) (spec.is_member_name create e) (has_added e ≡ true) (Has (field_texts e.fields) create ⊎ Has (method_texts e.methods) create) (tests_itself (has_added e))
+      lists_where (has_added e && parts.is_member_name create e) (fault.Double e.name.span) ((has_added e ≡ true) × (Has (field_texts e.fields) create ⊎ Has (method_texts e.methods) create))
+      (tests_and (has_added e) (parts.is_member_name create e) (has_added e ≡ true) (Has (field_texts e.fields) create ⊎ Has (method_texts e.methods) create) (tests_itself (has_added e))
       (tests_or (is_among create (field_texts e.fields)) (is_among create (method_texts e.methods)) (Has (field_texts e.fields) create) (Has (method_texts e.methods) create) (tests_among create (field_texts e.fields)) (tests_among create (method_texts e.methods))))
 
   abbrev ProvidedCases : NameFault → Type 0

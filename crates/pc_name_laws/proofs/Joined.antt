@@ -15,7 +15,8 @@ use Rattle.pc_names.specs.declared.fault.NameFault.{NameFault}
 use Rattle.pc_names.specs.declared.fault.NameFault.TheVariants as fault
 use Rattle.pc_names.specs.declared.fault.Which.TheVariants as which
 use Rattle.pc_members.specs.Members.{built_in_names, entity_names, IsTransitiveClosure, Member, written, added}
-use Rattle.pc_names.specs.Faults.{where_, entity_name_faults, declaration_faults, cycle_faults, count_faults, main_faults, built_in_and_member_texts, NamesData, Collected, name_faults, above_faults, IsNotMemory}
+use Rattle.pc_names.specs.Faults.{entity_name_faults, declaration_faults, cycle_faults, count_faults, main_faults, NamesData, Collected, name_faults, IsNotMemory}
+use Rattle.pc_names.specs.Parts.{where_, built_in_and_member_texts, above_faults}
 use Rattle.pc_members.specs.Edges.{above_all, has_number, edges_of}
 use Rattle.pc_names.specs.Laws.{fault_start}
 use Rattle.pc_names.proofs.Ones.{first_is}
@@ -32,6 +33,7 @@ use Rattle.pc_file_spec.proofs.Declared.{member_order}
 use Rattle.pc_file_spec.proofs.Owners.{owner_of}
 use Rattle.pc_file_spec.proofs.Steps.{member_faults, member_names}
 use Rattle.pc_file_spec.proofs.Parts.{all_at, first_good}
+use Rattle.pc_core_relation.proofs.MemberFaults.{is_first, is_stop}
 use Rattle.pc_text_order.proofs.Bodies.{bodies_ascend}
 use Rattle.pc_elab.specs.Cores.{IsSpelledFile}
 use Rattle.pc_elab.proofs.Wholes.{in_order, in_place}
@@ -315,7 +317,7 @@ parts_fail file above f h = by (parts_of file) h
 
 pub told : (file : t.File) (f : NameFault) → IsTold file f → Told file f
 told file f (real, inl h) = told_names file h.0 h.1 f real (first_is f (name_faults file h.0) real h.2)
-told file f (real, inr h) = told_members file h.0 f h.1 (parts_fail file h.0.above f h.2)
+told file f (real, inr h) = let made = is_stop file f h in told_members file made.0 f made.1 (parts_fail file made.0.above f made.2)
 
 -- ---- no fault is that memory ran out
 
@@ -423,7 +425,7 @@ fault_is_told file u g at = by (name_faults file (above_all (edges_of file))) re
     elab e (Ok q) h = absurd (no_fault_at_all file (clear_five file (above_all (edges_of file)) (closes file) e) q h u g at)
     elab e (Err f) h =
         let t = told_members file names f (with_names file e) h in
-        (f, (real_of f (real_at file t.turn f t.at), inr (names, with_names file e, ap (λ r. if_ok r (λ p. Ok (core_with file (above_all (edges_of file)) p))) h)))
+        (f, (real_of f (real_at file t.turn f t.at), inr (is_first file f (names, with_names file e, ap (λ r. if_ok r (λ p. Ok (core_with file (above_all (edges_of file)) p))) h))))
 
     by : (fs : List NameFault) → name_faults file (above_all (edges_of file)) ≡ fs → (f : NameFault) × IsTold file f
     by [] e = elab e (parts_of file) refl

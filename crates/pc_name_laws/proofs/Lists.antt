@@ -8,7 +8,8 @@ use Rattle.pc_lists.proofs.Elements.{has_front, has_behind, has_either}
 use Rattle.pc_lists.proofs.Gets.{get_take, take_get}
 use Rattle.pc_names.specs.declared.fault.NameFault.{NameFault}
 use Rattle.pc_members.specs.MemberLists.{is_among}
-use Rattle.pc_names.specs.Faults.{where_, either_fault}
+use Rattle.pc_names.specs.Faults.{either_fault}
+use Rattle.pc_names.specs.Parts.{where_}
 use Rattle.pc_members.proofs.Differences.{among_has, has_among}
 use Rattle.pc_name_laws.specs.Declared.{HasBefore}
 

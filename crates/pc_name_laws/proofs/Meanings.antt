@@ -11,7 +11,7 @@ use Rattle.pc_tree.specs.declared.kinds.EntityKind.{EntityKind}
 use Rattle.pc_tree.specs.declared.kinds.EntityKind.TheVariants as kind
 use Rattle.pc_tree.specs.Kinds.{first_own}
 use Rattle.pc_members.proofs.Differences.{same_text, equal_texts}
-use Rattle.pc_body_spec.specs.Scopes.{Context, KnownEntity, Constructor, Scope, Visible, is_among_names, slot_named, TypeMeaning, primitive, created, no_value, is_own, by_kind, type_from, type_meaning, constructor_named}
+use Rattle.pc_body_spec.specs.Bodies.{Context, KnownEntity, Constructor, Scope, Visible, is_among_names, slot_named, TypeMeaning, primitive, created, no_value, is_own, by_kind, type_from, type_meaning, constructor_named}
 use Rattle.pc_body_spec.specs.Faults.{is_entity}
 use Rattle.pc_name_laws.specs.Missing.{IsFirstNamed, HasValue, IsPrimitive, IsCreated, HasConstructor}
 

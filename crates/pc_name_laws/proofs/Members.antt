@@ -9,10 +9,9 @@ use Rattle.pc_core.specs.declared.nodes.Node.{Node}
 use Rattle.pc_names.specs.declared.fault.NameFault.{NameFault}
 use Rattle.pc_names.specs.declared.fault.NameFault.TheVariants as fault
 use Rattle.pc_names.specs.declared.fault.Which.TheVariants as which
-use Rattle.pc_body_spec.specs.Bodies.{Rose}
+use Rattle.pc_body_spec.specs.Bodies.{Rose, Context}
 use Rattle.pc_body_spec.specs.Fold.{Numbered, put}
 use Rattle.pc_caps.specs.Limits.{node_limit}
-use Rattle.pc_body_spec.specs.Scopes.{Context}
 use Rattle.pc_body_spec.specs.Faults.{BodyNameFault}
 use Rattle.pc_body_spec.specs.Methods.{MethodOutcome, unless_fault, unless_name, unless_full, numbered_or_full, put_body}
 use Rattle.pc_members.specs.Members.{Member, written, added}
@@ -20,8 +19,9 @@ use Rattle.pc_members.specs.MemberLists.{member_span}
 use Rattle.pc_file_spec.specs.Cores.{Owned, context_of, Parts, body_fault, outcome, joined_parts, with_outcome, and_member, and_members, if_ok}
 use Rattle.pc_file_spec.proofs.Steps.{member_faults, member_names, member_rose, Made, Ends}
 use Rattle.pc_file_spec.proofs.Parts.{made_of}
-use Rattle.pc_name_laws.specs.Turns.{size_if, size, member_size, owned_size, nodes_of}
-use Rattle.pc_name_laws.proofs.Sizes.{Counts, put_counts}
+use Rattle.pc_name_laws.specs.Turns.{size_if, member_size, owned_size, nodes_of}
+use Rattle.pc_core_relation.specs.MemberFaults.{node_count}
+use Rattle.pc_core_relation.proofs.NodeCounts.{Counts, put_counts}
 
 abbrev IsOk : {A B : Type 0} → Result A B → Type 0
 IsOk (Ok a) = Unit {0}
@@ -57,8 +57,8 @@ made_nodes c m e x before r made = by made.ends
         omega (arith, same, none)
     by (inr b) =
         let same : length r.1 ≡ length b.1 = ap (λ (p : Option ℕ × List Node). length p.1) b.2 in
-        let put : length b.1 ≡ length before + size b.3.rose = subst (λ (o : Numbered ℕ). Counts o (length before + size b.3.rose)) b.3.put_is (put_counts m b.3.rose before) in
-        let whole : member_size c e x ≡ size b.3.rose = size_is c e x ∙ ap size_if b.3.is_rose in
+        let put : length b.1 ≡ length before + node_count b.3.rose = subst (λ (o : Numbered ℕ). Counts o (length before + node_count b.3.rose)) b.3.put_is (put_counts m b.3.rose before) in
+        let whole : member_size c e x ≡ node_count b.3.rose = size_is c e x ∙ ap size_if b.3.is_rose in
         omega (arith, same, put, whole)
 
 pub all_nodes : (file : t.File) (os : List Owned) (p q : Parts) → and_members file p os ≡ Ok q → length q.nodes ≡ length p.nodes + nodes_of file os
@@ -118,7 +118,7 @@ full : (c : Context) (p : Parts) (o : Owned) (m : ℕ) (s : Span) (r : Option Ro
 full c p o m s None before f h = absurd (subst IsOk h tt)
 full c p o m s (Some r) before f h = by (put m r before) (put_counts m r before) h
   where
-    by : (x : Numbered ℕ) → Counts x (length before + size r) → with_outcome c p o (numbered_or_full s x) ≡ Err f → (node_limit < length before + size r) × (f ≡ fault.TooMany which.Nodes s)
+    by : (x : Numbered ℕ) → Counts x (length before + node_count r) → with_outcome c p o (numbered_or_full s x) ≡ Err f → (node_limit < length before + node_count r) × (f ≡ fault.TooMany which.Nodes s)
     by None n g = (n, sym (same_fault (fault.TooMany which.Nodes s) f g))
     by (Some x) n g = absurd (subst IsOk g tt)
 

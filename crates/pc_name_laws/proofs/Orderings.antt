@@ -3,7 +3,7 @@ use Rattle.std.proofs.Common.{◌≡◌, List, ◌∷◌, ap}
 use Rattle.std.specs.Prelude.{slice_get}
 use Rattle.pc_lists.specs.Lists.{Has, Ascends}
 use Rattle.pc_tree.specs.Tree as t
-use Rattle.pc_body_spec.specs.Scopes.{Context}
+use Rattle.pc_body_spec.specs.Bodies.{Context}
 use Rattle.pc_body_spec.specs.Faults.{BodyNameFault}
 use Rattle.pc_body_spec.specs.Places.{fault_start}
 use Rattle.pc_members.specs.Members.{Member, written, added}

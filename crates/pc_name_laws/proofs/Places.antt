@@ -10,7 +10,8 @@ use Rattle.pc_tree.specs.declared.written_names.Name.{Name}
 use Rattle.pc_tree.specs.declared.written_names.TypeRef.{TypeRef}
 use Rattle.pc_tree.specs.declared.file.ParamDef.{ParamDef}
 use Rattle.pc_token.specs.declared.kinds.Token.{Token}
-use Rattle.pc_grammar.specs.SpellsFile.{SpellsMoreEntities, SpellsEntities, SpellsFile}
+use Rattle.pc_grammar.specs.Spells.{SpellsEntities, SpellsFile}
+use Rattle.pc_grammar.specs.Parts.{SpellsMoreEntities}
 use Rattle.pc_names.specs.declared.fault.NameFault.{NameFault}
 use Rattle.pc_names.specs.Laws.{fault_start, name_start, result_places, field_places, param_places, method_places, declared_places}
 use Rattle.pc_text_order.specs.Laws.{starts}

@@ -13,7 +13,9 @@ use Rattle.pc_lists.specs.Lists.{Text}
 use Rattle.pc_members.specs.MemberLists.{is_among}
 use Rattle.pc_members.specs.Members.{has_added, field_texts}
 use Rattle.pc_names.specs.Faults as spec
-use Rattle.pc_names.specs.Faults.{where_, either_fault}
+use Rattle.pc_names.specs.Parts as parts
+use Rattle.pc_names.specs.Faults.{either_fault}
+use Rattle.pc_names.specs.Parts.{where_}
 use Rattle.pc_names.specs.Laws.{fault_start, name_start, result_places, field_places, param_places, method_places, declared_places}
 use Rattle.pc_body_spec.proofs.Places.{Sub, none, skip, take, sub_join}
 use Rattle.pc_name_laws.proofs.Orders.{entity_start}
@@ -39,7 +41,7 @@ either_at false c f g e = subst (λ n. Stand (where_ c g) (n ∷ [])) e (where_a
 name_at : (known : List Text) (es : List t.Entity) → Stand (spec.entity_name_faults known es) (map entity_start es)
 name_at known [] = nowhere
 name_at known (e ∷ es) =
-    join (either_at (is_among e.name.text known) (not (nat_lt (length known) spec.known_limit)) (fault.Double e.name.span) (fault.TooMany which.Entities e.name.span) refl) (name_at (known ++ e.name.text ∷ []) es)
+    join (either_at (is_among e.name.text known) (not (nat_lt (length known) parts.known_limit)) (fault.Double e.name.span) (fault.TooMany which.Entities e.name.span) refl) (name_at (known ++ e.name.text ∷ []) es)
 
 pub names_at : (known : List Text) (es : List t.Entity) → Sub fault_start (spec.entity_name_faults known es) (map entity_start es)
 names_at known es = (name_at known es).sub
@@ -47,7 +49,7 @@ names_at known es = (name_at known es).sub
 type_at : (entities : List Text) (ty : TypeRef) → Stand (spec.type_faults entities ty) (name_start ty.name ∷ [])
 type_at entities ty = where_at (not (is_among ty.name.text entities)) (fault.Unknown ty.name.span)
 
-result_at : (entities : List Text) (ty : Option TypeRef) → Stand (spec.result_faults entities ty) (result_places ty)
+result_at : (entities : List Text) (ty : Option TypeRef) → Stand (parts.result_faults entities ty) (result_places ty)
 result_at entities None = nowhere
 result_at entities (Some ty) = type_at entities ty
 
@@ -77,5 +79,5 @@ entity_at entities traits e = whole.sub
   where
     whole : Stand (spec.entity_faults entities traits e) (declared_places e)
     whole =
-        join (where_at (has_added e && spec.is_member_name (codes "create") e) (fault.Double e.name.span))
+        join (where_at (has_added e && parts.is_member_name (codes "create") e) (fault.Double e.name.span))
         (join (provided_at traits [] e.provides) (join (field_at entities [] e.fields) (method_at entities (field_texts e.fields) [] e.methods)))

@@ -4,7 +4,7 @@ use Rattle.std.specs.Prelude.{◌⊎◌, ◌↔◌}
 use Rattle.std.proofs.lemmas.Option.{same_Some, none-some}
 use Rattle.pc_lists.specs.Lists.{Has, Text}
 use Rattle.pc_lists.proofs.Elements.{has_front, has_behind, has_either}
-use Rattle.pc_body_spec.specs.Scopes.{Context}
+use Rattle.pc_body_spec.specs.Bodies.{Context}
 use Rattle.pc_body_spec.specs.Faults.{BodyNameFault, unknown}
 use Rattle.pc_body_spec.specs.Places.{fault_start}
 use Rattle.pc_body_spec.proofs.Places.{Sub, none, take, sub_join, nothing_at}

@@ -11,7 +11,8 @@ use Rattle.pc_names.specs.declared.fault.NameFault.{NameFault}
 use Rattle.pc_names.specs.declared.fault.NameFault.TheVariants as fault
 use Rattle.pc_members.specs.Members.{built_in_names, entity_names, IsTransitiveClosure}
 use Rattle.pc_members.specs.MemberLists.{trait_names}
-use Rattle.pc_names.specs.Faults.{entity_faults, entities_faults, entity_name_faults, declaration_faults, cycle_faults, count_faults, main_faults, IsNotMemory}
+use Rattle.pc_names.specs.Faults.{entity_faults, entity_name_faults, declaration_faults, cycle_faults, count_faults, main_faults, IsNotMemory}
+use Rattle.pc_names.specs.Parts.{entities_faults}
 use Rattle.pc_members.specs.Members as chains
 use Rattle.pc_tree.specs.Kinds.{first_own}
 use Rattle.pc_names.specs.Laws.{fault_start, declared_places}

@@ -9,7 +9,7 @@ use Rattle.pc_text_order.proofs.Tokens.{tokens_ascend}
 use Rattle.pc_names.specs.declared.fault.NameFault.{NameFault}
 use Rattle.pc_names.specs.declared.fault.NameFault.TheVariants as fault
 use Rattle.pc_names.specs.Laws.{fault_start}
-use Rattle.pc_body_spec.specs.Scopes.{Context}
+use Rattle.pc_body_spec.specs.Bodies.{Context}
 use Rattle.pc_body_spec.specs.Faults.{BodyNameFault, unknown, double, long_text}
 use Rattle.pc_file_spec.specs.Cores.{context_of, body_fault}
 use Rattle.pc_elab.specs.Cores.{IsSpelledFile}

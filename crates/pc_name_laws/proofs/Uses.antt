@@ -7,9 +7,9 @@ use Rattle.pc_lists.proofs.Bools.{false_true}
 use Rattle.pc_caps.specs.declared.span.Span.{Span}
 use Rattle.pc_tree.specs.declared.written_names.Name.{Name}
 use Rattle.pc_tree.specs.declared.written_names.TypeRef.{TypeRef}
-use Rattle.pc_body_spec.specs.Scopes.{Context, Scope, KnownEntity, Meaning, local, field, method, nothing, member, unless_local, slot_named, resolve, is_among_names, TypeMeaning, primitive, created, no_value, type_meaning, constructor_named}
-use Rattle.pc_body_spec.specs.Bodies.{Start, with_method, with_type, with_value, start_with_name, create_name}
-use Rattle.pc_body_spec.specs.Faults.{BodyNameFault, unknown, double, long_text, fault_if, unless_some, is_name_taken, is_entity, bare_name_faults, type_name_faults, written_faults, Next, arguments, name, end, start_faults, dot_faults}
+use Rattle.pc_body_spec.specs.Bodies.{Context, Scope, KnownEntity, Meaning, local, field, method, nothing, member, unless_local, slot_named, resolve, is_among_names, TypeMeaning, primitive, created, no_value, type_meaning, constructor_named, Start, with_method, with_type, with_value, start_with_name, create_name}
+use Rattle.pc_body_spec.specs.Faults.{BodyNameFault, unknown, double, long_text, is_name_taken, is_entity, bare_name_faults, type_name_faults, Next, arguments, name, end, start_faults, dot_faults}
+use Rattle.pc_body_spec.specs.Parts.{fault_if, unless_some, written_faults}
 use Rattle.pc_body_spec.specs.Places.{written_places}
 use Rattle.pc_name_laws.specs.Uses as u
 use Rattle.pc_name_laws.specs.Uses.{Here, BehindDot, TypeIn, spot}

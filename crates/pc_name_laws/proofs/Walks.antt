@@ -10,9 +10,9 @@ use Rattle.pc_tree.specs.declared.file.ParamDef.{ParamDef}
 use Rattle.pc_tree.specs.declared.kinds.MethodWord.{MethodWord}
 use Rattle.pc_tree.specs.declared.kinds.MethodWord.TheVariants as word
 use Rattle.pc_tree.specs.Tree as t
-use Rattle.pc_body_spec.specs.Scopes.{Context, Scope, Visible, defined_local, resolve, primitive, created, no_value, scope_after, params_from, params_scope}
-use Rattle.pc_body_spec.specs.Bodies.{initial_fields, Start, with_method, with_type, with_value, chain_start}
-use Rattle.pc_body_spec.specs.Faults.{BodyNameFault, double, fault_if, is_name_taken, written_faults, Next, end, next_of, start_faults, faults_of, exprs_faults, suffixes_faults, arms_faults, arm_faults, other_faults, seq_faults, items_faults, item_faults, value_faults, initial_faults, written_body_faults}
+use Rattle.pc_body_spec.specs.Bodies.{Context, Scope, Visible, defined_local, resolve, primitive, created, no_value, scope_after, params_from, params_scope, initial_fields, Start, with_method, with_type, with_value, chain_start}
+use Rattle.pc_body_spec.specs.Faults.{BodyNameFault, double, is_name_taken, Next, end, next_of, start_faults, faults_of, exprs_faults, suffixes_faults, arms_faults, arm_faults, other_faults, seq_faults, items_faults, item_faults, initial_faults}
+use Rattle.pc_body_spec.specs.Parts.{fault_if, written_faults, value_faults, written_body_faults}
 use Rattle.pc_body_spec.specs.Places.{written_places, places, exprs_places, suffixes_places, arm_places, arms_places, other_places, seq_places, items_places, item_places, value_places, initial_places, written_body_places, body_places}
 use Rattle.pc_members.specs.Members.{Member, written, added}
 use Rattle.pc_file_spec.proofs.Steps.{member_faults}

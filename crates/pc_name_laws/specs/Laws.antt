@@ -5,12 +5,13 @@ use Rattle.pc_caps.specs.declared.span.Span.{Span}
 use Rattle.pc_tree.specs.declared.written_names.Name.{Name}
 use Rattle.pc_token.specs.declared.kinds.Token.{Token}
 use Rattle.pc_lex.specs.Pieces.{Tokens}
-use Rattle.pc_grammar.specs.SpellsFile.{SpellsFile}
+use Rattle.pc_grammar.specs.Spells.{SpellsFile}
 use Rattle.pc_text_order.specs.Laws.{starts}
 use Rattle.pc_names.specs.{declared.fault.NameFault.NameFault, Faults.entity_name_faults, Faults.entity_faults, Faults.count_faults, Faults.main_faults, Faults.IsNameFault, Faults.IsNotMemory}
 use Rattle.pc_members.specs.{Members.built_in_names, Members.entity_names as entity_names_of, Members.written, Members.added, MemberLists.trait_names}
-use Rattle.pc_body_spec.specs.{Scopes.Context, Faults.BodyNameFault, Faults.body_faults, Faults.initial_faults}
-use Rattle.pc_file_spec.specs.Cores.{Owned, context_of, IsElabFault}
+use Rattle.pc_body_spec.specs.{Bodies.Context, Faults.BodyNameFault, Faults.body_faults, Faults.initial_faults}
+use Rattle.pc_file_spec.specs.Cores.{Owned, context_of}
+use Rattle.pc_core_relation.specs.MemberFaults.{IsMemberFault}
 use Rattle.pc_name_laws.specs.{Uses.Spot, Uses.InMember, Missing.IsMissing, Missing.IsBodyFault, Missing.place, Declared.IsEntityFault, Declared.IsDeclarationFault, Declared.IsMissingName, Turns.Turn, Turns.entity_names, Turns.declarations, Turns.cycles, Turns.method_counts, Turns.main, Turns.body, Turns.slots, Turns.nodes, Turns.IsCountFault, Turns.IsMainFault, Turns.IsFaultInTurn, Turns.IsBefore, Turns.NotBehind, Turns.all_members}
 use Rattle.pc_tree.specs.Tree as t
 use Rattle.pc_names.specs.declared.fault.NameFault.TheVariants as fault
@@ -41,7 +42,7 @@ AddedBodiesAreListed = (c : Context) (e : t.Entity) (f : BodyNameFault) → Has 
 
 -- The fault that is reported for a file: the first fault of its names, or if they have none that of its members.
 abbrev pub IsTold : t.File → NameFault → Type 0
-IsTold file f = IsNotMemory f × (IsNameFault file f ⊎ IsElabFault file f)
+IsTold file f = IsNotMemory f × (IsNameFault file f ⊎ IsMemberFault file f)
 
 -- The fault is one of this turn, and precedes all other faults of all turns.
 abbrev pub IsLeast : t.File → Turn → NameFault → Type 0

@@ -3,7 +3,7 @@ use Rattle.std.specs.Prelude.{◌≡◌, ◌⊎◌, ℕ, ◌<◌, ◌≤◌, Lis
 use Rattle.pc_lists.specs.Lists.{Has, Text}
 use Rattle.pc_caps.specs.{declared.span.Span.Span, Limits.text_limit}
 use Rattle.pc_tree.specs.Kinds.{none_entity, first_own}
-use Rattle.pc_body_spec.specs.{Scopes.Context, Scopes.KnownEntity, Scopes.Constructor, Faults.BodyNameFault, Faults.unknown, Faults.double, Faults.long_text, Faults.arguments, Faults.name}
+use Rattle.pc_body_spec.specs.{Bodies.Context, Bodies.KnownEntity, Bodies.Constructor, Faults.BodyNameFault, Faults.unknown, Faults.double, Faults.long_text, Faults.arguments, Faults.name}
 use Rattle.pc_members.specs.Members.{Member}
 use Rattle.pc_name_laws.specs.Uses.{NameUse, bare, consumed, type_value, member_of, local, local_type, literal, Spot, InMember}
 use Rattle.pc_tree.specs.declared.kinds.EntityKind.TheVariants as kind

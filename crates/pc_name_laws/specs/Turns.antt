@@ -4,10 +4,11 @@ use Rattle.std.specs.Prelude.{◌≡◌, ◌⊎◌, ℕ, suc, ◌+◌, ◌*◌, 
 use Rattle.pc_caps.specs.Limits.{method_limit, node_limit, slot_limit}
 use Rattle.pc_lists.specs.Lists.{Has}
 use Rattle.pc_tree.specs.{declared.written_names.Name.Name, Kinds.first_own}
-use Rattle.pc_names.specs.{declared.fault.NameFault.NameFault, Faults.method_count, Mains.is_main, Laws.fault_start}
+use Rattle.pc_names.specs.{declared.fault.NameFault.NameFault, Parts.method_count, Mains.is_main, Laws.fault_start}
 use Rattle.pc_members.specs.{Members.texts_of, Members.InCycle, Members.entity_at, Members.Member, Members.written, Members.added, MemberLists.member_span}
-use Rattle.pc_body_spec.specs.{Bodies.Rose, Bodies.Roses, Bodies.rose, Bodies.no_roses, Bodies.more, Bodies.body_of, Bodies.added_body, Scopes.Context, Slots.initial_locals, Methods.slot_names, Methods.local_names, Faults.BodyNameFault}
+use Rattle.pc_body_spec.specs.{Bodies.Rose, Bodies.body_of, Bodies.added_body, Bodies.Context, Slots.initial_locals, Methods.slot_names, Methods.local_names, Faults.BodyNameFault}
 use Rattle.pc_file_spec.specs.Cores.{Owned, members_from, context_of, body_fault}
+use Rattle.pc_core_relation.specs.MemberFaults.{node_count}
 use Rattle.pc_name_laws.specs.{Missing.IsBodyFault, Declared.HasBefore, Declared.IsEntityFault, Declared.IsDeclarationFault}
 use Rattle.pc_tree.specs.Tree as t
 use Rattle.pc_names.specs.declared.fault.NameFault.TheVariants as fault
@@ -82,22 +83,14 @@ abbrev pub slots_named : t.Entity → Member → List Name
 slots_named e (written m) = slot_names e.fields m
 slots_named e added = local_names (initial_locals e.fields)
 
-abbrev mutual
-  pub size : Rose → ℕ
-  size (rose k s d rs) = suc (sizes rs)
-
-  pub sizes : Roses → ℕ
-  sizes no_roses = 0
-  sizes (more r rs) = size r + sizes rs
-
 abbrev pub size_if : Option Rose → ℕ
 size_if None = 0
-size_if (Some r) = size r
+size_if (Some r) = node_count r
 
 -- How many nodes a member has.
 abbrev pub member_size : Context → t.Entity → Member → ℕ
 member_size c e (written m) = size_if (body_of c e.fields m)
-member_size c e added = size (added_body c e.fields e.name.span)
+member_size c e added = node_count (added_body c e.fields e.name.span)
 
 abbrev pub owned_size : t.File → Owned → ℕ
 owned_size file o = member_size (context_of file o) o.owner o.member

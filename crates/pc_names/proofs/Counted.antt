@@ -7,7 +7,8 @@ use Rattle.pc_tree.specs.declared.file.Entity.{Entity}
 use Rattle.pc_tree.specs.Tree as t
 use Rattle.pc_names.specs.declared.fault.NameFault.TheVariants as fault
 use Rattle.pc_names.specs.declared.fault.Which.TheVariants as which
-use Rattle.pc_names.specs.Faults.{where_, method_count, count_faults, faults_by_count}
+use Rattle.pc_names.specs.Faults.{count_faults}
+use Rattle.pc_names.specs.Parts.{where_, method_count, faults_by_count}
 use Rattle.pc_caps.specs.Limits.{method_limit}
 
 by_count : (all : List t.Entity) (n : ℕ) (es : List t.Entity) → faults_by_count n es (map (method_count all) es) ≡ count_faults all n es

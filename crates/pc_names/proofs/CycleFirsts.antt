@@ -7,7 +7,8 @@ use Rattle.pc_tree.specs.Tree as t
 use Rattle.pc_names.specs.declared.fault.NameFault.{NameFault}
 use Rattle.pc_names.specs.declared.fault.NameFault.TheVariants as fault
 use Rattle.pc_tree.specs.Kinds.{is_abstract, first_own}
-use Rattle.pc_names.specs.Faults.{where_, cycle_faults}
+use Rattle.pc_names.specs.Faults.{cycle_faults}
+use Rattle.pc_names.specs.Parts.{where_}
 use Rattle.pc_members.specs.Edges.{has_number}
 use Rattle.pc_members.specs.Members.{IsTransitiveClosure, InCycle, LeadsInFile, entity_at}
 use Rattle.pc_names.specs.Laws.{CycleIsFirst, NoCycle}

@@ -17,7 +17,8 @@ use Rattle.pc_members.specs.Members.{built_in_names, texts_of, entity_names, IsT
 use Rattle.pc_members.specs.Founded.{IsFounded}
 use Rattle.pc_tree.specs.Kinds.{first_own}
 use Rattle.pc_members.proofs.Differences.{differ_push, among_has}
-use Rattle.pc_names.specs.Faults.{where_, either_fault, provided_faults, added_faults, entity_faults, entities_faults, entity_name_faults, declaration_faults, known_limit, cycle_faults, NamesData, Collected}
+use Rattle.pc_names.specs.Faults.{either_fault, provided_faults, added_faults, entity_faults, entity_name_faults, declaration_faults, cycle_faults, NamesData, Collected}
+use Rattle.pc_names.specs.Parts.{where_, entities_faults, known_limit}
 use Rattle.pc_names.proofs.CycleFirsts.{no_cycle}
 
 -- ---- no faults

@@ -14,7 +14,9 @@ use Rattle.pc_names.specs.declared.fault.Which.TheVariants as which
 use Rattle.pc_members.specs.MemberLists.{is_among}
 use Rattle.pc_members.specs.Members.{has_added, field_texts}
 use Rattle.pc_names.specs.Faults as spec
-use Rattle.pc_names.specs.Faults.{where_, either_fault}
+use Rattle.pc_names.specs.Parts as parts
+use Rattle.pc_names.specs.Faults.{either_fault}
+use Rattle.pc_names.specs.Parts.{where_}
 use Rattle.pc_names.specs.Laws.{FirstIsLeast, fault_start, name_start, result_places, field_places, param_places, method_places, declared_places}
 use Rattle.pc_names.proofs.Ones.{ascends_tail, first_is}
 
@@ -44,7 +46,7 @@ either_at false c f g e = subst (λ p. At (where_ c g) (p ∷ [])) e (where_at c
 type_at : (entities : List Text) (ty : TypeRef) → At (spec.type_faults entities ty) (name_start ty.name ∷ [])
 type_at entities ty = where_at (not (is_among ty.name.text entities)) (fault.Unknown ty.name.span)
 
-result_at : (entities : List Text) (ty : Option TypeRef) → At (spec.result_faults entities ty) (result_places ty)
+result_at : (entities : List Text) (ty : Option TypeRef) → At (parts.result_faults entities ty) (result_places ty)
 result_at entities None = done
 result_at entities (Some ty) = type_at entities ty
 
@@ -73,7 +75,7 @@ method_at entities fields known (m ∷ ms) =
 
 entity_at : (entities traits : List Text) (e : t.Entity) → At (spec.entity_faults entities traits e) (declared_places e)
 entity_at entities traits e =
-    join (where_at (has_added e && spec.is_member_name (codes "create") e) (fault.Double e.name.span))
+    join (where_at (has_added e && parts.is_member_name (codes "create") e) (fault.Double e.name.span))
     (join (provided_at traits [] e.provides) (join (field_at entities [] e.fields) (method_at entities (field_texts e.fields) [] e.methods)))
 
 at_place : {fs : List NameFault} {ps : List ℕ} → At fs ps → (g : NameFault) (i : ℕ) → slice_get fs i ≡ Some g → Has ps (fault_start g)

@@ -4,7 +4,8 @@ use Rattle.pc_lists.specs.Lists.{Differ, Text}
 use Rattle.pc_tree.specs.Tree as t
 use Rattle.pc_members.specs.Members.{field_texts, method_texts}
 use Rattle.pc_members.specs.MemberLists.{with_names}
-use Rattle.pc_names.specs.Faults.{with_members, built_in_and_member_texts, built_in_texts}
+use Rattle.pc_names.specs.Faults.{with_members, built_in_texts}
+use Rattle.pc_names.specs.Parts.{built_in_and_member_texts}
 use Rattle.pc_members.proofs.Differences.{names_differ}
 use Rattle.pc_lists.proofs.Elements.{differ_none}
 

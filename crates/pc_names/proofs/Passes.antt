@@ -7,7 +7,8 @@ use Rattle.pc_tree.specs.Tree as t
 use Rattle.pc_names.specs.declared.fault.NameFault.{NameFault}
 use Rattle.pc_names.specs.declared.fault.NameFault.TheVariants as fault
 use Rattle.pc_members.specs.Members.{built_in_names, entity_names, IsTransitiveClosure}
-use Rattle.pc_names.specs.Faults.{IsFirstNameFault, entity_name_faults, declaration_faults, built_in_and_member_texts, NamesData, above_faults, name_faults, Collected, IsNameFault}
+use Rattle.pc_names.specs.Faults.{IsFirstNameFault, entity_name_faults, declaration_faults, NamesData, name_faults, Collected, IsNameFault}
+use Rattle.pc_names.specs.Parts.{built_in_and_member_texts, above_faults}
 use Rattle.pc_members.specs.Edges.{above_all, edges_of}
 use Rattle.pc_tree.specs.Kinds.{first_own}
 use Rattle.pc_lists.specs.Lists.{Differ}

@@ -13,7 +13,8 @@ use Rattle.pc_names.specs.declared.fault.NameFault.TheVariants as fault
 use Rattle.pc_names.specs.declared.fault.Which.TheVariants as which
 use Rattle.pc_lists.specs.Lists.{Text}
 use Rattle.pc_members.specs.MemberLists.{is_among}
-use Rattle.pc_names.specs.Faults.{IsFirstNameFault, where_, either_fault, type_faults, field_faults, param_faults, signature_faults, method_faults, entity_faults, entities_faults}
+use Rattle.pc_names.specs.Faults.{IsFirstNameFault, either_fault, type_faults, field_faults, param_faults, signature_faults, method_faults, entity_faults}
+use Rattle.pc_names.specs.Parts.{where_, entities_faults}
 use Rattle.pc_caps.specs.Limits.{field_limit}
 use Rattle.pc_names.proofs.Firsts.{is_first_on}
 

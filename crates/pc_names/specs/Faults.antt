@@ -1,8 +1,8 @@
 -- The faults of a file's names, pass by pass. Each pass has the list of its faults in the order of the text; the first
 -- of them is reported.
-use Rattle.std.specs.Prelude.{List, [], ◌∷◌, ◌++◌, codes, ◌≡◌, ℕ, Bool, true, false, ◌&&◌, ◌||◌, not, length, Option, Some, None, Result, Ok, Err, slice_get, nat_lt, ◌+◌, drop, if◌then◌else◌}
-use Rattle.std.specs.Str.{bytes_eq}
-use Rattle.pc_lists.specs.Lists.{Text, Differ}
+use Rattle.std.specs.Prelude.{List, [], ◌∷◌, ◌++◌, codes, ◌≡◌, ℕ, Bool, true, false, ◌&&◌, ◌||◌, not, length, Some, slice_get, nat_lt, ◌+◌, drop, if◌then◌else◌, flat_map}
+use Rattle.std.specs.{Str.bytes_eq, Option.option_map_or}
+use Rattle.pc_lists.specs.Lists.{Text, Differ, one_if}
 use Rattle.pc_members.specs.{Members.field_texts, Members.method_texts, Members.entity_names, Members.has_added, Members.built_in_names, Members.IsTransitiveClosure, MemberLists.with_names, MemberLists.is_among, MemberLists.trait_names, MemberLists.members, Edges.has_number}
 use Rattle.pc_caps.specs.Limits.{entity_limit, field_limit, method_limit}
 use Rattle.pc_tree.specs.{declared.file.ParamDef.ParamDef, declared.written_names.Name.Name, declared.written_names.TypeRef.TypeRef, Kinds.first_own, Kinds.is_abstract}
@@ -17,8 +17,6 @@ abbrev pub main_faults : List t.Entity → List NameFault
 main_faults [] = fault.NoMain ∷ []
 main_faults (e ∷ es) = if bytes_eq e.name.text (codes "Main") then (if is_main e then [] else fault.BadMain e.name.span ∷ []) else main_faults es
 
--- ---- the texts of a file that are not entities' names
-
 -- The names of the built-in entities' field and methods, and of an added constructor.
 abbrev pub built_in_texts : List Text
 built_in_texts = codes "out" ∷ codes "print" ∷ codes "create" ∷ []
@@ -28,53 +26,28 @@ abbrev pub with_members : List Text → List t.Entity → List Text
 with_members known [] = known
 with_members known (e ∷ es) = with_members (with_names known (field_texts e.fields ++ method_texts e.methods)) es
 
-abbrev pub built_in_and_member_texts : List t.Entity → List Text
-built_in_and_member_texts es = with_members (with_names [] built_in_texts) es
-
--- ---- the faults of each pass
-
--- A fault if the test holds.
-abbrev pub where_ : Bool → NameFault → List NameFault
-where_ true f = f ∷ []
-where_ false f = []
-
 -- One fault or the other, the first taking precedence, or none.
 abbrev pub either_fault : Bool → NameFault → Bool → NameFault → List NameFault
 either_fault true f b g = f ∷ []
-either_fault false f b g = where_ b g
+either_fault false f b g = one_if b g
 
 -- The fault is the first of the list. Memory may run out at any time.
 abbrev pub IsFirstNameFault : NameFault → List NameFault → Type 0
 IsFirstNameFault fault.Memory fs = Unit {0}
 IsFirstNameFault f fs = slice_get fs 0 ≡ Some f
 
--- The first fault of a list is reported, and none if the list is empty.
-abbrev pub TellsFirst : {A : Type 0} → Result A NameFault → List NameFault → Type 0
-TellsFirst (Ok x) fs = fs ≡ []
-TellsFirst (Err f) fs = IsFirstNameFault f fs
-
--- ---- the names of entities
-
--- how many entities there may be, including the built-in ones
-abbrev pub known_limit : ℕ
-known_limit = first_own + entity_limit
-
 -- An entity whose name is already taken, or one too many.
 abbrev pub entity_name_faults : List Text → List t.Entity → List NameFault
 entity_name_faults known [] = []
 entity_name_faults known (e ∷ es) =
-    either_fault (is_among e.name.text known) (fault.Double e.name.span) (not (nat_lt (length known) known_limit)) (fault.TooMany which.Entities e.name.span)
+    either_fault (is_among e.name.text known) (fault.Double e.name.span) (not (nat_lt (length known) (first_own + entity_limit))) (fault.TooMany which.Entities e.name.span)
     ++ entity_name_faults (known ++ e.name.text ∷ []) es
 
 -- ---- declarations, entity by entity
 
 -- A type that names no entity.
 abbrev pub type_faults : List Text → TypeRef → List NameFault
-type_faults entities ty = where_ (not (is_among ty.name.text entities)) (fault.Unknown ty.name.span)
-
-abbrev pub result_faults : List Text → Option TypeRef → List NameFault
-result_faults entities None = []
-result_faults entities (Some ty) = type_faults entities ty
+type_faults entities ty = one_if (not (is_among ty.name.text entities)) (fault.Unknown ty.name.span)
 
 -- A name after `is` that is not a trait, or that occurs there before.
 abbrev pub provided_faults : List Text → List Text → List Name → List NameFault
@@ -94,26 +67,24 @@ field_faults entities known (f ∷ fs) =
 abbrev pub param_faults : List Text → List Text → List Text → List ParamDef → List NameFault
 param_faults entities fields known [] = []
 param_faults entities fields known (p ∷ ps) =
-    where_ (is_among p.name.text fields || is_among p.name.text known) (fault.Double p.name.span)
+    one_if (is_among p.name.text fields || is_among p.name.text known) (fault.Double p.name.span)
     ++ (type_faults entities p.ty ++ param_faults entities fields (known ++ p.name.text ∷ []) ps)
 
 -- The faults inside a method: in its parameters and its result.
 abbrev pub signature_faults : List Text → List Text → t.Method → List NameFault
-signature_faults entities fields m = param_faults entities fields [] m.params ++ result_faults entities m.result
+signature_faults entities fields m = param_faults entities fields [] m.params ++ option_map_or (type_faults entities) m.result []
 
 -- A method whose name a field or an earlier method has, and the faults inside it.
 abbrev pub method_faults : List Text → List Text → List Text → List t.Method → List NameFault
 method_faults entities fields known [] = []
 method_faults entities fields known (m ∷ ms) =
-    where_ (is_among m.name.text fields || is_among m.name.text known) (fault.Double m.name.span)
+    one_if (is_among m.name.text fields || is_among m.name.text known) (fault.Double m.name.span)
     ++ (signature_faults entities fields m ++ method_faults entities fields (known ++ m.name.text ∷ []) ms)
 
 -- An added `create` comes after all fields and methods, and its name is at that of the entity.
-abbrev pub is_member_name : Text → t.Entity → Bool
-is_member_name text e = is_among text (field_texts e.fields) || is_among text (method_texts e.methods)
-
 abbrev pub added_faults : t.Entity → List NameFault
-added_faults e = where_ (has_added e && is_member_name (codes "create") e) (fault.Double e.name.span)
+added_faults e =
+    one_if (has_added e && (is_among (codes "create") (field_texts e.fields) || is_among (codes "create") (method_texts e.methods))) (fault.Double e.name.span)
 
 -- The faults of an entity, given the names of all entities and those of all traits.
 abbrev pub entity_faults : List Text → List Text → t.Entity → List NameFault
@@ -122,38 +93,20 @@ entity_faults entities traits e =
     ++ (provided_faults traits [] e.provides
     ++ (field_faults entities [] e.fields ++ method_faults entities (field_texts e.fields) [] e.methods))
 
-abbrev pub entities_faults : List Text → List Text → List t.Entity → List NameFault
-entities_faults entities traits [] = []
-entities_faults entities traits (e ∷ es) = entity_faults entities traits e ++ entities_faults entities traits es
-
 abbrev pub declaration_faults : t.File → List NameFault
-declaration_faults file = entities_faults (entity_names file) (trait_names file.entities) file.entities
-
--- ---- how many methods a file has
-
--- How many methods an entity has: its own, an added `create`, and those that it takes over. The first argument is the
--- list of the file's entities.
-abbrev pub method_count : List t.Entity → t.Entity → ℕ
-method_count all e = length (members all e)
+declaration_faults file = flat_map (entity_faults (entity_names file) (trait_names file.entities)) file.entities
 
 -- The entities at which the number of the file's methods exceeds the limit. The number is that of the methods before
 -- the first of them.
 abbrev pub count_faults : List t.Entity → ℕ → List t.Entity → List NameFault
 count_faults all n [] = []
 count_faults all n (e ∷ es) =
-    where_ (nat_lt method_limit (n + method_count all e)) (fault.TooMany which.Methods e.name.span)
-    ++ count_faults all (n + method_count all e) es
-
--- The same, given the numbers of the entities' methods.
-abbrev pub faults_by_count : ℕ → List t.Entity → List ℕ → List NameFault
-faults_by_count n (e ∷ es) (c ∷ cs) = where_ (nat_lt method_limit (n + c)) (fault.TooMany which.Methods e.name.span) ++ faults_by_count (n + c) es cs
-faults_by_count n es cs = []
-
--- ---- traits and interfaces that lead back to themselves
+    one_if (nat_lt method_limit (n + length (members all e))) (fault.TooMany which.Methods e.name.span)
+    ++ count_faults all (n + length (members all e)) es
 
 -- Traits and interfaces, from entity number a on, that are above themselves; each entity comes with what is above it.
 abbrev pub cycle_faults : ℕ → List t.Entity → List (List ℕ) → List NameFault
-cycle_faults a (e ∷ es) (above ∷ lists) = where_ (is_abstract e.kind && has_number above a) (fault.Cycle e.name.span) ++ cycle_faults (a + 1) es lists
+cycle_faults a (e ∷ es) (above ∷ lists) = one_if (is_abstract e.kind && has_number above a) (fault.Cycle e.name.span) ++ cycle_faults (a + 1) es lists
 cycle_faults a es lists = []
 
 -- ---- what is collected from a file
@@ -164,17 +117,11 @@ pub record NamesData : Type 0 where
   pub texts : List Text
   pub above : List (List ℕ)
 
--- The faults that depend on the members of these entities, the entities of a file, and then those that depend on what
--- is above each.
-abbrev pub member_faults : List t.Entity → List NameFault
-member_faults all = count_faults all 0 all ++ main_faults all
-
-abbrev pub above_faults : List t.Entity → List (List ℕ) → List NameFault
-above_faults all above = cycle_faults first_own all above ++ member_faults all
-
 -- All faults of a file's names, pass by pass, given the entities above each.
 abbrev pub name_faults : t.File → List (List ℕ) → List NameFault
-name_faults file above = entity_name_faults built_in_names file.entities ++ (declaration_faults file ++ above_faults file.entities (drop first_own above))
+name_faults file above =
+    entity_name_faults built_in_names file.entities ++ (declaration_faults file
+    ++ (cycle_faults first_own file.entities (drop first_own above) ++ (count_faults file.entities 0 file.entities ++ main_faults file.entities)))
 
 -- The file's names have no fault, and these are the names.
 pub record Collected (file : t.File) (names : NamesData) : Type 0 where

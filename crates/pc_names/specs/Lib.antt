@@ -1,3 +1,4 @@
 pub mod Faults
 pub mod Mains
 pub mod Laws
+pub mod Parts

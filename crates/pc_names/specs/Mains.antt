@@ -2,18 +2,13 @@
 use Rattle.std.specs.Prelude.{Bool, true, false, ◌&&◌, List, [], ◌∷◌, Option, Some, None, codes}
 use Rattle.std.specs.{List.list_any, Str.bytes_eq}
 use Rattle.pc_caps.specs.declared.capability.Cap.{Cap}
-use Rattle.pc_tree.specs.{declared.file.ParamDef.ParamDef, declared.kinds.EntityKind.EntityKind, declared.written_names.TypeRef.TypeRef}
+use Rattle.pc_tree.specs.{declared.file.ParamDef.ParamDef, declared.kinds.EntityKind.EntityKind, declared.written_names.TypeRef.TypeRef, Kinds.at_kind}
 use Rattle.pc_members.specs.Members.{is_new}
 use Rattle.pc_caps.specs.declared.capability.Cap.TheVariants as cap
-use Rattle.pc_tree.specs.declared.kinds.EntityKind.TheVariants as kind
 use Rattle.pc_tree.specs.Tree as t
 
 abbrev pub is_actor : EntityKind → Bool
-is_actor kind.Class = false
-is_actor kind.Actor = true
-is_actor kind.Primitive = false
-is_actor kind.Trait = false
-is_actor kind.Interface = false
+is_actor = at_kind false true false false false
 
 -- `val`, which is also the capability of an `Env` without one.
 abbrev pub is_val : Option Cap → Bool

@@ -1,7 +1,7 @@
 //! The collected names of a file.
 ghost use Rattle.std.specs.Prelude.{◌≡◌, length, slice_get};
 ghost use Rattle.std.specs.Option.{option_copied};
-ghost use Rattle.pc_members.specs.MemberLists.{find_name};
+ghost use Rattle.pc_members.specs.Parts.{find_name};
 
 use pc_caps::List;
 use pc_members::NameTable;

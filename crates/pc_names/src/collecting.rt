@@ -5,7 +5,8 @@ ghost use Rattle.pc_members.specs.Members.{IsTransitiveClosure, built_in_names, 
 ghost use Rattle.pc_members.specs.Founded.{IsFounded};
 ghost use Rattle.pc_members.specs.Edges.{edges_of, above_all};
 ghost use Rattle.pc_tree.specs.Kinds.{first_own};
-ghost use Rattle.pc_names.specs.Faults.{cycle_faults, TellsFirst, declaration_faults, entity_name_faults, Collected, IsNameFault, above_faults, member_faults};
+ghost use Rattle.pc_names.specs.Faults.{cycle_faults, declaration_faults, entity_name_faults, Collected, IsNameFault};
+ghost use Rattle.pc_names.specs.Parts.{TellsFirst, above_faults, member_faults};
 
 use crate::collected_names::Names;
 use crate::counts::check_counts;

@@ -2,7 +2,8 @@
 ghost use Rattle.std.specs.Prelude.{◌≡◌, ◌&&◌, ◌+◌, ◌<◌, ◌^◌, map, length};
 ghost use Rattle.pc_tree.specs.Kinds.{is_abstract};
 ghost use Rattle.pc_tree.specs.View.{entity_view};
-ghost use Rattle.pc_names.specs.Faults.{cycle_faults, TellsFirst};
+ghost use Rattle.pc_names.specs.Faults.{cycle_faults};
+ghost use Rattle.pc_names.specs.Parts.{TellsFirst};
 ghost use Rattle.pc_members.specs.Edges as reach;
 
 use crate::fault::NameFault;

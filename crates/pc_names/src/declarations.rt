@@ -3,6 +3,7 @@ ghost use Rattle.std.specs.Prelude.{◌≡◌, ◌||◌, ◌++◌, [], not, leng
 ghost use Rattle.pc_caps.specs.Limits.{field_limit};
 ghost use Rattle.pc_tree.specs.View.{entity_view, field_view, method_view};
 ghost use Rattle.pc_names.specs.Faults as spec;
+ghost use Rattle.pc_names.specs.Parts as parts;
 ghost use Rattle.pc_names.specs.declared.fault.NameFault.TheVariants.{Double, TooMany};
 ghost use Rattle.pc_names.specs.declared.fault.Which.TheVariants.{Fields};
 ghost use Rattle.pc_members.specs.MemberLists.{is_among};
@@ -16,7 +17,7 @@ use std::alloc::Global;
 
 // The type names an entity.
 fn check_type(entities: &NameTable, ty: &TypeRef) -> Result<(), NameFault>
-    ensures { spec.TellsFirst result (spec.type_faults entities.now ty.now) }
+    ensures { parts.TellsFirst result (spec.type_faults entities.now ty.now) }
 {
     if entities.has(ty.name.text.as_slice()) {
         Ok(())
@@ -27,7 +28,7 @@ fn check_type(entities: &NameTable, ty: &TypeRef) -> Result<(), NameFault>
 
 // The type, if one is written, names an entity.
 fn check_result(entities: &NameTable, ty: &Option<TypeRef>) -> Result<(), NameFault>
-    ensures { spec.TellsFirst result (spec.result_faults entities.now ty.now) }
+    ensures { parts.TellsFirst result (parts.result_faults entities.now ty.now) }
 {
     match ty {
         None => Ok(()),
@@ -37,7 +38,7 @@ fn check_result(entities: &NameTable, ty: &Option<TypeRef>) -> Result<(), NameFa
 
 // The names after `is` are traits, each named once.
 fn check_provided(alloc: Global, traits: &NameTable, provides: &[Name]) -> Result<(), NameFault>
-    ensures { spec.TellsFirst result (spec.provided_faults traits.now [] provides.now) }
+    ensures { parts.TellsFirst result (spec.provided_faults traits.now [] provides.now) }
 {
     let mut known = traits.new_like(alloc);
     add_provided(traits, &mut known, provides)
@@ -49,7 +50,7 @@ fn add_provided(
     known: &mut NameTable,
     provides: &[Name],
 ) -> Result<(), NameFault>
-    ensures { spec.TellsFirst result (spec.provided_faults traits.now known.old provides.now) }
+    ensures { parts.TellsFirst result (spec.provided_faults traits.now known.old provides.now) }
 {
     for name in provides {
         if !traits.has(name.text.as_slice()) {
@@ -70,7 +71,7 @@ fn add_fields(
     known: &mut NameTable,
     fields: &[FieldDef],
 ) -> Result<(), NameFault>
-    ensures tells { spec.TellsFirst result (spec.field_faults entities.now known.old (map field_view fields.now)) }
+    ensures tells { parts.TellsFirst result (spec.field_faults entities.now known.old (map field_view fields.now)) }
     ensures names { OnOk result (known.new ≡ known.old ++ field_texts (map field_view fields.now)) }
 {
     for field in fields {
@@ -83,7 +84,7 @@ fn add_fields(
 
 // The name of a field is new, and the table does not have too many names.
 fn check_field_name(known: &NameTable, name: &Name) -> Result<(), NameFault>
-    ensures { spec.TellsFirst result (spec.either_fault (is_among name.now.text known.now) (Double name.now.span) (not (nat_lt (length known.now) field_limit)) (TooMany Fields name.now.span)) }
+    ensures { parts.TellsFirst result (spec.either_fault (is_among name.now.text known.now) (Double name.now.span) (not (nat_lt (length known.now) field_limit)) (TooMany Fields name.now.span)) }
 {
     if known.has(name.text.as_slice()) {
         return Err(NameFault::Double(name.span));
@@ -101,7 +102,7 @@ fn check_params(
     fields: &NameTable,
     params: &[ParamDef],
 ) -> Result<(), NameFault>
-    ensures { spec.TellsFirst result (spec.param_faults entities.now fields.now [] params.now) }
+    ensures { parts.TellsFirst result (spec.param_faults entities.now fields.now [] params.now) }
 {
     let mut known = entities.new_like(alloc);
     add_params(entities, fields, &mut known, params)
@@ -114,7 +115,7 @@ fn add_params(
     known: &mut NameTable,
     params: &[ParamDef],
 ) -> Result<(), NameFault>
-    ensures { spec.TellsFirst result (spec.param_faults entities.now fields.now known.old params.now) }
+    ensures { parts.TellsFirst result (spec.param_faults entities.now fields.now known.old params.now) }
 {
     for param in params {
         let name = &param.name;
@@ -142,7 +143,7 @@ fn check_signature(
     fields: &NameTable,
     method: &MethodDef,
 ) -> Result<(), NameFault>
-    ensures { spec.TellsFirst result (spec.signature_faults entities.now fields.now (method_view method.now)) }
+    ensures { parts.TellsFirst result (spec.signature_faults entities.now fields.now (method_view method.now)) }
 {
     check_params(alloc, entities, fields, method.params.as_slice())?;
     check_result(entities, &method.result)
@@ -155,7 +156,7 @@ fn check_methods(
     fields: &NameTable,
     methods: &[MethodDef],
 ) -> Result<(), NameFault>
-    ensures { spec.TellsFirst result (spec.method_faults entities.now fields.now [] (map method_view methods.now)) }
+    ensures { parts.TellsFirst result (spec.method_faults entities.now fields.now [] (map method_view methods.now)) }
 {
     let mut known = entities.new_like(alloc);
     add_methods(alloc, entities, fields, &mut known, methods)
@@ -169,7 +170,7 @@ fn add_methods(
     known: &mut NameTable,
     methods: &[MethodDef],
 ) -> Result<(), NameFault>
-    ensures { spec.TellsFirst result (spec.method_faults entities.now fields.now known.old (map method_view methods.now)) }
+    ensures { parts.TellsFirst result (spec.method_faults entities.now fields.now known.old (map method_view methods.now)) }
 {
     for method in methods {
         let name = &method.name;
@@ -184,7 +185,7 @@ fn add_methods(
 
 // The name of an added `create` is not that of a field or a method.
 fn check_added(entity: &Entity) -> Result<(), NameFault>
-    ensures { spec.TellsFirst result (spec.added_faults (entity_view entity.now)) }
+    ensures { parts.TellsFirst result (spec.added_faults (entity_view entity.now)) }
 {
     if has_added(entity) && is_taken(entity, b"create") {
         Err(NameFault::Double(entity.name.span))
@@ -195,7 +196,7 @@ fn check_added(entity: &Entity) -> Result<(), NameFault>
 
 // Whether a field or a method of the entity has this name.
 fn is_taken(entity: &Entity, name: &[u8]) -> bool
-    ensures { result ≡ spec.is_member_name name.now (entity_view entity.now) }
+    ensures { result ≡ parts.is_member_name name.now (entity_view entity.now) }
 {
     has_field(entity.fields.as_slice(), name) || has_method(entity.methods.as_slice(), name)
 }
@@ -224,7 +225,7 @@ fn has_method(methods: &[MethodDef], name: &[u8]) -> bool
 
 // The fields and methods of one entity.
 fn check_members(alloc: Global, entities: &NameTable, entity: &Entity) -> Result<(), NameFault>
-    ensures { spec.TellsFirst result (spec.field_faults entities.now [] (entity_view entity.now).fields ++ spec.method_faults entities.now (field_texts (entity_view entity.now).fields) [] (entity_view entity.now).methods) }
+    ensures { parts.TellsFirst result (spec.field_faults entities.now [] (entity_view entity.now).fields ++ spec.method_faults entities.now (field_texts (entity_view entity.now).fields) [] (entity_view entity.now).methods) }
 {
     let mut fields = entities.new_like(alloc);
     add_members(alloc, entities, &mut fields, entity)
@@ -239,7 +240,7 @@ fn add_members(
     entity: &Entity,
 ) -> Result<(), NameFault>
     requires { fields.old ≡ [] }
-    ensures { spec.TellsFirst result (spec.field_faults entities.now [] (entity_view entity.now).fields ++ spec.method_faults entities.now (field_texts (entity_view entity.now).fields) [] (entity_view entity.now).methods) }
+    ensures { parts.TellsFirst result (spec.field_faults entities.now [] (entity_view entity.now).fields ++ spec.method_faults entities.now (field_texts (entity_view entity.now).fields) [] (entity_view entity.now).methods) }
 {
     add_fields(entities, fields, entity.fields.as_slice())?;
     check_methods(alloc, entities, fields, entity.methods.as_slice())
@@ -253,7 +254,7 @@ fn check_entity(
     traits: &NameTable,
     entity: &Entity,
 ) -> Result<(), NameFault>
-    ensures { spec.TellsFirst result (spec.entity_faults entities.now traits.now (entity_view entity.now)) }
+    ensures { parts.TellsFirst result (spec.entity_faults entities.now traits.now (entity_view entity.now)) }
 {
     check_added(entity)?;
     check_provided(alloc, traits, entity.provides.as_slice())?;
@@ -268,7 +269,7 @@ pub(crate) fn check_entities(
     traits: &NameTable,
     all: &[Entity],
 ) -> Result<(), NameFault>
-    ensures { spec.TellsFirst result (spec.entities_faults entities.now traits.now (map entity_view all.now)) }
+    ensures { parts.TellsFirst result (parts.entities_faults entities.now traits.now (map entity_view all.now)) }
 {
     for entity in all {
         check_entity(alloc, entities, traits, entity)?;

@@ -1,7 +1,8 @@
 //! The numbers of the entities.
 ghost use Rattle.std.specs.Prelude.{◌≡◌, ◌++◌, ◌≤◌, [], map, length, take, IfOk, OnOk};
 ghost use Rattle.pc_tree.specs.View.{entity_view, file_view};
-ghost use Rattle.pc_names.specs.Faults.{TellsFirst, entity_name_faults, known_limit};
+ghost use Rattle.pc_names.specs.Faults.{entity_name_faults};
+ghost use Rattle.pc_names.specs.Parts.{TellsFirst, known_limit};
 ghost use Rattle.pc_members.specs.MemberLists.{trait_names, with_traits};
 ghost use Rattle.pc_members.specs.Members.{built_in_names, entity_names, texts_of};
 

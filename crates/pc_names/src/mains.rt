@@ -3,7 +3,7 @@ ghost use Rattle.pc_names.specs.Faults as faults;
 ghost use Rattle.std.specs.Prelude.{◌≡◌, map};
 ghost use Rattle.std.specs.List.{list_any};
 ghost use Rattle.pc_tree.specs.View.{entity_view, method_view};
-ghost use Rattle.pc_names.specs.Faults.{TellsFirst};
+ghost use Rattle.pc_names.specs.Parts.{TellsFirst};
 ghost use Rattle.pc_names.specs.Mains as spec;
 
 use crate::fault::NameFault;

@@ -3,6 +3,7 @@ ghost use Rattle.std.specs.Prelude.{◌≡◌, [], map, OnOk, IfOk};
 ghost use Rattle.pc_tree.specs.View.{entity_view, file_view};
 ghost use Rattle.pc_members.specs.MemberLists.{with_names};
 ghost use Rattle.pc_names.specs.Faults as spec;
+ghost use Rattle.pc_names.specs.Parts as parts;
 
 use pc_members::{NameTable, add_texts};
 use pc_tree::{Entity, File};
@@ -30,7 +31,7 @@ pub fn add_member_texts(table: &mut NameTable, entities: &[Entity]) -> Result<()
 // Adds the names that every program has, and those of these entities' fields and methods, to a table without names.
 fn add_all(table: &mut NameTable, entities: &[Entity]) -> Result<(), AllocError>
     requires { table.old ≡ [] }
-    ensures { OnOk result (table.new ≡ spec.built_in_and_member_texts (map entity_view entities.now)) }
+    ensures { OnOk result (table.new ≡ parts.built_in_and_member_texts (map entity_view entities.now)) }
 {
     add_built_in(table)?;
     add_member_texts(table, entities)
@@ -42,7 +43,7 @@ pub(crate) fn table_texts(
     entities: &NameTable,
     file: &File,
 ) -> Result<NameTable, AllocError>
-    ensures { IfOk result (λ t. t ≡ spec.built_in_and_member_texts (file_view file.now).entities) }
+    ensures { IfOk result (λ t. t ≡ parts.built_in_and_member_texts (file_view file.now).entities) }
 {
     let mut table = entities.new_like(alloc);
     add_all(&mut table, file.entities.as_slice())?;

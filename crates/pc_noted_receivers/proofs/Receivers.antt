@@ -20,8 +20,7 @@ use Rattle.pc_semantics.specs.declared.actors.Actor.{Actor}
 use Rattle.pc_semantics.specs.declared.frames.Frame.{Frame}
 use Rattle.pc_semantics.specs.declared.frames.Task.{Task}
 use Rattle.pc_semantics.specs.declared.frames.Task.TheVariants as task
-use Rattle.pc_semantics.specs.Configurations.{Configuration, start}
-use Rattle.pc_semantics.specs.Around.{value_entity}
+use Rattle.pc_semantics.specs.Configurations.{Configuration, start, value_entity}
 use Rattle.pc_semantics.specs.Step.{after}
 use Rattle.pc_rules.specs.Parts.{type_of, last_child}
 use Rattle.pc_valid.specs.Words.{Ty}
@@ -44,7 +43,8 @@ use Rattle.pc_types.proofs.Takes.{takes}
 use Rattle.pc_types.proofs.Starts.{start_typed}
 use Rattle.pc_sends.specs.Held.{invoked, receiver_child, call_held as next_call, IsNoted, HeldAt}
 use Rattle.pc_sends.specs.Tables.{noted_at}
-use Rattle.pc_noted_receivers.specs.Noted.{noted_entities, noted_in, noted_entity}
+use Rattle.pc_noted_receivers.specs.Noted.{noted_entities}
+use Rattle.pc_noted_receivers.specs.Parts.{noted_in, noted_entity}
 use Rattle.pc_noted_receivers.specs.Laws.{AcceptedHeld}
 
 -- ---- entities

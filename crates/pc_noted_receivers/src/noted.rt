@@ -3,6 +3,7 @@ ghost use Rattle.std.specs.Prelude.{◌≡◌, length, map, IfOk};
 ghost use Rattle.pc_valid.specs.Valid.{Valid};
 ghost use Rattle.pc_sends.specs.Held.{Held};
 ghost use Rattle.pc_noted_receivers.specs.Noted as spec;
+ghost use Rattle.pc_noted_receivers.specs.Parts as parts;
 
 use crate::laws::accepted_held;
 use pc_ann::{Ann, Note};
@@ -12,14 +13,14 @@ use std::alloc::{AllocError, Global};
 
 // The entity of a note's type, if it has one.
 fn noted_in(note: &Note) -> Option<u32>
-    ensures { result ≡ spec.noted_in note.now }
+    ensures { result ≡ parts.noted_in note.now }
 {
     note.ty.map(|ty| ty.0)
 }
 
 // The entities of all notes.
 fn all_noted(alloc: Global, notes: &[Note]) -> Result<List<Option<u32>>, AllocError>
-    ensures { IfOk result (λ entities. entities ≡ map spec.noted_in notes.now) }
+    ensures { IfOk result (λ entities. entities ≡ map parts.noted_in notes.now) }
 {
     let mut entities = List::new(alloc);
     for note in notes {

@@ -3,7 +3,7 @@ use Rattle.std.proofs.Common.{◌≡◌, Bool, true, false, List, [], ◌∷◌,
 use Rattle.pc_tree.specs.Tree as t
 use Rattle.pc_token.specs.declared.kinds.Token.{Token}
 use Rattle.pc_token.specs.declared.signs.Sign.TheVariants as s
-use Rattle.pc_token.specs.Asking.{is_sign}
+use Rattle.pc_token.specs.Words.{is_sign}
 use Rattle.pc_grammar.specs.Reading.{Parser, ◌>>=◌, ◌>>◌, pure, peek, take_if, all, after, at}
 use Rattle.pc_grammar.specs.ReadingFile.{is_end, maybe_doc, param, param_list, type_names, begins_entity, entity, file}
 use Rattle.pc_expr.specs.Onto.{onto}

@@ -4,7 +4,7 @@ ghost use Rattle.pc_tree.specs.View.{entity_view};
 ghost use Rattle.pc_grammar.specs.ReadingFile as rules;
 ghost use Rattle.pc_expr.specs.Gives.{StandsAtToken, Moves, GivesReading};
 ghost use Rattle.pc_parse.specs.Parts as parts;
-ghost use Rattle.pc_grammar.specs.FileAnswers.{inner_levels};
+ghost use Rattle.pc_grammar.specs.Parts.{inner_levels};
 
 use crate::fields::fields;
 use crate::methods::methods;

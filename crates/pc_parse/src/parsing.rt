@@ -2,7 +2,8 @@
 ghost use Rattle.std.specs.Prelude.{◌≤◌, length, IfOk, IfErr};
 ghost use Rattle.pc_tree.specs.View.{file_view};
 ghost use Rattle.pc_grammar.specs.ReadingFile as rules;
-ghost use Rattle.pc_grammar.specs.FileAnswers.{IsFileAnswer, spelled, inner_levels};
+ghost use Rattle.pc_grammar.specs.FileAnswers.{IsFileAnswer, spelled};
+ghost use Rattle.pc_grammar.specs.Parts.{inner_levels};
 ghost use Rattle.pc_expr.specs.Gives.{EndsWithEnd, StandsAtToken, GivesReading};
 ghost use Rattle.pc_parse.specs.Answers.{StopsRight, RefusesFile, IsOnly};
 

@@ -1,10 +1,10 @@
 //! Single tokens of files: docs, the end, and where a list of parts continues.
 ghost use Rattle.std.specs.Prelude.{◌≡◌, ◌≤◌, drop, IfSome, Ok, option_map};
 ghost use Rattle.pc_token.specs.declared.signs.Sign.TheVariants.{Ampersand};
-ghost use Rattle.pc_token.specs.Asking as asking;
+ghost use Rattle.pc_token.specs.Words as spec;
 ghost use Rattle.pc_grammar.specs.Reading as reading;
 ghost use Rattle.pc_grammar.specs.ReadingFile as rules;
-ghost use Rattle.pc_grammar.specs.SpellsFile as grammar;
+ghost use Rattle.pc_grammar.specs.Spells as spells;
 ghost use Rattle.pc_expr.specs.Gives.{StandsAtToken};
 
 use pc_expr::parsers::look;
@@ -58,7 +58,7 @@ pub fn after_doc(tokens: &[Token], at: usize) -> usize
 #[tactic(auto, using(pc_expr::proofs::Ends::is_sign_not_end), unfolding(pc_grammar::specs::Reading::after))]
 pub fn after_ampersand(tokens: &[Token], at: usize) -> Option<usize>
     requires { StandsAtToken tokens.now at }
-    ensures value { option_map (λ p. drop p tokens.now) result ≡ reading.after (asking.is_sign Ampersand) (drop at tokens.now) }
+    ensures value { option_map (λ p. drop p tokens.now) result ≡ reading.after (spec.is_sign Ampersand) (drop at tokens.now) }
     ensures there { IfSome result (λ p. (at ≤ p) × StandsAtToken tokens.now p) }
 {
     if is_sign(look(tokens, at), Sign::Ampersand) {
@@ -91,7 +91,7 @@ pub fn at_field(tokens: &[Token], at: usize) -> Option<usize>
 
 /// The keyword of such a method.
 pub fn method_word(word: MethodWord) -> Word
-    ensures { result ≡ grammar.method_word word }
+    ensures { result ≡ spells.method_word word }
 {
     match word {
         MethodWord::Fun => Word::FunWord,
@@ -132,7 +132,7 @@ pub fn at_method(tokens: &[Token], at: usize, kind: EntityKind) -> Option<usize>
 
 /// The keyword of such an entity.
 pub fn entity_word(kind: EntityKind) -> Word
-    ensures { result ≡ grammar.entity_word kind }
+    ensures { result ≡ spells.entity_word kind }
 {
     match kind {
         EntityKind::Class => Word::ClassWord,

@@ -13,12 +13,12 @@ use Rattle.pc_token.specs.declared.words.Word.{Word}
 use Rattle.pc_token.specs.declared.words.Word.TheVariants as w
 use Rattle.pc_token.specs.declared.signs.Sign.TheVariants as s
 use Rattle.pc_token.specs.Words.{word_text}
-use Rattle.pc_grammar.specs.Spells.{local_word}
-use Rattle.pc_grammar.specs.SpellsFile.{method_word, entity_word}
+use Rattle.pc_grammar.specs.Spells.{local_word, method_word, entity_word}
 use Rattle.pc_lex.specs.Pieces.{Piece}
 use Rattle.pc_print.proofs.Spelling.{word, sign, blank, feed, op_kind, spelling}
 use Rattle.pc_print.proofs.Pieced as p
 use Rattle.pc_print.proofs.Pieced.{joined}
+use Rattle.pc_print.specs.Parts as parts
 use Rattle.pc_print.specs.Printing as text
 use Rattle.pc_print.specs.Printing.{printed}
 
@@ -35,7 +35,7 @@ same_cap (Some c.Val) rest = refl
 same_cap (Some c.Box) rest = refl
 same_cap (Some c.Tag) rest = refl
 
-same_hat : (b : Bool) (rest : List Piece) → text.hat b ++ joined rest ≡ joined (p.hat b rest)
+same_hat : (b : Bool) (rest : List Piece) → parts.hat b ++ joined rest ≡ joined (p.hat b rest)
 same_hat false rest = refl
 same_hat true rest = refl
 
@@ -58,7 +58,7 @@ same_op o.Is rest = refl
 same_op o.Isnt rest = refl
 
 same_type : (r : TypeRef) (rest : List Piece) → text.printed_type_ref r ++ joined rest ≡ joined (p.type_ref r rest)
-same_type r rest = then r.name.text (text.printed_cap r.cap ++ text.hat r.hat) (joined rest) _ (then (text.printed_cap r.cap) (text.hat r.hat) (joined rest) _ (same_hat r.hat rest) ∙ same_cap r.cap (p.hat r.hat rest))
+same_type r rest = then r.name.text (text.printed_cap r.cap ++ parts.hat r.hat) (joined rest) _ (then (text.printed_cap r.cap) (parts.hat r.hat) (joined rest) _ (same_hat r.hat rest) ∙ same_cap r.cap (p.hat r.hat rest))
 
 same_typed : (r : Option TypeRef) (rest : List Piece) → text.printed_type r ++ joined rest ≡ joined (p.typed r rest)
 same_typed None rest = refl
@@ -81,7 +81,7 @@ mutual
   same_expr (t.chain e ss sp) rest =
       then (text.printed_expr e) (text.printed_suffixes ss) (joined rest) _ (same_suffixes ss rest) ∙ same_expr e (p.suffixes ss rest)
   same_expr (t.group b sp) rest = ap (λ l. codes "(" ++ l) (then (text.printed_seq b) (codes ")") (joined rest) (joined (sign s.CloseParen ∷ rest)) refl ∙ same_seq b (sign s.CloseParen ∷ rest))
-  same_expr (t.if_ as' o sp) rest = then (text.printed_arms as') (text.printed_other o ++ codes " end") (joined rest) _ (then (text.printed_other o) (codes " end") (joined rest) (joined (ending rest)) refl ∙ same_other o (ending rest)) ∙ same_arms as' (p.other o (ending rest))
+  same_expr (t.if_ as' o sp) rest = then (parts.all_arms as') (text.printed_other o ++ codes " end") (joined rest) _ (then (text.printed_other o) (codes " end") (joined rest) (joined (ending rest)) refl ∙ same_other o (ending rest)) ∙ same_arms as' (p.other o (ending rest))
   same_expr (t.while_ c b sp) rest =
       let inner = then (text.printed_seq b) (codes " end") (joined rest) (joined (ending rest)) refl ∙ same_seq b (ending rest) in
       let do_ = blank ∷ word w.DoWord ∷ blank ∷ p.seq b (ending rest) in
@@ -95,44 +95,46 @@ mutual
       then (text.printed_expr l) (codes " = " ++ text.printed_expr r) (joined rest) (joined right) (ap (λ l. codes " = " ++ l) (same_expr r rest))
       ∙ same_expr l right
 
-  same_terms : (es : t.Exprs) (o : Op) (rest : List Piece) → text.printed_terms es o ++ joined rest ≡ joined (p.terms es o rest)
+  same_terms : (es : t.Exprs) (o : Op) (rest : List Piece) → parts.printed_terms es o ++ joined rest ≡ joined (p.terms es o rest)
   same_terms t.no_exprs o rest = refl
-  same_terms (t.expr e es) o rest = then (text.printed_expr e) (text.more_terms es o) (joined rest) _ (same_more_terms es o rest) ∙ same_expr e (p.more_terms es o rest)
+  same_terms (t.expr e es) o rest = then (text.printed_expr e) (parts.more_terms es o) (joined rest) _ (same_more_terms es o rest) ∙ same_expr e (p.more_terms es o rest)
 
-  same_more_terms : (es : t.Exprs) (o : Op) (rest : List Piece) → text.more_terms es o ++ joined rest ≡ joined (p.more_terms es o rest)
+  same_more_terms : (es : t.Exprs) (o : Op) (rest : List Piece) → parts.more_terms es o ++ joined rest ≡ joined (p.more_terms es o rest)
   same_more_terms t.no_exprs o rest = refl
   same_more_terms (t.expr e es) o rest =
-      let next = then (text.printed_expr e) (text.more_terms es o) (joined rest) _ (same_more_terms es o rest) ∙ same_expr e (p.more_terms es o rest) in
-      ap (λ l. codes " " ++ l) (then (text.op_text o) (codes " " ++ (text.printed_expr e ++ text.more_terms es o)) (joined rest) _ (ap (λ l. codes " " ++ l) next) ∙ same_op o _)
+      let next = then (text.printed_expr e) (parts.more_terms es o) (joined rest) _ (same_more_terms es o rest) ∙ same_expr e (p.more_terms es o rest) in
+      let tail = text.printed_expr e ++ parts.more_terms es o in
+      let begin = ap (λ l. l ++ joined rest) (append_assoc (text.op_text o) (codes " ") tail) in
+      ap (λ l. codes " " ++ l) (begin ∙ (then (text.op_text o) (codes " " ++ tail) (joined rest) _ (ap (λ l. codes " " ++ l) next) ∙ same_op o _))
 
   same_suffix : (x : t.Suffix) (rest : List Piece) → text.printed_suffix x ++ joined rest ≡ joined (p.one_suffix x rest)
   same_suffix (t.dot m) rest = refl
-  same_suffix (t.args es sp) rest = ap (λ l. codes "(" ++ l) (then (text.printed_args es) (codes ")") (joined rest) (joined (sign s.CloseParen ∷ rest)) refl ∙ same_args es (sign s.CloseParen ∷ rest))
+  same_suffix (t.args es sp) rest = ap (λ l. codes "(" ++ l) (then (parts.printed_args es) (codes ")") (joined rest) (joined (sign s.CloseParen ∷ rest)) refl ∙ same_args es (sign s.CloseParen ∷ rest))
 
   same_suffixes : (ss : t.Suffixes) (rest : List Piece) → text.printed_suffixes ss ++ joined rest ≡ joined (p.suffixes ss rest)
   same_suffixes t.no_suffixes rest = refl
   same_suffixes (t.suffix x ss) rest = then (text.printed_suffix x) (text.printed_suffixes ss) (joined rest) _ (same_suffixes ss rest) ∙ same_suffix x (p.suffixes ss rest)
 
-  same_args : (es : t.Exprs) (rest : List Piece) → text.printed_args es ++ joined rest ≡ joined (p.args es rest)
+  same_args : (es : t.Exprs) (rest : List Piece) → parts.printed_args es ++ joined rest ≡ joined (p.args es rest)
   same_args t.no_exprs rest = refl
-  same_args (t.expr e es) rest = then (text.printed_expr e) (text.more_args es) (joined rest) _ (same_more_args es rest) ∙ same_expr e (p.more_args es rest)
+  same_args (t.expr e es) rest = then (text.printed_expr e) (parts.more_args es) (joined rest) _ (same_more_args es rest) ∙ same_expr e (p.more_args es rest)
 
-  same_more_args : (es : t.Exprs) (rest : List Piece) → text.more_args es ++ joined rest ≡ joined (p.more_args es rest)
+  same_more_args : (es : t.Exprs) (rest : List Piece) → parts.more_args es ++ joined rest ≡ joined (p.more_args es rest)
   same_more_args t.no_exprs rest = refl
-  same_more_args (t.expr e es) rest = ap (λ l. codes ", " ++ l) (then (text.printed_expr e) (text.more_args es) (joined rest) _ (same_more_args es rest) ∙ same_expr e (p.more_args es rest))
+  same_more_args (t.expr e es) rest = ap (λ l. codes ", " ++ l) (then (text.printed_expr e) (parts.more_args es) (joined rest) _ (same_more_args es rest) ∙ same_expr e (p.more_args es rest))
 
   same_arm : (x : t.Arm) (head : Word) (rest : List Piece) → word_text head ++ 32 ∷ (text.printed_arm x ++ joined rest) ≡ joined (p.one_arm x head rest)
   same_arm (t.arm_of c b sp) head rest =
       let body = blank ∷ word w.ThenWord ∷ blank ∷ p.seq b rest in
       ap (λ l. word_text head ++ 32 ∷ l) (then (text.printed_seq c) (codes " then " ++ text.printed_seq b) (joined rest) (joined body) (ap (λ l. codes " then " ++ l) (same_seq b rest)) ∙ same_seq c body)
 
-  same_arms : (xs : t.Arms) (rest : List Piece) → text.printed_arms xs ++ joined rest ≡ joined (p.arms xs rest)
+  same_arms : (xs : t.Arms) (rest : List Piece) → parts.all_arms xs ++ joined rest ≡ joined (p.arms xs rest)
   same_arms t.no_arms rest = refl
-  same_arms (t.arm x xs) rest = ap (λ l. codes "if " ++ l) (then (text.printed_arm x) (text.more_arms xs) (joined rest) _ (same_more_arms xs rest)) ∙ same_arm x w.IfWord (p.more_arms xs rest)
+  same_arms (t.arm x xs) rest = ap (λ l. codes "if " ++ l) (then (text.printed_arm x) (parts.more_arms xs) (joined rest) _ (same_more_arms xs rest)) ∙ same_arm x w.IfWord (p.more_arms xs rest)
 
-  same_more_arms : (xs : t.Arms) (rest : List Piece) → text.more_arms xs ++ joined rest ≡ joined (p.more_arms xs rest)
+  same_more_arms : (xs : t.Arms) (rest : List Piece) → parts.more_arms xs ++ joined rest ≡ joined (p.more_arms xs rest)
   same_more_arms t.no_arms rest = refl
-  same_more_arms (t.arm x xs) rest = ap (λ l. codes " elseif " ++ l) (then (text.printed_arm x) (text.more_arms xs) (joined rest) _ (same_more_arms xs rest)) ∙ ap (λ l. 32 ∷ l) (same_arm x w.ElseifWord (p.more_arms xs rest))
+  same_more_arms (t.arm x xs) rest = ap (λ l. codes " elseif " ++ l) (then (text.printed_arm x) (parts.more_arms xs) (joined rest) _ (same_more_arms xs rest)) ∙ ap (λ l. 32 ∷ l) (same_arm x w.ElseifWord (p.more_arms xs rest))
 
   same_other : (o : t.Other) (rest : List Piece) → text.printed_other o ++ joined rest ≡ joined (p.other o rest)
   same_other t.no_other rest = refl
@@ -141,14 +143,14 @@ mutual
   same_seq : (b : t.Seq) (rest : List Piece) → text.printed_seq b ++ joined rest ≡ joined (p.seq b rest)
   same_seq (t.seq is sp) rest = same_items is rest
 
-  same_items : (is : t.Items) (rest : List Piece) → text.printed_items is ++ joined rest ≡ joined (p.items is rest)
+  same_items : (is : t.Items) (rest : List Piece) → parts.all_items is ++ joined rest ≡ joined (p.items is rest)
   same_items t.no_items rest = refl
   same_items (t.item i is) rest =
-      then (text.printed_item i) (text.more_items is) (joined rest) _ (same_more_items is rest) ∙ same_item i (p.more_items is rest)
+      then (text.printed_item i) (parts.more_items is) (joined rest) _ (same_more_items is rest) ∙ same_item i (p.more_items is rest)
 
-  same_more_items : (is : t.Items) (rest : List Piece) → text.more_items is ++ joined rest ≡ joined (p.more_items is rest)
+  same_more_items : (is : t.Items) (rest : List Piece) → parts.more_items is ++ joined rest ≡ joined (p.more_items is rest)
   same_more_items t.no_items rest = refl
-  same_more_items (t.item i is) rest = ap (λ l. codes "; " ++ l) (then (text.printed_item i) (text.more_items is) (joined rest) _ (same_more_items is rest) ∙ same_item i (p.more_items is rest))
+  same_more_items (t.item i is) rest = ap (λ l. codes "; " ++ l) (then (text.printed_item i) (parts.more_items is) (joined rest) _ (same_more_items is rest) ∙ same_item i (p.more_items is rest))
 
   same_item : (i : t.Item) (rest : List Piece) → text.printed_item i ++ joined rest ≡ joined (p.one_item i rest)
   same_item (t.local f m ty e sp) rest =
@@ -159,40 +161,40 @@ mutual
 
 -- ---- members
 
-same_lines : (is : t.Items) (rest : List Piece) → text.printed_lines is ++ joined rest ≡ joined (p.lines is rest)
+same_lines : (is : t.Items) (rest : List Piece) → parts.printed_lines is ++ joined rest ≡ joined (p.lines is rest)
 same_lines t.no_items rest = refl
-same_lines (t.item i is) rest = ap (λ l. 10 ∷ (codes "    " ++ l)) (then (text.printed_item i) (text.printed_lines is) (joined rest) _ (same_lines is rest) ∙ same_item i (p.lines is rest))
+same_lines (t.item i is) rest = ap (λ l. 10 ∷ (codes "    " ++ l)) (then (text.printed_item i) (parts.printed_lines is) (joined rest) _ (same_lines is rest) ∙ same_item i (p.lines is rest))
 
 same_body_lines : (b : t.Seq) (rest : List Piece) → text.body_lines b ++ joined rest ≡ joined (p.body_lines b rest)
 same_body_lines (t.seq is sp) rest = same_lines is rest
 
-same_value : (e : Option t.Expr) (rest : List Piece) → text.printed_value e ++ joined rest ≡ joined (p.value e rest)
+same_value : (e : Option t.Expr) (rest : List Piece) → parts.printed_value e ++ joined rest ≡ joined (p.value e rest)
 same_value None rest = refl
 same_value (Some e) rest = ap (λ l. codes " = " ++ l) (same_expr e rest)
 
 same_field : (f : t.Field) (rest : List Piece) → text.printed_field f ++ joined rest ≡ joined (p.field f rest)
 same_field f rest =
-    let ty = then (text.printed_type_ref f.ty) (text.printed_value f.value) (joined rest) _ (same_value f.value rest)
+    let ty = then (text.printed_type_ref f.ty) (parts.printed_value f.value) (joined rest) _ (same_value f.value rest)
     ∙ same_type f.ty (p.value f.value rest) in
     ap (λ l. 10 ∷ (codes "  " ++ l)) (then (word_text (local_word f.fixed)) _ (joined rest) _ (ap (λ l. codes " " ++ l) (then f.name.text _ (joined rest) _ (ap (λ l. codes ": " ++ l) ty))))
 
-same_fields : (fs : List t.Field) (rest : List Piece) → text.printed_fields fs ++ joined rest ≡ joined (p.fields fs rest)
+same_fields : (fs : List t.Field) (rest : List Piece) → parts.printed_fields fs ++ joined rest ≡ joined (p.fields fs rest)
 same_fields [] rest = refl
-same_fields (f ∷ fs) rest = then (text.printed_field f) (text.printed_fields fs) (joined rest) _ (same_fields fs rest) ∙ same_field f (p.fields fs rest)
+same_fields (f ∷ fs) rest = then (text.printed_field f) (parts.printed_fields fs) (joined rest) _ (same_fields fs rest) ∙ same_field f (p.fields fs rest)
 
 same_param : (d : ParamDef) (rest : List Piece) → text.printed_param d ++ joined rest ≡ joined (p.param d rest)
 same_param d rest = then d.name.text (codes ": " ++ text.printed_type_ref d.ty) (joined rest) _ (ap (λ l. codes ": " ++ l) (same_type d.ty rest))
 
-same_more_params : (ds : List ParamDef) (rest : List Piece) → text.more_params ds ++ joined rest ≡ joined (p.more_params ds rest)
+same_more_params : (ds : List ParamDef) (rest : List Piece) → parts.more_params ds ++ joined rest ≡ joined (p.more_params ds rest)
 same_more_params [] rest = refl
-same_more_params (d ∷ ds) rest = ap (λ l. codes ", " ++ l) (then (text.printed_param d) (text.more_params ds) (joined rest) _ (same_more_params ds rest) ∙ same_param d (p.more_params ds rest))
+same_more_params (d ∷ ds) rest = ap (λ l. codes ", " ++ l) (then (text.printed_param d) (parts.more_params ds) (joined rest) _ (same_more_params ds rest) ∙ same_param d (p.more_params ds rest))
 
-same_params : (ds : List ParamDef) (rest : List Piece) → text.printed_params ds ++ joined rest ≡ joined (p.params ds rest)
+same_params : (ds : List ParamDef) (rest : List Piece) → parts.printed_params ds ++ joined rest ≡ joined (p.params ds rest)
 same_params [] rest = refl
 same_params (d ∷ ds) rest =
-    then (text.printed_param d) (text.more_params ds) (joined rest) _ (same_more_params ds rest) ∙ same_param d (p.more_params ds rest)
+    then (text.printed_param d) (parts.more_params ds) (joined rest) _ (same_more_params ds rest) ∙ same_param d (p.more_params ds rest)
 
-same_body : (b : Option t.Seq) (rest : List Piece) → text.printed_body b ++ joined rest ≡ joined (p.body b rest)
+same_body : (b : Option t.Seq) (rest : List Piece) → parts.printed_body b ++ joined rest ≡ joined (p.body b rest)
 same_body None rest = refl
 same_body (Some b) rest = ap (λ l. codes " =>" ++ l) (same_body_lines b rest)
 
@@ -200,49 +202,49 @@ same_method : (m : t.Method) (rest : List Piece) → text.printed_method m ++ jo
 same_method m rest =
     let r = joined rest in
     let behind = sign s.CloseParen ∷ p.typed m.result (p.body m.body rest) in
-    let result = then (text.printed_type m.result) (text.printed_body m.body) r _ (same_body m.body rest) ∙ same_typed m.result (p.body m.body rest) in
-    let params = then (text.printed_params m.params) _ r (joined behind) (ap (λ l. codes ")" ++ l) result) ∙ same_params m.params behind in
+    let result = then (text.printed_type m.result) (parts.printed_body m.body) r _ (same_body m.body rest) ∙ same_typed m.result (p.body m.body rest) in
+    let params = then (parts.printed_params m.params) _ r (joined behind) (ap (λ l. codes ")" ++ l) result) ∙ same_params m.params behind in
     let name = then m.name.text _ r _ (ap (λ l. codes "(" ++ l) params) in
     let cap = then (text.printed_cap m.cap) _ r _ (ap (λ l. codes " " ++ l) name) ∙ same_cap m.cap (blank ∷ p.name m.name (sign s.OpenParen ∷ p.params m.params behind)) in
     ap (λ l. 10 ∷ (codes "  " ++ l)) (then (word_text (method_word m.word)) _ r _ cap)
 
-same_methods : (ms : List t.Method) (rest : List Piece) → text.printed_methods ms ++ joined rest ≡ joined (p.methods ms rest)
+same_methods : (ms : List t.Method) (rest : List Piece) → parts.printed_methods ms ++ joined rest ≡ joined (p.methods ms rest)
 same_methods [] rest = refl
 same_methods (m ∷ ms) rest =
-    then (text.printed_method m) (text.printed_methods ms) (joined rest) _ (same_methods ms rest) ∙ same_method m (p.methods ms rest)
+    then (text.printed_method m) (parts.printed_methods ms) (joined rest) _ (same_methods ms rest) ∙ same_method m (p.methods ms rest)
 
 -- ---- entities and files
 
-same_more_names : (ms : List Name) (rest : List Piece) → text.more_names ms ++ joined rest ≡ joined (p.more_names ms rest)
+same_more_names : (ms : List Name) (rest : List Piece) → parts.more_names ms ++ joined rest ≡ joined (p.more_names ms rest)
 same_more_names [] rest = refl
-same_more_names (m ∷ ms) rest = ap (λ l. codes " & " ++ l) (then m.text (text.more_names ms) (joined rest) _ (same_more_names ms rest))
+same_more_names (m ∷ ms) rest = ap (λ l. codes " & " ++ l) (then m.text (parts.more_names ms) (joined rest) _ (same_more_names ms rest))
 
 same_provides : (ms : List Name) (rest : List Piece) → text.printed_provides ms ++ joined rest ≡ joined (p.provides ms rest)
 same_provides [] rest = refl
 same_provides (m ∷ []) rest = refl
 same_provides (m ∷ n ∷ ms) rest =
     let close = sign s.CloseParen ∷ rest in
-    let more = text.more_names (n ∷ ms) in
+    let more = parts.more_names (n ∷ ms) in
     let all = then m.text more (joined close) _ (same_more_names (n ∷ ms) close) in
-    ap (λ l. codes " is (" ++ l) (then (text.printed_names (m ∷ n ∷ ms)) (codes ")") (joined rest) (joined close) refl ∙ all)
+    ap (λ l. codes " is (" ++ l) (then (parts.printed_names (m ∷ n ∷ ms)) (codes ")") (joined rest) (joined close) refl ∙ all)
 
 same_entity : (e : t.Entity) (rest : List Piece) → text.printed_entity e ++ joined rest ≡ joined (p.entity e rest)
 same_entity e rest =
     let r = joined rest in
     let methods = p.methods e.methods rest in
-    let fields = then (text.printed_fields e.fields) (text.printed_methods e.methods) r _ (same_methods e.methods rest) ∙ same_fields e.fields methods in
+    let fields = then (parts.printed_fields e.fields) (parts.printed_methods e.methods) r _ (same_methods e.methods rest) ∙ same_fields e.fields methods in
     let names = then (text.printed_provides e.provides) _ r _ fields ∙ same_provides e.provides (p.fields e.fields methods) in
     let name = then e.name.text _ r _ names in
     let cap = then (text.printed_cap e.cap) _ r _ (ap (λ l. codes " " ++ l) name) ∙ same_cap e.cap (blank ∷ p.type_name e.name (p.provides e.provides (p.fields e.fields methods))) in
     then (word_text (entity_word e.kind)) _ r _ cap
 
-same_more_entities : (es : List t.Entity) (rest : List Piece) → text.more_entities es ++ joined rest ≡ joined (p.more_entities es rest)
+same_more_entities : (es : List t.Entity) (rest : List Piece) → parts.more_entities es ++ joined rest ≡ joined (p.more_entities es rest)
 same_more_entities [] rest = refl
-same_more_entities (e ∷ es) rest = ap (λ l. 10 ∷ 10 ∷ l) (then (text.printed_entity e) (text.more_entities es) (joined rest) _ (same_more_entities es rest) ∙ same_entity e (p.more_entities es rest))
+same_more_entities (e ∷ es) rest = ap (λ l. 10 ∷ 10 ∷ l) (then (text.printed_entity e) (parts.more_entities es) (joined rest) _ (same_more_entities es rest) ∙ same_entity e (p.more_entities es rest))
 
-same_entities : (es : List t.Entity) (rest : List Piece) → text.printed_entities es ++ joined rest ≡ joined (p.entities es rest)
+same_entities : (es : List t.Entity) (rest : List Piece) → parts.printed_entities es ++ joined rest ≡ joined (p.entities es rest)
 same_entities [] rest = refl
-same_entities (e ∷ es) rest = then (text.printed_entity e) (text.more_entities es) (joined rest) _ (same_more_entities es rest) ∙ same_entity e (p.more_entities es rest)
+same_entities (e ∷ es) rest = then (text.printed_entity e) (parts.more_entities es) (joined rest) _ (same_more_entities es rest) ∙ same_entity e (p.more_entities es rest)
 
 pub same_file : (f : t.File) → printed f ≡ joined (p.file f)
 unfolding printed

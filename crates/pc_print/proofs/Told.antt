@@ -18,6 +18,7 @@ use Rattle.pc_tree.specs.declared.expression.Arm.{Arm}
 use Rattle.pc_tree.specs.declared.expression.Seq.{Seq}
 use Rattle.pc_tree.specs.View.{expr_view, item_view, suffix_view, arm_view, seq_view, exprs_view, suffixes_view, arms_view, items_view, other_view}
 use Rattle.pc_tree.proofs.Views.{view_not, view_chain, view_if, view_while, view_recover, view_assign, view_dot, view_args, view_local, view_arm, view_seq}
+use Rattle.pc_print.specs.Parts as parts
 use Rattle.pc_print.specs.Printing as text
 
 pub told_recover : (x : Expr) (k : Option Cap) (b : Box Seq Global) (sp : Span) → x ≡ e.Recover k b sp
@@ -39,7 +40,7 @@ pub told_not : (x : Expr) (b : Box Expr Global) (sp : Span) → x ≡ e.Not b sp
 told_not x b sp is = ap (λ y. text.printed_expr (expr_view y)) is ∙ ap text.printed_expr (view_not b sp)
 
 pub told_if : (x : Expr) (arms : List Arm) (o : Option (Box Seq Global)) (sp : Span) → x ≡ e.If arms o sp
-    → text.printed_expr (expr_view x) ≡ text.printed_arms (arms_view arms) ++ (text.printed_other (other_view o) ++ codes " end")
+    → text.printed_expr (expr_view x) ≡ parts.all_arms (arms_view arms) ++ (text.printed_other (other_view o) ++ codes " end")
 told_if x arms o sp is = ap (λ y. text.printed_expr (expr_view y)) is ∙ ap text.printed_expr (view_if arms o sp)
 
 pub told_chain : (x : Expr) (b : Box Expr Global) (ss : List Suffix) (sp : Span) → x ≡ e.Chain b ss sp
@@ -55,12 +56,12 @@ told_local x fixed m ty v sp is =
 pub told_dot : (x : Suffix) (m : Name) → x ≡ s.Dot m → text.printed_suffix (suffix_view x) ≡ codes "." ++ m.text
 told_dot x m is = ap (λ y. text.printed_suffix (suffix_view y)) is ∙ ap text.printed_suffix (view_dot m)
 
-pub told_args : (x : Suffix) (es : List Expr) (sp : Span) → x ≡ s.Args es sp → text.printed_suffix (suffix_view x) ≡ codes "(" ++ (text.printed_args (exprs_view es) ++ codes ")")
+pub told_args : (x : Suffix) (es : List Expr) (sp : Span) → x ≡ s.Args es sp → text.printed_suffix (suffix_view x) ≡ codes "(" ++ (parts.printed_args (exprs_view es) ++ codes ")")
 told_args x es sp is = ap (λ y. text.printed_suffix (suffix_view y)) is ∙ ap text.printed_suffix (view_args es sp)
 
 pub told_arm : (a : Arm) → text.printed_arm (arm_view a) ≡ (text.printed_seq (seq_view a.cond) ++ codes " then ") ++ text.printed_seq (seq_view a.body)
 told_arm a = ap text.printed_arm (view_arm a.cond a.body a.span)
     ∙ sym (append_assoc (text.printed_seq (seq_view a.cond)) (codes " then ") (text.printed_seq (seq_view a.body)))
 
-pub told_seq : (s : Seq) → text.printed_seq (seq_view s) ≡ text.printed_items (items_view s.items)
+pub told_seq : (s : Seq) → text.printed_seq (seq_view s) ≡ parts.all_items (items_view s.items)
 told_seq s = ap text.printed_seq (view_seq s.items s.span)

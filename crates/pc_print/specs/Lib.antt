@@ -1,4 +1,5 @@
 pub mod Printing
+pub mod Parts
 pub mod Bare
 pub mod Laws
 pub mod Examples

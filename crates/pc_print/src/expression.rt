@@ -1,6 +1,7 @@
 //! Expressions, items and sequences, each appended to a text, all on one line.
 ghost use Rattle.std.specs.Prelude.{◌≡◌, ◌++◌, ◌∷◌, [], OnOk, codes, if◌then◌else◌};
-ghost use Rattle.pc_print.specs.Printing.{all_escaped};
+ghost use Rattle.pc_print.specs.Parts.{all_escaped};
+ghost use Rattle.pc_print.specs.Parts as parts;
 ghost use Rattle.pc_print.specs.Printing as text;
 ghost use Rattle.pc_token.specs.Words.{word_text};
 ghost use Rattle.pc_grammar.specs.Spells.{truth_word};
@@ -52,7 +53,7 @@ fn push_consume(out: &mut Vec<u8>, name: &Name) -> Result<(), AllocError>
 
 // An operator between spaces, unless the first operand comes next.
 fn push_op(out: &mut Vec<u8>, first: bool, op: Op) -> Result<(), AllocError>
-    ensures { OnOk result (out.new.items ≡ out.old.items ++ (if first then [] else (32 ∷ (text.op_text op ++ 32 ∷ [])))) }
+    ensures { OnOk result (out.new.items ≡ out.old.items ++ (if first then [] else parts.between_terms op)) }
 {
     if first {
         Ok(())
@@ -135,7 +136,7 @@ fn push_enclosed(
 
 #[cycle(print)]
 fn push_terms(alloc: Global, out: &mut Vec<u8>, op: Op, xs: &[Expr]) -> Result<(), AllocError>
-    ensures { OnOk result (out.new.items ≡ out.old.items ++ text.printed_terms (exprs_view xs.now) op) }
+    ensures { OnOk result (out.new.items ≡ out.old.items ++ parts.printed_terms (exprs_view xs.now) op) }
 {
     let mut first = true;
     for x in xs {
@@ -175,7 +176,7 @@ fn push_suffix(alloc: Global, out: &mut Vec<u8>, suffix: &Suffix) -> Result<(), 
 
 #[cycle(print)]
 fn push_args(alloc: Global, out: &mut Vec<u8>, xs: &[Expr]) -> Result<(), AllocError>
-    ensures { OnOk result (out.new.items ≡ out.old.items ++ text.printed_args (exprs_view xs.now)) }
+    ensures { OnOk result (out.new.items ≡ out.old.items ++ parts.printed_args (exprs_view xs.now)) }
 {
     let mut first = true;
     for x in xs {
@@ -188,7 +189,7 @@ fn push_args(alloc: Global, out: &mut Vec<u8>, xs: &[Expr]) -> Result<(), AllocE
 
 #[cycle(print)]
 fn push_arms(alloc: Global, out: &mut Vec<u8>, xs: &[Arm]) -> Result<(), AllocError>
-    ensures { OnOk result (out.new.items ≡ out.old.items ++ text.printed_arms (arms_view xs.now)) }
+    ensures { OnOk result (out.new.items ≡ out.old.items ++ parts.all_arms (arms_view xs.now)) }
 {
     let mut first = true;
     for x in xs {
@@ -220,7 +221,7 @@ fn push_other(alloc: Global, out: &mut Vec<u8>, other: &Option<Box<Seq>>) -> Res
 
 #[cycle(print)]
 fn push_items(alloc: Global, out: &mut Vec<u8>, xs: &[Item]) -> Result<(), AllocError>
-    ensures { OnOk result (out.new.items ≡ out.old.items ++ text.printed_items (items_view xs.now)) }
+    ensures { OnOk result (out.new.items ≡ out.old.items ++ parts.all_items (items_view xs.now)) }
 {
     let mut first = true;
     for x in xs {

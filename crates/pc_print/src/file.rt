@@ -1,8 +1,9 @@
 //! Entities and files, each appended to a text.
 ghost use Rattle.std.specs.Prelude.{◌≡◌, ◌++◌, map, OnOk, IfOk};
+ghost use Rattle.pc_print.specs.Parts as parts;
 ghost use Rattle.pc_print.specs.Printing as text;
 ghost use Rattle.pc_token.specs.Words.{word_text};
-ghost use Rattle.pc_grammar.specs.SpellsFile.{entity_word};
+ghost use Rattle.pc_grammar.specs.Spells.{entity_word};
 ghost use Rattle.pc_tree.specs.View.{entity_view, file_view};
 
 use crate::leaves::{push_between, push_cap};
@@ -13,7 +14,7 @@ use std::alloc::{AllocError, Global};
 
 // The names after `is`.
 fn push_names(out: &mut Vec<u8>, names: &[Name]) -> Result<(), AllocError>
-    ensures { OnOk result (out.new.items ≡ out.old.items ++ text.printed_names names.now) }
+    ensures { OnOk result (out.new.items ≡ out.old.items ++ parts.printed_names names.now) }
 {
     let mut first = true;
     for name in names {
@@ -65,7 +66,7 @@ fn push_entity(alloc: Global, out: &mut Vec<u8>, entity: &Entity) -> Result<(), 
 }
 
 fn push_entities(alloc: Global, out: &mut Vec<u8>, entities: &[Entity]) -> Result<(), AllocError>
-    ensures { OnOk result (out.new.items ≡ out.old.items ++ text.printed_entities (map entity_view entities.now)) }
+    ensures { OnOk result (out.new.items ≡ out.old.items ++ parts.printed_entities (map entity_view entities.now)) }
 {
     let mut first = true;
     for entity in entities {

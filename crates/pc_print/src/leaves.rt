@@ -3,6 +3,7 @@ ghost use Rattle.std.specs.Prelude.{◌≡◌, ◌++◌, ◌<◌, ◌/◌, ◌%�
 ghost use Rattle.std.specs.Char.{digit_char};
 ghost use Rattle.std.specs.Fmt.{decimal};
 ghost use Rattle.pc_print.specs.Printing.{escaped};
+ghost use Rattle.pc_print.specs.Parts as parts;
 ghost use Rattle.pc_print.specs.Printing as text;
 ghost use Rattle.pc_token.specs.Words.{word_text};
 ghost use Rattle.pc_grammar.specs.Spells.{local_word};
@@ -87,7 +88,7 @@ pub fn push_local(out: &mut Vec<u8>, fixed: bool) -> Result<(), AllocError>
 
 // `^`, if it is written.
 fn push_hat(out: &mut Vec<u8>, hat: bool) -> Result<(), AllocError>
-    ensures { OnOk result (out.new.items ≡ out.old.items ++ text.hat hat) }
+    ensures { OnOk result (out.new.items ≡ out.old.items ++ parts.hat hat) }
 {
     if hat {
         out.push(b'^')?;

@@ -1,8 +1,9 @@
 //! Fields and methods, each appended to a text after the end of a line.
 ghost use Rattle.std.specs.Prelude.{◌≡◌, ◌++◌, ◌∷◌, map, OnOk};
+ghost use Rattle.pc_print.specs.Parts as parts;
 ghost use Rattle.pc_print.specs.Printing as text;
 ghost use Rattle.pc_token.specs.Words.{word_text};
-ghost use Rattle.pc_grammar.specs.SpellsFile.{method_word};
+ghost use Rattle.pc_grammar.specs.Spells.{method_word};
 ghost use Rattle.pc_tree.specs.View.{items_view, seq_view, maybe_expr, maybe_seq, field_view, method_view};
 
 use crate::expression::{push_expr, push_item};
@@ -12,7 +13,7 @@ use std::alloc::{AllocError, Global};
 
 // What follows a field's type, if an initial value is written.
 fn push_initial(alloc: Global, out: &mut Vec<u8>, value: &Option<Expr>) -> Result<(), AllocError>
-    ensures { OnOk result (out.new.items ≡ out.old.items ++ text.printed_value (maybe_expr value.now)) }
+    ensures { OnOk result (out.new.items ≡ out.old.items ++ parts.printed_value (maybe_expr value.now)) }
 {
     match value {
         Some(e) => {
@@ -36,7 +37,7 @@ fn push_field(alloc: Global, out: &mut Vec<u8>, field: &FieldDef) -> Result<(), 
 
 /// Fields, each on a line of its own.
 pub fn push_fields(alloc: Global, out: &mut Vec<u8>, fields: &[FieldDef]) -> Result<(), AllocError>
-    ensures { OnOk result (out.new.items ≡ out.old.items ++ text.printed_fields (map field_view fields.now)) }
+    ensures { OnOk result (out.new.items ≡ out.old.items ++ parts.printed_fields (map field_view fields.now)) }
 {
     for field in fields {
         push_field(alloc, out, field)?;
@@ -53,7 +54,7 @@ fn push_param(out: &mut Vec<u8>, param: &ParamDef) -> Result<(), AllocError>
 }
 
 fn push_params(out: &mut Vec<u8>, params: &[ParamDef]) -> Result<(), AllocError>
-    ensures { OnOk result (out.new.items ≡ out.old.items ++ text.printed_params params.now) }
+    ensures { OnOk result (out.new.items ≡ out.old.items ++ parts.printed_params params.now) }
 {
     let mut first = true;
     for param in params {
@@ -66,7 +67,7 @@ fn push_params(out: &mut Vec<u8>, params: &[ParamDef]) -> Result<(), AllocError>
 
 // The items of a body, each on a line of its own.
 fn push_lines(alloc: Global, out: &mut Vec<u8>, items: &[Item]) -> Result<(), AllocError>
-    ensures { OnOk result (out.new.items ≡ out.old.items ++ text.printed_lines (items_view items.now)) }
+    ensures { OnOk result (out.new.items ≡ out.old.items ++ parts.printed_lines (items_view items.now)) }
 {
     for item in items {
         out.extend_from_slice(b"\n    ")?;
@@ -82,7 +83,7 @@ fn push_body_lines(alloc: Global, out: &mut Vec<u8>, body: &Seq) -> Result<(), A
 }
 
 fn push_body(alloc: Global, out: &mut Vec<u8>, body: &Option<Seq>) -> Result<(), AllocError>
-    ensures { OnOk result (out.new.items ≡ out.old.items ++ text.printed_body (maybe_seq body.now)) }
+    ensures { OnOk result (out.new.items ≡ out.old.items ++ parts.printed_body (maybe_seq body.now)) }
 {
     match body {
         Some(seq) => {
@@ -105,7 +106,7 @@ fn method_text(word: MethodWord) -> &'static [u8]
 
 // The name of a method, its parameters and its result.
 fn push_signature(out: &mut Vec<u8>, method: &MethodDef) -> Result<(), AllocError>
-    ensures { OnOk result (out.new.items ≡ out.old.items ++ (method.now.name.text ++ (40 ∷ (text.printed_params method.now.params ++ (41 ∷ text.printed_type method.now.result))))) }
+    ensures { OnOk result (out.new.items ≡ out.old.items ++ (method.now.name.text ++ (40 ∷ (parts.printed_params method.now.params ++ (41 ∷ text.printed_type method.now.result))))) }
 {
     out.extend_from_slice(method.name.text.as_slice())?;
     out.extend_from_slice(b"(")?;
@@ -131,7 +132,7 @@ pub fn push_methods(
     out: &mut Vec<u8>,
     methods: &[MethodDef],
 ) -> Result<(), AllocError>
-    ensures { OnOk result (out.new.items ≡ out.old.items ++ text.printed_methods (map method_view methods.now)) }
+    ensures { OnOk result (out.new.items ≡ out.old.items ++ parts.printed_methods (map method_view methods.now)) }
 {
     for method in methods {
         push_method(alloc, out, method)?;

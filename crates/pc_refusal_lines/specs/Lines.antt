@@ -72,8 +72,6 @@ line_number front = 1 + count_by is_line_end front
 abbrev pub column_number : List ℕ → ℕ
 column_number front = 1 + prefix_len is_in_line (reverse front)
 
--- ---- lines that name a byte of a file
-
 -- The line that names the byte at an offset, and what is wrong there.
 abbrev pub offset_line : Text → Text → ℕ → Text → Text
 offset_line name bytes at what = place_line name (line_number (take at bytes)) (column_number (take at bytes)) what

@@ -1,7 +1,9 @@
 -- From the result of reading a derivation to its stages.
 use Rattle.std.proofs.Common.{◌≡◌, ◌≤◌, length, Ok, refl}
 use Rattle.pc_ann.specs.declared.annotation.Ann.{Ann}
-use Rattle.pc_deriv.specs.Text.{IsText, RefusesDerivation, derivation_slot_limit, derivation_node_limit}
+use Rattle.pc_deriv.specs.Text.{IsText}
+use Rattle.pc_deriv.specs.Parts.{derivation_slot_limit, derivation_node_limit}
+use Rattle.pc_deriv.specs.Parts.{RefusesDerivation}
 use Rattle.pc_deriv.specs.declared.fault.DerivFault.{DerivFault}
 use Rattle.pc_deriv.specs.declared.fault.DerivFault.TheVariants as deriv
 use Rattle.pc_lists.specs.Lists.{Text}

@@ -10,7 +10,7 @@ use Rattle.pc_deriv.specs.declared.line.LineFault.{LineFault}
 use Rattle.pc_deriv.specs.declared.line.LineFault.TheVariants as line_fault
 use Rattle.pc_referee.specs.Asked.{Pairs}
 use Rattle.pc_feed.specs.declared.parts.DerivationFault.{DerivationFault}
-use Rattle.pc_feed.specs.declared.parts.DerivationFault.TheVariants as parts
+use Rattle.pc_feed.specs.declared.parts.DerivationFault.TheVariants as spec
 use Rattle.pc_feed.specs.Laws.{ValidAsksAll}
 use Rattle.pc_feed.specs.Parts.{AsksNodes, FileJudged, ReadWhole}
 use Rattle.pc_lists.specs.Lists.{Text}
@@ -41,26 +41,26 @@ module _ (source_name : Text) (source : Source) (file : Named) (before after : O
   derivation_holds v h = (h.2.0, given h.0 h.2.0 h.1 h.2.1, holds h.2.2)
 
   pub derivation_stops : (f : DerivationFault) (s : Stop) → Answered (Err f) → IsDerivationStop source_name file.name source f s → DerivationJudged source_name source (in_parts file) (Err s)
-  derivation_stops parts.Failed (Refused status line) h e = absurd e
-  derivation_stops parts.Failed (File n) h e = inl (e, h)
-  derivation_stops parts.Failed Sink h e = absurd e
-  derivation_stops parts.Failed Memory h e = inl tt
-  derivation_stops parts.TooLong (Refused status line) h e =
+  derivation_stops spec.Failed (Refused status line) h e = absurd e
+  derivation_stops spec.Failed (File n) h e = inl (e, h)
+  derivation_stops spec.Failed Sink h e = absurd e
+  derivation_stops spec.Failed Memory h e = inl tt
+  derivation_stops spec.TooLong (Refused status line) h e =
       let some = h.0 in
       let past : IsReadingOf (in_parts file) derivation_limit longer = (omega (arith, some), λ same. h.1) in
       inl (longer, past, rw (e.0, e.1) (stops is_longer))
-  derivation_stops parts.TooLong (File n) h e = absurd e
-  derivation_stops parts.TooLong Sink h e = absurd e
-  derivation_stops parts.TooLong Memory h e = inl tt
-  derivation_stops (parts.Text f) (Refused status line) h e = inl (whole h.0, (h.1.within, h.1.all), rw (e.0, e.1) (goes (fits h.1.within) (garbled (as_read f) h.2)))
-  derivation_stops (parts.Text f) (File n) h e = absurd e
-  derivation_stops (parts.Text f) Sink h e = absurd e
-  derivation_stops (parts.Text f) Memory h e = inl tt
-  derivation_stops (parts.Invalid f) (Refused status line) h e = inr (h.2.0, given h.0 h.2.0 h.1 h.2.1, rw (e.0, e.1) (fails f h.2.2))
-  derivation_stops (parts.Invalid f) (File n) h e = absurd e
-  derivation_stops (parts.Invalid f) Sink h e = absurd e
-  derivation_stops (parts.Invalid f) Memory h e = inl tt
-  derivation_stops parts.Memory s h e = subst (λ (x : Stop). DerivationJudged source_name source (in_parts file) (Err x)) (sym e) (inl tt)
+  derivation_stops spec.TooLong (File n) h e = absurd e
+  derivation_stops spec.TooLong Sink h e = absurd e
+  derivation_stops spec.TooLong Memory h e = inl tt
+  derivation_stops (spec.Text f) (Refused status line) h e = inl (whole h.0, (h.1.within, h.1.all), rw (e.0, e.1) (goes (fits h.1.within) (garbled (as_read f) h.2)))
+  derivation_stops (spec.Text f) (File n) h e = absurd e
+  derivation_stops (spec.Text f) Sink h e = absurd e
+  derivation_stops (spec.Text f) Memory h e = inl tt
+  derivation_stops (spec.Invalid f) (Refused status line) h e = inr (h.2.0, given h.0 h.2.0 h.1 h.2.1, rw (e.0, e.1) (fails f h.2.2))
+  derivation_stops (spec.Invalid f) (File n) h e = absurd e
+  derivation_stops (spec.Invalid f) Sink h e = absurd e
+  derivation_stops (spec.Invalid f) Memory h e = inl tt
+  derivation_stops spec.Memory s h e = subst (λ (x : Stop). DerivationJudged source_name source (in_parts file) (Err x)) (sym e) (inl tt)
 
   -- ---- and what the referee was asked
 
@@ -86,8 +86,8 @@ pub not_accepted : (source_name name : Text) (source : Source) (f : DerivationFa
 not_accepted source_name name source f (File n) e = tt
 not_accepted source_name name source f Sink e = tt
 not_accepted source_name name source f Memory e = tt
-not_accepted source_name name source parts.Failed (Refused status line) e = absurd e
-not_accepted source_name name source parts.TooLong (Refused status line) e = other_than_0 status 8 e.0 (omega arith)
-not_accepted source_name name source (parts.Text f) (Refused status line) e = other_than_0 status (text_status (as_read f)) e.0 (text_status_low f)
-not_accepted source_name name source (parts.Invalid f) (Refused status line) e = other_than_0 status 6 e.0 (omega arith)
-not_accepted source_name name source parts.Memory (Refused status line) e = cc
+not_accepted source_name name source spec.Failed (Refused status line) e = absurd e
+not_accepted source_name name source spec.TooLong (Refused status line) e = other_than_0 status 8 e.0 (omega arith)
+not_accepted source_name name source (spec.Text f) (Refused status line) e = other_than_0 status (text_status (as_read f)) e.0 (text_status_low f)
+not_accepted source_name name source (spec.Invalid f) (Refused status line) e = other_than_0 status 6 e.0 (omega arith)
+not_accepted source_name name source spec.Memory (Refused status line) e = cc

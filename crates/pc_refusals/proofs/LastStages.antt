@@ -2,7 +2,8 @@
 use Rattle.std.proofs.Common.{◌≡◌, ◌⊎◌, ℕ, Ok, Err, inl, inr, sym, ap, ◌∙◌, subst}
 use Rattle.std.specs.Prelude.{Result}
 use Rattle.pc_lists.specs.Lists.{Text}
-use Rattle.pc_refusals.specs.Source.{HasOneEnd, FromFile}
+use Rattle.pc_refusals.specs.Source.{FromFile}
+use Rattle.pc_refusals.specs.Ends.{HasOneEnd}
 use Rattle.pc_refusals.specs.Source.FromFile.{refuses, goes_on}
 use Rattle.pc_refusals.specs.Verdict.{Named, Reading, IsReadingOf, EndsAs, Verdict, done, ended}
 

@@ -11,7 +11,8 @@ use Rattle.pc_caps.specs.declared.capability.Cap.{Cap}
 use Rattle.pc_caps.specs.declared.capability.Cap.TheVariants as cap
 use Rattle.pc_caps.specs.declared.capability.Form.{Form}
 use Rattle.pc_caps.specs.declared.capability.Form.TheVariants as form
-use Rattle.pc_deriv.specs.Text.{derivation_limit, IsText, version_name, rule_name, cap_name, form_name, head_line, slot_line, type_text, mask_text, masks_text, note_line, shown_after, each_line, blank, SlotFits, TypeFits, MaskFits, MasksFit, NoteFits}
+use Rattle.pc_deriv.specs.Text.{derivation_limit, IsText, version_name, rule_name, cap_name, form_name, head_line, slot_line, type_text, mask_text, masks_text, note_line, shown_after, SlotFits, TypeFits, MaskFits, MasksFit, NoteFits}
+use Rattle.pc_deriv.specs.Parts.{each_line, blank}
 use Rattle.pc_masks.specs.declared.mask.Mask.{Mask}
 use Rattle.pc_ann.specs.declared.annotation.Note.{Note}
 use Rattle.pc_ann.specs.declared.annotation.Ann.{Ann}

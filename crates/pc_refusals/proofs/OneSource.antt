@@ -2,17 +2,23 @@
 use Rattle.std.proofs.Common.{◌≡◌, ◌<◌, ℕ, List, Option, Some, None, ◌∷◌, Ok, Err, refl, sym, ◌∙◌, ap, subst, length, arith, true, false}
 use Rattle.std.specs.Prelude.{Result, IsSome, codes}
 use Rattle.pc_core.specs.CoreData.{CoreData}
+use Rattle.pc_core_relation.specs.Files.{IsCoreOf}
+use Rattle.pc_core_relation.specs.MemberFaults.{IsMemberFault}
+use Rattle.pc_core_relation.proofs.MemberFaults.{is_stop}
+use Rattle.pc_core_relation.proofs.Ones.{standing_cores_are_made, standing_cores_are_one}
 use Rattle.pc_token.specs.declared.kinds.Token.{Token}
 use Rattle.pc_grammar.specs.FileAnswers.{spelled, unexpected, too_deep}
 use Rattle.pc_grammar.specs.Laws.{OneFileAnswer}
 use Rattle.pc_lex.specs.Laws.{OneList, NotBoth, OneFault}
 use Rattle.pc_lex.specs.declared.fault.LexFault.{LexFault}
+use Rattle.pc_names.specs.Faults.{IsNameFault, IsNotMemory}
 use Rattle.pc_names.specs.Laws.{NotBoth as NotBothNames, OneFault as OneNameFault}
 use Rattle.pc_names.specs.declared.fault.NameFault.{NameFault}
 use Rattle.pc_file_spec.specs.Laws.{OneCore, NotBoth as NotBothMembers, OneFault as OneMemberFault}
 use Rattle.pc_tree.specs.Tree as t
 use Rattle.pc_lists.specs.Lists.{Text}
-use Rattle.pc_refusals.specs.Source.{After, HasOneEnd, FromFile, FileStage, SyntaxStage, Length, Lexing, Parsing, Elaborating, TreeStage, CoreStage, TextStage, SourceStage, source_limit}
+use Rattle.pc_refusals.specs.Source.{After, FromFile, FileStage, SyntaxStage, Length, Lexing, Parsing, Elaborating, TreeStage, CoreStage, TextStage, SourceStage, source_limit}
+use Rattle.pc_refusals.specs.Ends.{HasOneEnd}
 use Rattle.pc_refusals.specs.Source.After.{stops, goes}
 use Rattle.pc_refusals.specs.FaultLines.{fault_status, fault_line, name_status, name_line}
 use Rattle.pc_refusals.specs.Source.FromFile.{refuses, goes_on}
@@ -132,16 +138,29 @@ module _ (laws : SourceLaws) where
   one_parsing name bytes ts _ _ (nested {x = x} {rest = r} a) (nested {x = y} {rest = q} b) =
       ap (λ (z : Token). Err (refused 8 (offset_line name bytes z.span.start (codes "nested too deep")))) (deep_same x y r q (laws.tree ts (too_deep (x ∷ r)) (too_deep (y ∷ q)) a b))
 
+  -- A file has its core, a fault of its names or one of its members.
+  pub never_misnamed : (file : t.File) (core : CoreData) (f : NameFault) → IsCoreOf file core → IsNotMemory f → IsNameFault file f → ⊥
+  never_misnamed file core f s o h = let made = standing_cores_are_made file core s in laws.misnamed file f made.0 o h made.1
+
+  pub never_misused : (file : t.File) (core : CoreData) (f : NameFault) → IsCoreOf file core → IsMemberFault file f → ⊥
+  never_misused file core f s h = laws.misused file core f (standing_cores_are_made file core s) (is_stop file f h)
+
+  pub not_both_faults : (file : t.File) (f g : NameFault) → IsNotMemory f → IsNameFault file f → IsMemberFault file g → ⊥
+  not_both_faults file f g o h i = let made = is_stop file g i in laws.misnamed file f made.0 o h made.1
+
+  pub one_member_fault : (file : t.File) (f g : NameFault) → IsMemberFault file f → IsMemberFault file g → f ≡ g
+  one_member_fault file f g h i = laws.body_fault file f g (is_stop file f h) (is_stop file g i)
+
   one_elaborating : (name bytes : Text) (file : t.File) → HasOneEnd (Elaborating name bytes file)
-  one_elaborating name bytes file _ _ (elaborated {core = c} a) (elaborated {core = d} b) = ap (λ (x : CoreData). Ok x) (laws.core file c d a b)
-  one_elaborating name bytes file _ _ (elaborated {core = c} a) (misnamed f o h) = absurd (laws.misnamed file f a.0 o h a.1)
-  one_elaborating name bytes file _ _ (elaborated {core = c} a) (misused f o h) = absurd (laws.misused file c f a h)
-  one_elaborating name bytes file _ _ (misnamed f o h) (elaborated {core = c} a) = absurd (laws.misnamed file f a.0 o h a.1)
+  one_elaborating name bytes file _ _ (elaborated {core = c} a) (elaborated {core = d} b) = ap (λ (x : CoreData). Ok x) (standing_cores_are_one file c d a b)
+  one_elaborating name bytes file _ _ (elaborated {core = c} a) (misnamed f o h) = absurd (never_misnamed file c f a o h)
+  one_elaborating name bytes file _ _ (elaborated {core = c} a) (misused f o h) = absurd (never_misused file c f a h)
+  one_elaborating name bytes file _ _ (misnamed f o h) (elaborated {core = c} a) = absurd (never_misnamed file c f a o h)
   one_elaborating name bytes file _ _ (misnamed f o h) (misnamed g p i) = ap (λ (x : NameFault). Err (refused (name_status x) (name_line name bytes x))) (laws.name_fault file f g o p h i)
-  one_elaborating name bytes file _ _ (misnamed f o h) (misused g p i) = absurd (laws.misnamed file f i.0 o h i.1)
-  one_elaborating name bytes file _ _ (misused f o h) (elaborated {core = c} a) = absurd (laws.misused file c f a h)
-  one_elaborating name bytes file _ _ (misused f o h) (misnamed g p i) = absurd (laws.misnamed file g h.0 p i h.1)
-  one_elaborating name bytes file _ _ (misused f o h) (misused g p i) = ap (λ (x : NameFault). Err (refused (name_status x) (name_line name bytes x))) (laws.body_fault file f g h i)
+  one_elaborating name bytes file _ _ (misnamed f o h) (misused g p i) = absurd (not_both_faults file f g o h i)
+  one_elaborating name bytes file _ _ (misused f o h) (elaborated {core = c} a) = absurd (never_misused file c f a h)
+  one_elaborating name bytes file _ _ (misused f o h) (misnamed g p i) = absurd (not_both_faults file g f p i h)
+  one_elaborating name bytes file _ _ (misused f o h) (misused g p i) = ap (λ (x : NameFault). Err (refused (name_status x) (name_line name bytes x))) (one_member_fault file f g h i)
 
   one_tree : (name bytes : Text) (ts : List Token) → HasOneEnd (TreeStage name bytes ts)
   one_tree name bytes ts = after_is_one (Parsing name bytes ts) (Elaborating name bytes) (one_parsing name bytes ts) (λ file l. one_elaborating name bytes file)

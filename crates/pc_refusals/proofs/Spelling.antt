@@ -3,7 +3,7 @@ use Rattle.std.proofs.Common.{◌≡◌, ℕ, List, Ok, Err, sym, subst}
 use Rattle.std.specs.Prelude.{Result, codes}
 use Rattle.pc_token.specs.declared.kinds.Token.{Token}
 use Rattle.pc_tree.specs.Tree as t
-use Rattle.pc_lex.specs.Faults.{RefusesTokens}
+use Rattle.pc_lex.specs.Refusals.{RefusesTokens}
 use Rattle.pc_lex.specs.declared.fault.LexFault.{LexFault}
 use Rattle.pc_lex.specs.declared.fault.LexFault.TheVariants as fault
 use Rattle.pc_grammar.specs.FileAnswers.{IsFileAnswer, unexpected, too_deep}

@@ -9,7 +9,8 @@ use Rattle.pc_core.specs.declared.nodes.Node.{Node}
 use Rattle.pc_lists.specs.Lists.{Text}
 use Rattle.pc_refusals.specs.Source.{Typing}
 use Rattle.pc_refusals.specs.Source.Typing.{declared, no_rule, unset}
-use Rattle.pc_refusals.specs.FaultLines.{method_start, node_start}
+use Rattle.pc_refusals.specs.Parts.{method_start}
+use Rattle.pc_refusals.specs.Parts.{node_start}
 use Rattle.pc_refusals.specs.Inner.Refusals.{IsCoreStop}
 use Rattle.pc_refusals.specs.Inner.Stages.{StageStops}
 use Rattle.pc_refusal_lines.specs.Lines.{offset_line}

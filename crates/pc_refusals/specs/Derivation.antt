@@ -51,8 +51,6 @@ pub data Judging (source_name name : Text) (source : Source) (ann : Ann) : Resul
   fails : (f : JudgeFault) → FirstAnnotationFault source.core ann f
       → Judging source_name name source ann (Err (refused 6 (judge_line source_name name source f)))
 
--- ---- what the referee is asked for a derivation's file
-
 -- Its list, if it is known, grew by each node with its note, in order.
 abbrev pub AsksEach : Ann → Option Pairs → Option Pairs → Type 0
 AsksEach ann None after = after ≡ None

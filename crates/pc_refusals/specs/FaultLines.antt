@@ -1,17 +1,16 @@
 -- The refusals of a source, and what is wrong with a core that has no derivation.
-use Rattle.std.specs.Prelude.{ℕ, codes, Option, Some, None, slice_get}
+use Rattle.std.specs.Prelude.{ℕ, codes, slice_get}
 use Rattle.pc_lex.specs.declared.fault.LexFault.{LexFault}
-use Rattle.pc_lists.specs.Lists.{Text}
+use Rattle.pc_lists.specs.Lists.{Text, ◌>>=◌}
 use Rattle.pc_refusal_lines.specs.Lines.{offset_line, no_main_line}
 use Rattle.pc_names.specs.{declared.fault.NameFault.NameFault, declared.fault.Which.Which}
-use Rattle.pc_core.specs.{declared.declarations.EntityDef.EntityDef, declared.declarations.Method.Method, declared.declarations.ParamInfo.ParamInfo, declared.nodes.Node.Node, CoreData.CoreData}
+use Rattle.pc_core.specs.{declared.declarations.EntityDef.EntityDef, declared.declarations.Method.Method, declared.declarations.ParamInfo.ParamInfo, CoreData.CoreData}
 use Rattle.pc_sub.specs.declared.faults.DeclFault.{DeclFault}
+use Rattle.std.specs.Option.{option_map_or}
 use Rattle.pc_lex.specs.declared.fault.LexFault.TheVariants as lexical
 use Rattle.pc_names.specs.declared.fault.NameFault.TheVariants as fault
 use Rattle.pc_names.specs.declared.fault.Which.TheVariants as which
 use Rattle.pc_sub.specs.declared.faults.DeclFault.TheVariants as decl
-
--- ---- the refusals of a source that has no tokens
 
 -- 8 if a limit is passed, and 3 for any other fault of a text. Running out of memory is not a fault; its status is 11.
 abbrev pub fault_status : LexFault → ℕ
@@ -62,34 +61,12 @@ name_line name bytes (fault.Cycle s) = offset_line name bytes s.start (codes "tr
 name_line name bytes (fault.TooMany w s) = offset_line name bytes s.start (many_text w)
 name_line name bytes fault.Memory = codes ""
 
--- ---- what is wrong with a core that has no derivation, and its place in the source
-
--- Where a part of the core starts in the source. What does not exist starts at 0.
-abbrev pub entity_start : Option EntityDef → ℕ
-entity_start None = 0
-entity_start (Some x) = x.span.start
-
-abbrev pub method_start : Option Method → ℕ
-method_start None = 0
-method_start (Some x) = x.span.start
-
-abbrev pub param_start : Option ParamInfo → ℕ
-param_start None = 0
-param_start (Some x) = x.span.start
-
-abbrev pub own_param_start : Option Method → ℕ → ℕ
-own_param_start None i = 0
-own_param_start (Some x) i = param_start (slice_get x.params i)
-
-abbrev pub node_start : Option Node → ℕ
-node_start None = 0
-node_start (Some x) = x.span.start
-
--- A declaration that fails: its parameter, its entity or its method.
+-- Where a declaration that fails starts in the source: its parameter, its entity or its method. What does not exist
+-- starts at 0.
 abbrev pub decl_offset : CoreData → DeclFault → ℕ
-decl_offset core (decl.NotSendable m i) = own_param_start (slice_get core.methods m) i
-decl_offset core (decl.MissingMethod e m) = entity_start (slice_get core.entities e)
-decl_offset core (decl.Mismatch e m) = method_start (slice_get core.methods m)
+decl_offset core (decl.NotSendable m i) = option_map_or (λ (p : ParamInfo). p.span.start) (slice_get core.methods m >>= λ (x : Method). slice_get x.params i) 0
+decl_offset core (decl.MissingMethod e m) = option_map_or (λ (x : EntityDef). x.span.start) (slice_get core.entities e) 0
+decl_offset core (decl.Mismatch e m) = option_map_or (λ (x : Method). x.span.start) (slice_get core.methods m) 0
 
 abbrev pub decl_text : DeclFault → Text
 decl_text (decl.NotSendable m i) = codes "parameter not sendable"

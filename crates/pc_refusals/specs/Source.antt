@@ -1,31 +1,25 @@
 -- The stages of a source, which come first in every command that reads one.
-use Rattle.std.specs.Prelude.{◌≡◌, Result, Ok, Err, ℕ, ◌≤◌, ◌∷◌, List, length, codes, ◌⊎◌, Some}
+use Rattle.std.specs.Prelude.{◌≡◌, Result, Ok, Err, ℕ, ◌≤◌, ◌∷◌, List, length, codes, ◌⊎◌}
 use Rattle.pc_refusals.specs.{Verdict.Verdict, Verdict.Reading, Verdict.whole, Verdict.longer, Verdict.refused, Verdict.FailedAt, Verdict.Named, Verdict.IsReadingOf, FaultLines.fault_status, FaultLines.fault_line, FaultLines.name_status, FaultLines.name_line, FaultLines.decl_offset, FaultLines.decl_text, declared.source.Source.Source, declared.typing.Accepted.Accepted}
 use Rattle.pc_token.specs.declared.kinds.Token.{Token}
 use Rattle.pc_grammar.specs.FileAnswers.{IsFileAnswer, spelled, unexpected, too_deep}
 use Rattle.pc_lex.specs.{Pieces.TokenList, Pieces.bytes_limit, Faults.FirstLexFault, declared.fault.LexFault.LexFault}
 use Rattle.pc_core.specs.CoreData.{CoreData}
 use Rattle.pc_names.specs.{Faults.IsNotMemory, Faults.IsNameFault, declared.fault.NameFault.NameFault}
-use Rattle.pc_file_spec.specs.Cores.{Stands, IsElabFault}
+use Rattle.pc_core_relation.specs.{Files.IsCoreOf, MemberFaults.IsMemberFault}
 use Rattle.pc_lists.specs.Lists.{Text}
 use Rattle.pc_refusal_lines.specs.Lines.{offset_line, longer_line}
 use Rattle.pc_sched.specs.{Schedules.schedule_limit, Schedules.TurnList, Schedules.FirstScheduleFault, declared.fault.SchedFault.TheVariants.BadWord, declared.fault.SchedFault.TheVariants.TooMany, declared.turns.Turn.Turn}
 use Rattle.pc_ann.specs.declared.annotation.Ann.{Ann}
-use Rattle.pc_sub.specs.{DeclarationFaults.first_fault, declared.faults.DeclFault.DeclFault}
+use Rattle.pc_sub.specs.{FirstFault.IsFirstDeclarationFault, declared.faults.DeclFault.DeclFault}
 use Rattle.pc_valid.specs.{Valid.Valid, NoRule.NoRule, NoRule.Unset}
 use Rattle.pc_tree.specs.Tree as t
-
--- ---- stages in sequence
 
 -- Each gives a value for the next, or the verdict of its refusal. The first refusal ends them.
 -- One stage, and then another on the value that it gave.
 pub data After {T U : Type 0} (First : Result T Verdict → Type 0) (Next : T → Result U Verdict → Type 0) : Result U Verdict → Type 0 where
   stops : {v : Verdict} → First (Err v) → After First Next (Err v)
   goes : {x : T} {y : Result U Verdict} → First (Ok x) → Next x y → After First Next y
-
--- Any two results of a stage are equal.
-abbrev pub HasOneEnd : {T : Type 0} → (Result T Verdict → Type 0) → Type 0
-HasOneEnd {T} Stage = (x y : Result T Verdict) → Stage x → Stage y → x ≡ y
 
 -- ---- the stages of a source
 
@@ -53,9 +47,9 @@ pub data Parsing (name bytes : Text) (ts : List Token) : Result t.File Verdict �
 
 -- Its core: 4, or 8 if a limit is passed, at the first fault of its names, or else at the first fault of its methods.
 pub data Elaborating (name bytes : Text) (file : t.File) : Result CoreData Verdict → Type 0 where
-  elaborated : {core : CoreData} → Stands file core → Elaborating name bytes file (Ok core)
+  elaborated : {core : CoreData} → IsCoreOf file core → Elaborating name bytes file (Ok core)
   misnamed : (f : NameFault) → IsNotMemory f → IsNameFault file f → Elaborating name bytes file (Err (refused (name_status f) (name_line name bytes f)))
-  misused : (f : NameFault) → IsNotMemory f → IsElabFault file f → Elaborating name bytes file (Err (refused (name_status f) (name_line name bytes f)))
+  misused : (f : NameFault) → IsNotMemory f → IsMemberFault file f → Elaborating name bytes file (Err (refused (name_status f) (name_line name bytes f)))
 
 -- From its tokens to its core.
 abbrev pub TreeStage : Text → Text → List Token → Result CoreData Verdict → Type 0
@@ -73,8 +67,6 @@ pub data TextStage (name bytes : Text) : Result Source Verdict → Type 0 where
 -- All stages, one after another: the source with its core, or the refusal.
 abbrev pub SourceStage : Text → Reading → Result Source Verdict → Type 0
 SourceStage name reading = After (Length source_limit name reading) (TextStage name)
-
--- ---- a source whose core is not needed
 
 -- From the bytes of a source to its tree.
 abbrev pub SyntaxStage : Text → Text → Result t.File Verdict → Type 0
@@ -101,8 +93,6 @@ FilePasses {T} file limit Stages = (r : Reading) × (x : T) × IsReadingOf file 
 abbrev pub FailedInTurn : {T : Type 0} → (first : Named) → (limit : ℕ) → (Reading → Result T Verdict → Type 0) → (second : Named) → Text → Type 0
 FailedInTurn first limit Stages second name = FailedAt first name ⊎ (FilePasses first limit Stages × FailedAt second name)
 
--- ---- the stages of a schedule
-
 -- Its turns: 7 at the first word that is not a turn, and 8 at the first turn too many.
 pub data Scheduling (name bytes : Text) : Result (List Turn) Verdict → Type 0 where
   scheduled : {turns : List Turn} → TurnList bytes turns → Scheduling name bytes (Ok turns)
@@ -114,13 +104,11 @@ pub data Scheduling (name bytes : Text) : Result (List Turn) Verdict → Type 0 
 abbrev pub ScheduleStage : Text → Reading → Result (List Turn) Verdict → Type 0
 ScheduleStage name reading = After (Length schedule_limit name reading) (Scheduling name)
 
--- ---- sources whose core has a derivation
-
 -- The core: its valid annotation; or else 1, with the place of the first declaration that fails, of the node at which
 -- no rule holds, or of a constructor that leaves a field unset.
 pub data Typing (name : Text) (source : Source) : Result Accepted Verdict → Type 0 where
   typed : (ann : Ann) → Valid source.core ann → Typing name source (Ok (record { source = source; ann = ann }))
-  declared : (f : DeclFault) → first_fault source.core ≡ Some f
+  declared : (f : DeclFault) → IsFirstDeclarationFault source.core f
       → Typing name source (Err (refused 1 (offset_line name source.bytes (decl_offset source.core f) (decl_text f))))
   no_rule : (ann : Ann) (n : ℕ) (stop : NoRule source.core ann n)
       → Typing name source (Err (refused 1 (offset_line name source.bytes stop.at.span.start (codes "no rule"))))

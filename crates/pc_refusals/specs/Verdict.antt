@@ -1,5 +1,5 @@
 -- What a command answers: its verdict, what out has of it if the command did not finish, and the answer of the program.
-use Rattle.std.specs.Prelude.{ℕ, ◌≡◌, ◌<◌, ◌≤◌, List, [], ◌∷◌, length, Option, Some, IfSome, IsSome, ◌⊎◌, ◌++◌, Result, Ok, Err}
+use Rattle.std.specs.Prelude.{ℕ, ◌≡◌, ◌<◌, ◌≤◌, List, [], length, Option, Some, IfSome, ◌⊎◌, ◌++◌, Result, Ok, Err}
 use Rattle.std.specs.Io.KnownBytes.{Appends, Keeps}
 use Rattle.pc_lists.specs.Lists.{Text}
 use Rattle.pc_io.specs.Sink.{Change, GrowsByPrefix, HasRisen}
@@ -57,16 +57,6 @@ files_change known before now taken = record { known = known; before = before; n
 abbrev pub named : Files → Text → Named
 named files name = file_at files.known files.before files.now files.taken name
 
--- The bytes of all of these are known.
-abbrev pub AllKnown : (Text → Option Text) → List Text → Type 0
-AllKnown known [] = Unit {0}
-AllKnown known (n ∷ ns) = IsSome (known n) × AllKnown known ns
-
--- No reading of these failed.
-abbrev pub NoneFailed : Files → List Text → Type 0
-NoneFailed files [] = Unit {0}
-NoneFailed files (n ∷ ns) = (files.now n ≡ files.before n) × NoneFailed files ns
-
 -- ---- what a command answers if no file or sink fails and memory suffices
 
 -- The exit status, the text on out and the line on err.
@@ -110,13 +100,9 @@ EndsAs {T} text Stage v = (end : Result T Verdict) × Stage end × (v ≡ ended 
 abbrev pub EndsWith : (Result Text Verdict → Type 0) → Verdict → Type 0
 EndsWith Stage = EndsAs (λ text. text) Stage
 
--- ---- what out has of a verdict's text if a command did not finish
-
 -- Part of the verdict's text went to out.
 abbrev pub TellsPart : (Verdict → Type 0) → Change → Type 0
 TellsPart V out = (v : Verdict) × V v × GrowsByPrefix out.before out.now v.out
-
--- ---- what is answered if nothing failed
 
 -- If none of the command's names failed, and neither out nor err did, the status is that of a verdict, its text is on
 -- out and its line on err; or memory ran out.
@@ -125,8 +111,7 @@ Completes V Failed out err status =
     ((name : Text) → Failed name → ⊥) → (HasRisen out.faults_before out.faults_now → ⊥) → (HasRisen err.faults_before err.faults_now → ⊥)
     → (status ≡ 11) ⊎ ((v : Verdict) × V v × (status ≡ v.status) × Appends out.before out.now v.out × Appends err.before err.now v.err)
 
--- ---- the answer of the program, with the cause of each case
-
+-- The answer of the program, with the cause of each case.
 pub data Answer (V : Verdict → Type 0) (Failed : Text → Type 0) (out err : Change) (status : ℕ) : Type 0 where
   -- the verdict's status, its text on out, its line on err
   given : (v : Verdict) → V v → status ≡ v.status → Appends out.before out.now v.out → Appends err.before err.now v.err

@@ -1,6 +1,7 @@
 //! The refusals of a core that has no derivation.
 ghost use Rattle.std.specs.Prelude.{◌≡◌, slice_get};
 ghost use Rattle.pc_refusals.specs.FaultLines as spec;
+ghost use Rattle.pc_refusals.specs.Parts as parts;
 ghost use Rattle.pc_refusals.specs.Inner.Refusals.{IsCoreStop};
 
 use crate::refusal::refuse_at;
@@ -13,7 +14,7 @@ use std::alloc::Global;
 
 // Where an entity's name starts.
 fn entity_start(core: &Core, entity: u32) -> u32
-    ensures { result ≡ spec.entity_start (slice_get core.now.entities entity) }
+    ensures { result ≡ parts.entity_start (slice_get core.now.entities entity) }
 {
     match core.entity_at(entity) {
         Some(found) => found.span.start,
@@ -23,7 +24,7 @@ fn entity_start(core: &Core, entity: u32) -> u32
 
 // Where a method's name starts.
 fn method_start(core: &Core, method: u32) -> u32
-    ensures { result ≡ spec.method_start (slice_get core.now.methods method) }
+    ensures { result ≡ parts.method_start (slice_get core.now.methods method) }
 {
     match core.method_at(method) {
         Some(found) => found.span.start,
@@ -33,7 +34,7 @@ fn method_start(core: &Core, method: u32) -> u32
 
 // Where the name of a parameter of a method starts.
 fn param_start(method: &Method, parameter: u32) -> u32
-    ensures { result ≡ spec.param_start (slice_get method.now.params parameter) }
+    ensures { result ≡ parts.param_start (slice_get method.now.params parameter) }
 {
     match method.params.get(parameter as usize) {
         Some(found) => found.span.start,
@@ -43,7 +44,7 @@ fn param_start(method: &Method, parameter: u32) -> u32
 
 // The same, by the method's number.
 fn own_param_start(core: &Core, method: u32, parameter: u32) -> u32
-    ensures { result ≡ spec.own_param_start (slice_get core.now.methods method) parameter }
+    ensures { result ≡ parts.own_param_start (slice_get core.now.methods method) parameter }
 {
     match core.method_at(method) {
         Some(found) => param_start(found, parameter),
@@ -53,7 +54,7 @@ fn own_param_start(core: &Core, method: u32, parameter: u32) -> u32
 
 // Where a node starts.
 fn node_start(core: &Core, node: u32) -> u32
-    ensures { result ≡ spec.node_start (slice_get core.now.nodes node) }
+    ensures { result ≡ parts.node_start (slice_get core.now.nodes node) }
 {
     match core.node_at(node) {
         Some(found) => found.span.start,

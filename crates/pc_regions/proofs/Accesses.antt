@@ -27,7 +27,7 @@ use Rattle.pc_ann.specs.declared.annotation.Rule.TheVariants as rule
 use Rattle.pc_semantics.specs.declared.frames.Frame.{Frame}
 use Rattle.pc_semantics.specs.declared.frames.Task.{Task}
 use Rattle.pc_semantics.specs.declared.frames.Task.TheVariants as task
-use Rattle.pc_semantics.specs.Around.{Around}
+use Rattle.pc_semantics.specs.Configurations.{Around}
 use Rattle.pc_rules.specs.Parts.{type_of, last_child, constructs}
 use Rattle.pc_valid.specs.Words.{Ty, before}
 use Rattle.pc_rules.specs.Rules.{said_by}

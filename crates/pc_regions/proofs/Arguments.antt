@@ -12,11 +12,11 @@ use Rattle.pc_core.specs.declared.declarations.ParamInfo.{ParamInfo}
 use Rattle.pc_core.specs.CoreData.{CoreData}
 use Rattle.pc_lists.specs.Lists.{Each}
 use Rattle.pc_ann.specs.declared.annotation.Ann.{Ann}
-use Rattle.pc_semantics.specs.Around.{popped}
+use Rattle.pc_semantics.specs.Configurations.{popped}
 use Rattle.pc_sub.specs.Computed.{is_sub}
 use Rattle.pc_rules.specs.Parts.{type_of}
 use Rattle.pc_valid.specs.Words.{Ty}
-use Rattle.pc_core.specs.Conforms.{ParamFits}
+use Rattle.pc_core.specs.Entities.{ParamFits}
 use Rattle.pc_rules.specs.Calls.{argument_goes, argument_sendable}
 use Rattle.pc_rules.proofs.ByNumber.{arguments_go, arguments_sendable}
 use Rattle.pc_lists.proofs.Bools.{false_true}

@@ -14,7 +14,7 @@ use Rattle.pc_masks.specs.declared.mask.Mask.{Mask}
 use Rattle.pc_ann.specs.declared.annotation.Ann.{Ann}
 use Rattle.pc_semantics.specs.declared.frames.Frame.{Frame}
 use Rattle.pc_semantics.specs.declared.frames.Task.{Task}
-use Rattle.pc_semantics.specs.Around.{Around, popped}
+use Rattle.pc_semantics.specs.Configurations.{Around, popped}
 use Rattle.pc_rules.specs.Parts.{through}
 use Rattle.pc_valid.specs.Words.{Ty, Masks, before}
 use Rattle.pc_types.proofs.Tasks.{Within}

@@ -14,9 +14,9 @@ use Rattle.pc_ann.specs.declared.annotation.Ann.{Ann}
 use Rattle.pc_semantics.specs.declared.frames.Frame.{Frame}
 use Rattle.pc_semantics.specs.declared.frames.Task.{Task}
 use Rattle.pc_semantics.specs.declared.frames.Task.TheVariants as task
-use Rattle.pc_semantics.specs.Around.{Around, Move, Goes, with_stack, pushed, with_top, none}
-use Rattle.pc_semantics.specs.Step.{at_node}
-use Rattle.pc_semantics.specs.Evaluation.{truth, right_side, test_and, test_or, test_task, branch, branch_task, loop_turn, loop_task}
+use Rattle.pc_semantics.specs.Configurations.{Around, Move, Goes, with_stack, pushed, none}
+use Rattle.pc_semantics.specs.Parts.{with_top, at_node, branch_task, loop_task}
+use Rattle.pc_semantics.specs.Evaluation.{truth, right_side, test_and, test_or, test_task, branch, loop_turn}
 use Rattle.pc_valid.specs.Words.{Ty}
 use Rattle.pc_lists.proofs.Bools.{false_true}
 use Rattle.pc_types.proofs.Types.{OfType, Want, StackOk}

@@ -25,7 +25,7 @@ use Rattle.pc_sub.specs.Computed.{is_sub}
 use Rattle.pc_semantics.specs.declared.frames.Frame.{Frame}
 use Rattle.pc_semantics.specs.declared.frames.Task.{Task}
 use Rattle.pc_semantics.specs.declared.frames.Task.TheVariants as task
-use Rattle.pc_semantics.specs.Around.{Around, Goes, doing}
+use Rattle.pc_semantics.specs.Configurations.{Around, Goes, doing}
 use Rattle.pc_semantics.specs.Children.{evaluations}
 use Rattle.pc_semantics.specs.Evaluation.{children_first, first_then, item_tasks}
 use Rattle.pc_rules.specs.Parts.{lower, through, type_of, last_child}

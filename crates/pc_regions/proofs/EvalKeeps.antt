@@ -14,8 +14,9 @@ use Rattle.pc_lists.specs.Lists.{◌>>=◌}
 use Rattle.pc_ann.specs.declared.annotation.Ann.{Ann}
 use Rattle.pc_semantics.specs.declared.frames.Frame.{Frame}
 use Rattle.pc_semantics.specs.declared.frames.Task.TheVariants as task
-use Rattle.pc_semantics.specs.Around.{Around}
-use Rattle.pc_semantics.specs.Evaluation.{first_then, evaluate, evaluate_node}
+use Rattle.pc_semantics.specs.Configurations.{Around}
+use Rattle.pc_semantics.specs.Evaluation.{first_then, evaluate}
+use Rattle.pc_semantics.specs.Parts.{evaluate_node}
 use Rattle.pc_rules.specs.Parts.{through}
 use Rattle.pc_valid.specs.Words.{Ty, before}
 use Rattle.pc_rules.specs.Rules.{said_by}

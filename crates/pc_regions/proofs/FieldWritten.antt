@@ -4,7 +4,8 @@ use Rattle.std.specs.FinMap.{get}
 use Rattle.std.proofs.Common.{inl, inr, ap, sym, subst, ◌∙◌, length-set}
 use Rattle.std.proofs.lemmas.Bool.{cases_eq}
 use Rattle.std.proofs.lemmas.Option.{same_Some, none-some}
-use Rattle.pc_heap.specs.Objects.{ObjectMap, object_in, with_field, with_value, Object}
+use Rattle.pc_heap.specs.Objects.{ObjectMap, with_field, with_value, Object}
+use Rattle.pc_heap.specs.Parts.{object_in}
 use Rattle.pc_heap.specs.declared.value.Address.{Address}
 use Rattle.pc_heap.specs.declared.value.Value.{Value}
 use Rattle.pc_lists.proofs.Gets.{get_below, get_set_same, get_set_other}

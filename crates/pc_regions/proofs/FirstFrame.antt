@@ -16,7 +16,7 @@ use Rattle.pc_core.specs.Entities.{this_slot, param_slot}
 use Rattle.pc_ann.specs.declared.annotation.Ann.{Ann}
 use Rattle.pc_masks.specs.Masks.{first}
 use Rattle.pc_masks.specs.MaskLaws.{first_bits}
-use Rattle.pc_semantics.specs.Around.{first_slots}
+use Rattle.pc_semantics.specs.Parts.{first_slots}
 use Rattle.pc_rules.proofs.ByNumber.{slot_of}
 use Rattle.pc_regions.proofs.World.{World, Place, InSlot, InMail, Fits}
 use Rattle.pc_regions.proofs.StackForms.{BodyRises, SlotsShallow}

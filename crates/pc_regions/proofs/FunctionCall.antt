@@ -24,7 +24,7 @@ use Rattle.pc_ann.specs.declared.annotation.Ann.{Ann}
 use Rattle.pc_semantics.specs.declared.frames.Frame.{Frame}
 use Rattle.pc_semantics.specs.declared.frames.Task.{Task}
 use Rattle.pc_semantics.specs.declared.frames.Task.TheVariants as task
-use Rattle.pc_semantics.specs.Around.{Around, first_frame, with_stack, popped}
+use Rattle.pc_semantics.specs.Configurations.{Around, first_frame, with_stack, popped}
 use Rattle.pc_semantics.specs.Calls.{invoke_task}
 use Rattle.pc_rules.specs.Parts.{type_of}
 use Rattle.pc_valid.specs.Words.{Ty}

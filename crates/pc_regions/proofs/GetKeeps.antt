@@ -19,8 +19,8 @@ use Rattle.pc_ann.specs.declared.annotation.Note.{Note}
 use Rattle.pc_ann.specs.declared.annotation.Ann.{Ann}
 use Rattle.pc_semantics.specs.declared.frames.Frame.{Frame}
 use Rattle.pc_semantics.specs.declared.frames.Task.TheVariants as task
-use Rattle.pc_semantics.specs.Around.{Around, Goes, with_stack, pushed}
-use Rattle.pc_semantics.specs.Step.{at_node}
+use Rattle.pc_semantics.specs.Configurations.{Around, Goes, with_stack, pushed}
+use Rattle.pc_semantics.specs.Parts.{at_node}
 use Rattle.pc_semantics.specs.Calls.{get_task}
 use Rattle.pc_rules.specs.Parts.{through, type_of}
 use Rattle.pc_valid.specs.Words.{Ty, Masks, before}

@@ -13,7 +13,8 @@ use Rattle.pc_core.specs.CoreData.{CoreData}
 use Rattle.pc_masks.specs.declared.mask.Mask.{Mask}
 use Rattle.pc_ann.specs.declared.annotation.Ann.{Ann}
 use Rattle.pc_semantics.specs.declared.frames.Frame.{Frame}
-use Rattle.pc_semantics.specs.Configurations.{blank_object, number_of_fields}
+use Rattle.pc_semantics.specs.Configurations.{blank_object}
+use Rattle.pc_semantics.specs.Parts.{number_of_fields}
 use Rattle.pc_lists.proofs.Bools.{false_true}
 use Rattle.pc_regions.proofs.World.{Place, InSlot, OnStack, InField, InMail, Opened, World, Over, Fits}
 use Rattle.pc_regions.proofs.StackForms.{Entry}

@@ -18,8 +18,9 @@ use Rattle.pc_masks.specs.declared.mask.Mask.{Mask}
 use Rattle.pc_ann.specs.declared.annotation.Ann.{Ann}
 use Rattle.pc_semantics.specs.declared.frames.Frame.{Frame}
 use Rattle.pc_semantics.specs.declared.frames.Task.TheVariants as task
-use Rattle.pc_semantics.specs.Around.{Around, none, value_entity}
-use Rattle.pc_semantics.specs.Calls.{invoke_task, truth_text}
+use Rattle.pc_semantics.specs.Configurations.{Around, none, value_entity}
+use Rattle.pc_semantics.specs.Calls.{invoke_task}
+use Rattle.pc_semantics.specs.Parts.{truth_text}
 use Rattle.pc_sub.specs.Declarations.{takes_sendable}
 use Rattle.pc_rules.specs.Parts.{through, type_of}
 use Rattle.pc_valid.specs.Words.{Ty, Masks, before}

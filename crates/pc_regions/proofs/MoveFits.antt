@@ -9,9 +9,8 @@ use Rattle.pc_core.specs.CoreData.{CoreData}
 use Rattle.pc_ann.specs.declared.annotation.Ann.{Ann}
 use Rattle.pc_semantics.specs.declared.frames.Frame.{Frame}
 use Rattle.pc_semantics.specs.declared.frames.Task.{Task}
-use Rattle.pc_semantics.specs.Configurations.{own_address}
+use Rattle.pc_semantics.specs.Configurations.{own_address, Around, Move, Stuck, Overflows, Goes, Writes, Makes, Spawns, Enters, Sends, Leaves}
 use Rattle.pc_semantics.specs.Step.{left}
-use Rattle.pc_semantics.specs.Around.{Around, Move, Stuck, Overflows, Goes, Writes, Makes, Spawns, Enters, Sends, Leaves}
 use Rattle.pc_regions.proofs.World.{World, Opened, Place, InSlot, OnStack, InField, InMail, Fits, Alias, Over, WorldOk}
 use Rattle.pc_regions.proofs.StackForms.{TasksRise, uses_top}
 use Rattle.pc_regions.proofs.Fitting.{Active, WaitFits, FramesFit, TopAlias, FieldsFit, MessageFits}

@@ -11,9 +11,9 @@ use Rattle.pc_ann.specs.declared.annotation.Ann.{Ann}
 use Rattle.pc_semantics.specs.declared.actors.Actor.{Actor}
 use Rattle.pc_semantics.specs.declared.frames.Frame.{Frame}
 use Rattle.pc_semantics.specs.declared.mailbox.Message.{Message}
-use Rattle.pc_semantics.specs.Configurations.{Configuration, with_objects, with_actor, with_frames, own_address}
-use Rattle.pc_semantics.specs.Step.{around, delivered, left, made}
-use Rattle.pc_semantics.specs.Around.{Move, Stuck, Overflows, Goes, Writes, Makes, Spawns, Enters, Sends, Leaves}
+use Rattle.pc_semantics.specs.Configurations.{Configuration, with_actor, with_frames, own_address, Move, Stuck, Overflows, Goes, Writes, Makes, Spawns, Enters, Sends, Leaves}
+use Rattle.pc_semantics.specs.Parts.{with_objects, delivered}
+use Rattle.pc_semantics.specs.Step.{around, left, made}
 use Rattle.pc_regions.proofs.World.{World, WorldOk}
 use Rattle.pc_regions.proofs.Fitting.{FramesFit, MessageFits, MailFits, ActorFits, InRegions, HasRegions}
 use Rattle.pc_regions.proofs.MoveFits.{one_more, Others, Turned, RegionMoveOk}

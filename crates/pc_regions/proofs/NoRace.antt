@@ -21,8 +21,8 @@ use Rattle.pc_semantics.specs.declared.actors.Actor.{Actor}
 use Rattle.pc_semantics.specs.declared.frames.Frame.{Frame}
 use Rattle.pc_semantics.specs.declared.frames.Task.{Task}
 use Rattle.pc_semantics.specs.declared.frames.Task.TheVariants as task
-use Rattle.pc_semantics.specs.Configurations.{Configuration}
-use Rattle.pc_semantics.specs.Safety.{address_of, name_read, touched_name, access_of, Race, Quiet}
+use Rattle.pc_semantics.specs.Configurations.{Configuration, address_of}
+use Rattle.pc_semantics.specs.Safety.{name_read, touched_name, access_of, Race, Quiet}
 use Rattle.pc_semantics.specs.Step.{around}
 use Rattle.pc_types.proofs.Tasks.{TasksOk}
 use Rattle.pc_types.proofs.Frames.{FramesOk}

@@ -12,8 +12,8 @@ use Rattle.pc_caps.specs.declared.capability.Form.TheVariants as form
 use Rattle.pc_core.specs.declared.declarations.ParamInfo.{ParamInfo}
 use Rattle.pc_core.specs.CoreData.{CoreData}
 use Rattle.pc_semantics.specs.declared.access.Access.{Access}
-use Rattle.pc_semantics.specs.Configurations.{Configuration}
-use Rattle.pc_semantics.specs.Safety.{address_of, access, Race, LetAlone}
+use Rattle.pc_semantics.specs.Configurations.{Configuration, address_of}
+use Rattle.pc_semantics.specs.Safety.{access, Race, LetAlone}
 use Rattle.pc_lists.proofs.Bools.{false_true}
 use Rattle.pc_regions.proofs.World.{Fits, InMail, Held, World, Frozen, ice, in_ice, under_ice, Belongs, opened, loose, slot, stack, field, child, Seen, same, under, frozen, Over, over_loose, over_slot, over_own, over_field, over_part, over_child, WorldOk}
 

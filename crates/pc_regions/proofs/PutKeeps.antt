@@ -18,7 +18,8 @@ use Rattle.pc_masks.specs.declared.mask.Mask.{Mask}
 use Rattle.pc_ann.specs.declared.annotation.Ann.{Ann}
 use Rattle.pc_semantics.specs.declared.frames.Frame.{Frame}
 use Rattle.pc_semantics.specs.declared.frames.Task.TheVariants as task
-use Rattle.pc_semantics.specs.Around.{Around, Writes, with_stack, pushed, value_or_none}
+use Rattle.pc_semantics.specs.Configurations.{Around, Writes, with_stack, pushed}
+use Rattle.pc_semantics.specs.Parts.{value_or_none}
 use Rattle.pc_semantics.specs.Calls.{put_task}
 use Rattle.pc_sub.specs.Computed.{is_sub}
 use Rattle.pc_rules.specs.Parts.{goes_to, type_of}

@@ -24,7 +24,7 @@ use Rattle.pc_semantics.specs.declared.frames.Task.{Task}
 use Rattle.pc_semantics.specs.declared.frames.Task.TheVariants as task
 use Rattle.pc_semantics.specs.Calls.{leave}
 use Rattle.std.proofs.lemmas.Option.{same_Some}
-use Rattle.pc_semantics.specs.Around.{Around}
+use Rattle.pc_semantics.specs.Configurations.{Around}
 use Rattle.pc_semantics.specs.Step.{left}
 use Rattle.pc_valid.specs.Words.{Ty}
 use Rattle.pc_lists.proofs.Bools.{false_true}

@@ -10,7 +10,7 @@ use Rattle.pc_masks.specs.declared.mask.Mask.{Mask}
 use Rattle.pc_ann.specs.declared.annotation.Ann.{Ann}
 use Rattle.pc_semantics.specs.declared.frames.Frame.{Frame}
 use Rattle.pc_semantics.specs.declared.frames.Task.{Task}
-use Rattle.pc_semantics.specs.Around.{Around, Goes}
+use Rattle.pc_semantics.specs.Configurations.{Around, Goes}
 use Rattle.pc_valid.specs.Words.{Ty}
 use Rattle.pc_lists.proofs.Bools.{false_true}
 use Rattle.pc_types.proofs.Types.{OfSome}

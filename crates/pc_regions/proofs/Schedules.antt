@@ -11,9 +11,9 @@ use Rattle.pc_semantics.specs.declared.frames.Task.{Task}
 use Rattle.pc_semantics.specs.declared.mailbox.Message.{Message}
 use Rattle.pc_semantics.specs.declared.outcome.Outcome.{Outcome}
 use Rattle.pc_semantics.specs.declared.outcome.Outcome.TheVariants.{Moved, Skipped, Lacks, TooLong}
-use Rattle.pc_semantics.specs.Configurations.{Configuration}
-use Rattle.pc_semantics.specs.Around.{Around}
-use Rattle.pc_semantics.specs.Step.{task_move, around, run_task, take, take_first, run_frames, step_of, step, followed, run_from}
+use Rattle.pc_semantics.specs.Configurations.{Configuration, Around}
+use Rattle.pc_semantics.specs.Step.{task_move, around, take, take_first, run_frames, step, followed, run_from}
+use Rattle.pc_semantics.specs.Parts.{run_task, step_of}
 use Rattle.pc_types.proofs.Tasks.{TasksOk}
 use Rattle.pc_types.proofs.Frames.{FramesOk}
 use Rattle.pc_types.proofs.Typed.{WellTyped, ActorOk}

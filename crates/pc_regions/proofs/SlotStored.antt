@@ -17,8 +17,9 @@ use Rattle.pc_masks.specs.Masks.{IsInMask, with_number}
 use Rattle.pc_masks.specs.MaskLaws.{with_number_bits}
 use Rattle.pc_semantics.specs.declared.frames.Frame.{Frame}
 use Rattle.pc_semantics.specs.declared.frames.Task.TheVariants as task
-use Rattle.pc_semantics.specs.Around.{Around, value_or_none, with_stack}
-use Rattle.pc_semantics.specs.Calls.{held, store}
+use Rattle.pc_semantics.specs.Configurations.{Around, with_stack}
+use Rattle.pc_semantics.specs.Parts.{value_or_none, held}
+use Rattle.pc_semantics.specs.Calls.{store}
 use Rattle.pc_valid.specs.Words.{Ty}
 use Rattle.pc_rules.proofs.ByNumber.{slot_of}
 use Rattle.pc_types.proofs.Types.{OfSome}

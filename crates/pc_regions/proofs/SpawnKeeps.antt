@@ -18,8 +18,7 @@ use Rattle.pc_masks.specs.declared.mask.Mask.{Mask}
 use Rattle.pc_ann.specs.declared.annotation.Ann.{Ann}
 use Rattle.pc_semantics.specs.declared.frames.Frame.{Frame}
 use Rattle.pc_semantics.specs.declared.frames.Task.TheVariants as task
-use Rattle.pc_semantics.specs.Configurations.{own_address, blank_object}
-use Rattle.pc_semantics.specs.Around.{Around}
+use Rattle.pc_semantics.specs.Configurations.{own_address, blank_object, Around}
 use Rattle.pc_semantics.specs.Calls.{spawn_task}
 use Rattle.pc_sub.specs.Declarations.{takes_sendable}
 use Rattle.pc_valid.specs.Words.{Ty}

@@ -21,7 +21,8 @@ use Rattle.pc_core.specs.Entities.{out_field}
 use Rattle.pc_core.specs.Formed.{Formed}
 use Rattle.pc_ann.specs.declared.annotation.Ann.{Ann}
 use Rattle.pc_semantics.specs.declared.actors.Actor.{Actor}
-use Rattle.pc_semantics.specs.Configurations.{own_address, number_of_fields, blank_object, environment, environment_address, start_of, start}
+use Rattle.pc_semantics.specs.Configurations.{own_address, blank_object, environment, environment_address, start_of, start}
+use Rattle.pc_semantics.specs.Parts.{number_of_fields}
 use Rattle.pc_regions.proofs.World.{Place, InField, InMail, Standing, Unused, Froze, Opened, Held, Child, World, ice, Fits, WorldOk}
 use Rattle.pc_regions.proofs.Fitting.{FieldsFit, MessageFits, ActorFits, HasRegions}
 use Rattle.pc_types.proofs.Heaps.{get_here, put_or_before, put_stays}

@@ -24,9 +24,9 @@ use Rattle.pc_ann.specs.declared.annotation.Ann.{Ann}
 use Rattle.pc_semantics.specs.declared.actors.Actor.{Actor}
 use Rattle.pc_semantics.specs.declared.frames.Frame.{Frame}
 use Rattle.pc_semantics.specs.declared.mailbox.Message.{Message}
-use Rattle.pc_semantics.specs.Configurations.{Configuration, with_actor, with_frames, own_address}
-use Rattle.pc_semantics.specs.Around.{first_frame}
-use Rattle.pc_semantics.specs.Step.{printed_text, begin_method}
+use Rattle.pc_semantics.specs.Configurations.{Configuration, with_actor, with_frames, own_address, first_frame}
+use Rattle.pc_semantics.specs.Step.{printed_text}
+use Rattle.pc_semantics.specs.Parts.{begin_method}
 use Rattle.pc_valid.specs.Words.{Ty}
 use Rattle.pc_lists.proofs.Bools.{false_true}
 use Rattle.pc_sub.specs.Declarations.{takes_sendable}

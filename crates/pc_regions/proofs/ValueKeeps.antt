@@ -25,8 +25,8 @@ use Rattle.pc_masks.specs.Masks.{IsInMask, without_number}
 use Rattle.pc_masks.specs.MaskLaws.{without_number_bits}
 use Rattle.pc_semantics.specs.declared.frames.Frame.{Frame}
 use Rattle.pc_semantics.specs.declared.frames.Task.TheVariants as task
-use Rattle.pc_semantics.specs.Around.{Around, Goes, pushed, with_slot}
-use Rattle.pc_semantics.specs.Evaluation.{push_slot, take_slot}
+use Rattle.pc_semantics.specs.Configurations.{Around, Goes, pushed, with_slot}
+use Rattle.pc_semantics.specs.Parts.{push_slot, take_slot}
 use Rattle.pc_rules.specs.Parts.{reachable, full}
 use Rattle.pc_valid.specs.Words.{Ty, before}
 use Rattle.pc_rules.proofs.ByNumber.{slot_of}

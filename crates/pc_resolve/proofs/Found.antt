@@ -14,10 +14,10 @@ use Rattle.pc_caps.specs.declared.capability.Cap.{Cap}
 use Rattle.pc_tree.specs.declared.written_names.TypeRef.{TypeRef}
 use Rattle.pc_members.specs.Members as words
 use Rattle.pc_members.specs.MemberLists.{with_name, with_names}
-use Rattle.pc_body_spec.specs.Scopes.{Constructor, KnownEntity, PlacedLocal, Visible, TypeMeaning, no_value, is_among_names, slot_named, slot_at, constructor_named, type_from, by_kind, is_own}
+use Rattle.pc_body_spec.specs.Bodies.{Constructor, KnownEntity, PlacedLocal, Visible, TypeMeaning, no_value, is_among_names, slot_named, slot_at, constructor_named, type_from, by_kind, is_own}
 use Rattle.pc_body_spec.specs.Faults.{is_entity}
 use Rattle.pc_body_spec.specs.Fold.{type_of_name}
-use Rattle.pc_body_spec.specs.Slots.{cap_or}
+use Rattle.pc_body_spec.specs.Parts.{cap_or}
 use Rattle.pc_resolve.specs.Indexes.{firsts}
 use Rattle.pc_resolve.specs.Pairs.{constructor_pair, visible_pair, placed_pair, known_pairs, known_at, picked}
 use Rattle.pc_resolve.proofs.Indexes.{lookup_firsts, or_else}

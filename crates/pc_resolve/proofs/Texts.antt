@@ -5,7 +5,7 @@ use Rattle.std.specs.List.{position_from}
 use Rattle.std.specs.Str.{bytes_eq}
 use Rattle.std.proofs.lemmas.Iterator.Adapters.{position_from-zero}
 use Rattle.std.proofs.lemmas.Bool.{eq-eqb, eqb-true}
-use Rattle.pc_body_spec.specs.Scopes.{text_from}
+use Rattle.pc_body_spec.specs.Bodies.{text_from}
 
 abbrev or_zero : Option ℕ → ℕ
 or_zero None = 0

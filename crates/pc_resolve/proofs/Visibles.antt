@@ -7,7 +7,7 @@ use Rattle.std.proofs.lemmas.Bool.{ltb-true, ltb-false}
 use Rattle.std.proofs.lemmas.List.{map-append, take-map, drop-map, drop-take, drop_all, drop-append-le, length-append, length-take}
 use Rattle.pc_lists.proofs.Gets.{get_drop, get_map}
 use Rattle.pc_lists.proofs.Options.{none_some}
-use Rattle.pc_body_spec.specs.Scopes.{Visible, slot_named}
+use Rattle.pc_body_spec.specs.Bodies.{Visible, slot_named}
 use Rattle.pc_resolve.specs.Indexes.{firsts, with_first, marks}
 use Rattle.pc_resolve.specs.Pairs.{visible_pair}
 use Rattle.pc_resolve.proofs.Indexes.{firsts_push, marks_push, marks_take, mark_found, or_else}

@@ -2,7 +2,7 @@
 use Rattle.pc_resolve.specs.{declared.meaning.Meaning.Meaning, declared.meaning.TypeMeaning.TypeMeaning}
 use Rattle.pc_resolve.specs.declared.meaning.Meaning.TheVariants as m
 use Rattle.pc_resolve.specs.declared.meaning.TypeMeaning.TheVariants as t
-use Rattle.pc_body_spec.specs.Scopes as spec
+use Rattle.pc_body_spec.specs.Bodies as spec
 
 abbrev pub meaning_view : Meaning → spec.Meaning
 meaning_view (m.Local slot) = spec.local slot

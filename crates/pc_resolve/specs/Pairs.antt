@@ -1,7 +1,7 @@
 -- What the elements of lists are looked up by, and what is found.
 use Rattle.std.specs.Prelude.{ℕ, suc, List, [], ◌∷◌, Option, Some, None, slice_get, if◌then◌else◌}
 use Rattle.std.specs.{Option.option_map, Str.bytes_eq}
-use Rattle.pc_body_spec.specs.Scopes.{Constructor, KnownEntity, PlacedLocal, Visible}
+use Rattle.pc_body_spec.specs.Bodies.{Constructor, KnownEntity, PlacedLocal, Visible}
 
 abbrev pub constructor_pair : Constructor → List ℕ × ℕ
 constructor_pair c = (c.name, c.method)

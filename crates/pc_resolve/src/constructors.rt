@@ -1,7 +1,7 @@
 //! The constructors of an entity, looked up by their names.
 ghost use Rattle.std.specs.Prelude.{◌≡◌, [], IfOk, OnOk, map};
 ghost use Rattle.std.specs.Str.{bytes_eq};
-ghost use Rattle.pc_body_spec.specs.Scopes as spec;
+ghost use Rattle.pc_body_spec.specs.Bodies as spec;
 ghost use Rattle.pc_body_spec.specs.Bodies.{create_name};
 ghost use Rattle.pc_resolve.specs.Indexes.{firsts, with_firsts};
 ghost use Rattle.pc_resolve.specs.Pairs.{constructor_pair};
@@ -21,7 +21,7 @@ pub struct Constructor {
 }
 
 impl Model for Constructor {
-    ghost use Rattle.pc_body_spec.specs.Scopes.{Constructor as Seen};
+    ghost use Rattle.pc_body_spec.specs.Bodies.{Constructor as Seen};
 
     ghost Value = { Seen };
 
@@ -49,8 +49,7 @@ pub struct Constructors {
 impl Model for Constructors {
     ghost use Rattle.std.specs.Prelude.{◌≡◌, List as Sequence, map, drop};
     ghost use Rattle.std.specs.Str.{bytes_eq};
-    ghost use Rattle.pc_body_spec.specs.Scopes.{Constructor as Seen, constructor_named};
-    ghost use Rattle.pc_body_spec.specs.Bodies.{create_name};
+    ghost use Rattle.pc_body_spec.specs.Bodies.{Constructor as Seen, constructor_named, create_name};
     ghost use Rattle.pc_resolve.specs.Indexes.{firsts};
     ghost use Rattle.pc_resolve.specs.Near.{near_count};
     ghost use Rattle.pc_resolve.specs.Pairs.{constructor_pair};

@@ -1,10 +1,10 @@
 //! What stays the same throughout the body of a method, and the meaning of names in it.
 ghost use Rattle.pc_body_spec.specs.Fold as fold;
 ghost use Rattle.std.specs.Prelude.{◌≡◌, ◌<◌, ◌^◌, length, Option, IfOk, OnOk, OnErr, if◌then◌else◌};
-ghost use Rattle.pc_body_spec.specs.Scopes as spec;
+ghost use Rattle.pc_body_spec.specs.Bodies as spec;
 ghost use Rattle.pc_body_spec.specs.Bodies.{apply_name};
 ghost use Rattle.pc_body_spec.specs.Faults.{is_entity};
-ghost use Rattle.pc_body_spec.specs.Slots as slots;
+ghost use Rattle.pc_body_spec.specs.Parts as parts;
 ghost use Rattle.pc_resolve.specs.Meanings.{meaning_view, type_view};
 
 use crate::entities::{Entities, Known};
@@ -57,8 +57,7 @@ impl Members {
 
 impl Model for Context {
     ghost use Rattle.std.specs.Prelude.{◌≡◌, ◌<◌, ◌^◌, length, if◌then◌else◌};
-    ghost use Rattle.pc_body_spec.specs.Scopes.{Context as Seen, text_from};
-    ghost use Rattle.pc_body_spec.specs.Bodies.{apply_name};
+    ghost use Rattle.pc_body_spec.specs.Bodies.{Context as Seen, apply_name, text_from};
 
     ghost Value = { Seen };
 
@@ -220,7 +219,7 @@ fn number_in(texts: &NameTable, name: &[u8]) -> u32
 
 // The capability that is written, or else that of the entity.
 fn cap_or(written: Option<Cap>, own: Cap) -> Cap
-    ensures { result ≡ slots.cap_or written own }
+    ensures { result ≡ parts.cap_or written own }
 {
     match written {
         Some(cap) => cap,

@@ -23,7 +23,7 @@ pub struct Known {
 }
 
 impl Model for Known {
-    ghost use Rattle.pc_body_spec.specs.Scopes.{KnownEntity as Seen};
+    ghost use Rattle.pc_body_spec.specs.Bodies.{KnownEntity as Seen};
 
     ghost Value = { Seen };
 
@@ -55,7 +55,7 @@ pub(crate) struct Entities {
 impl Model for Entities {
     ghost use Rattle.std.specs.Prelude.{◌≡◌, List as Sequence};
     ghost use Rattle.std.specs.Str.{bytes_eq};
-    ghost use Rattle.pc_body_spec.specs.Scopes.{KnownEntity as Seen};
+    ghost use Rattle.pc_body_spec.specs.Bodies.{KnownEntity as Seen};
     ghost use Rattle.pc_resolve.specs.Indexes.{firsts};
     ghost use Rattle.pc_resolve.specs.Pairs.{known_pairs};
 

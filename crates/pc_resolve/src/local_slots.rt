@@ -1,6 +1,6 @@
 //! The slots of locals, looked up by the places of their names.
 ghost use Rattle.std.specs.Prelude.{◌≡◌, [], IfOk, OnOk, map, nat_eq};
-ghost use Rattle.pc_body_spec.specs.Scopes as spec;
+ghost use Rattle.pc_body_spec.specs.Bodies as spec;
 ghost use Rattle.pc_resolve.specs.Indexes.{firsts, with_first, with_firsts};
 ghost use Rattle.pc_resolve.specs.Pairs.{placed_pair};
 
@@ -18,7 +18,7 @@ pub struct Placed {
 }
 
 impl Model for Placed {
-    ghost use Rattle.pc_body_spec.specs.Scopes.{PlacedLocal as Seen};
+    ghost use Rattle.pc_body_spec.specs.Bodies.{PlacedLocal as Seen};
 
     ghost Value = { Seen };
 
@@ -43,7 +43,7 @@ pub struct LocalSlots {
 
 impl Model for LocalSlots {
     ghost use Rattle.std.specs.Prelude.{◌≡◌, List as Sequence, map, nat_eq};
-    ghost use Rattle.pc_body_spec.specs.Scopes.{PlacedLocal as Seen};
+    ghost use Rattle.pc_body_spec.specs.Bodies.{PlacedLocal as Seen};
     ghost use Rattle.pc_resolve.specs.Indexes.{firsts};
     ghost use Rattle.pc_resolve.specs.Pairs.{placed_pair};
 

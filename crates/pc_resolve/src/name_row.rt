@@ -1,6 +1,6 @@
 //! A list of names, and whether a name is in it.
 ghost use Rattle.std.specs.Prelude.{◌≡◌, [], IfOk, OnOk};
-ghost use Rattle.pc_body_spec.specs.Scopes as spec;
+ghost use Rattle.pc_body_spec.specs.Bodies as spec;
 ghost use Rattle.pc_members.specs.MemberLists.{with_names};
 
 use crate::near::{far, near};

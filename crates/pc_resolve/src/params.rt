@@ -1,6 +1,6 @@
 //! The parameters of a method, which are visible throughout its body.
 ghost use Rattle.std.specs.Prelude.{◌≡◌, ◌∷◌, [], ◌++◌, IfOk, OnOk};
-ghost use Rattle.pc_body_spec.specs.Scopes as spec;
+ghost use Rattle.pc_body_spec.specs.Bodies as spec;
 
 use crate::scope::Visible;
 use pc_caps::{List, ShortBytes};

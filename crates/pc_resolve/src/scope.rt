@@ -1,7 +1,7 @@
 //! The visible locals and parameters.
 ghost use Rattle.std.specs.Prelude.{◌≡◌, ◌∷◌, [], ◌++◌, IfOk, OnOk, OnErr, length, map, take, nat_lt, if◌then◌else◌};
 ghost use Rattle.std.specs.Str.{bytes_eq};
-ghost use Rattle.pc_body_spec.specs.Scopes as spec;
+ghost use Rattle.pc_body_spec.specs.Bodies as spec;
 ghost use Rattle.pc_resolve.specs.Indexes.{with_first};
 ghost use Rattle.pc_resolve.specs.Near.{near_count};
 
@@ -20,7 +20,7 @@ pub struct Visible {
 }
 
 impl Model for Visible {
-    ghost use Rattle.pc_body_spec.specs.Scopes.{Visible as Seen};
+    ghost use Rattle.pc_body_spec.specs.Bodies.{Visible as Seen};
 
     ghost Value = { Seen };
 
@@ -67,7 +67,7 @@ pub struct Scope {
 impl Model for Scope {
     ghost use Rattle.std.specs.Prelude.{◌≡◌, [], List as Sequence, map, drop};
     ghost use Rattle.std.specs.Str.{bytes_eq};
-    ghost use Rattle.pc_body_spec.specs.Scopes.{Visible as Seen};
+    ghost use Rattle.pc_body_spec.specs.Bodies.{Visible as Seen};
     ghost use Rattle.pc_resolve.specs.Indexes.{firsts, marks};
     ghost use Rattle.pc_resolve.specs.Near.{near_count};
     ghost use Rattle.pc_resolve.specs.Pairs.{visible_pair};

@@ -20,8 +20,7 @@ use Rattle.pc_rules.specs.Rules.{rule_says, said_by, says, IsSaid, NoteIsSaid}
 use Rattle.pc_rules.specs.Checks.{FillsFields, Checks, StartsFrom, GoesWell, SaysNothing, StaysUnset}
 use Rattle.pc_rules.specs.Checks as starts
 use Rattle.pc_valid.specs.Words.{Slots, Masks, before}
-use Rattle.pc_valid.specs.Rules.{Means}
-use Rattle.pc_valid.specs.Valid.{AreNotes, Meets, MeetsRule, SetsFields, Valid}
+use Rattle.pc_valid.specs.Valid.{Means, AreNotes, Meets, MeetsRule, SetsFields, Valid}
 use Rattle.pc_valid.specs.NoRule.{Holds, Reaches, body, first_child, else_branch, next_child, MeetsReached, NoRule, Unset}
 use Rattle.pc_rules.specs.Statements.{MeetsTheSameRules, SameAreValid, SameHaveNoRule, SameAreUnset}
 use Rattle.pc_rules.proofs.RecordWords.{else_to, to_else, all_set_iff, constructs_iff, starts_to, to_starts}

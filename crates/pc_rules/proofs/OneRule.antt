@@ -13,7 +13,8 @@ use Rattle.pc_core.specs.declared.declarations.MethodKind.TheVariants as method
 use Rattle.pc_core.specs.declared.nodes.Node.{Node}
 use Rattle.pc_core.specs.declared.nodes.NodeKind.{NodeKind}
 use Rattle.pc_core.specs.declared.nodes.NodeKind.TheVariants as node
-use Rattle.pc_core.specs.CoreData.{CoreData, method_name, own_methods, method_named}
+use Rattle.pc_core.specs.CoreData.{CoreData, own_methods, method_named}
+use Rattle.pc_core.specs.Parts.{method_name}
 use Rattle.pc_lists.specs.Lists.{◌>>=◌, place_of}
 use Rattle.pc_lists.proofs.Options.{bind_some, kept, kept_otherwise, bind_is}
 use Rattle.pc_core.specs.Formed.{Formed}

@@ -23,9 +23,10 @@ use Rattle.pc_core.specs.declared.nodes.NodeKind.{NodeKind}
 use Rattle.pc_core.specs.declared.nodes.NodeKind.TheVariants as node
 use Rattle.pc_tree.specs.declared.kinds.Op.{Op}
 use Rattle.pc_tree.specs.declared.kinds.Op.TheVariants as op
-use Rattle.pc_core.specs.CoreData.{CoreData, own_methods, field_name, method_name, field_named, method_named, IsMethod}
+use Rattle.pc_core.specs.CoreData.{CoreData, own_methods, field_named, method_named, IsMethod}
+use Rattle.pc_core.specs.Parts.{field_name, method_name}
 use Rattle.pc_core.specs.Formed.{Formed}
-use Rattle.pc_core.specs.Further.{IsField}
+use Rattle.pc_core.specs.Parts.{IsField}
 use Rattle.pc_core.specs.Members.{method_among, field_found, field_missed, method_found, method_missed}
 use Rattle.pc_lists.proofs.Gets.{get_below, get_front, get_append, get_map, range_get}
 use Rattle.pc_lists.proofs.Options.{bind_some, bind_is, kept}
@@ -44,7 +45,7 @@ use Rattle.pc_rules.specs.Checks.{is_else}
 use Rattle.pc_rules.specs.Control.{without_definition, without_item, without_items, joined, recovered, start_set}
 use Rattle.pc_rules.proofs.Lawful.{items_bits}
 use Rattle.pc_rules.proofs.Meaning as mirror
-use Rattle.pc_valid.specs.Rules.{arithmetic, comparisons, equalities, IsOneOf}
+use Rattle.pc_valid.specs.Valid.{arithmetic, comparisons, equalities, IsOneOf}
 use Rattle.pc_valid.specs.Words.{Masks, masks_after, OneAfterOther, Sendable, Defines, Ty, Place, FormFits, IsLower, GoesTo, ReadsValue, Joined, to_second, to_first, to_none, no_first, no_second, Recovers, as_lifted, as_written, IsConstructor, AllSet, StartsSet, Slots, SlotOf, DefinedAs, FieldOf, Called, Go, Incomplete}
 
 -- ---- types

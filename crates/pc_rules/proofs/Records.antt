@@ -28,7 +28,7 @@ use Rattle.pc_rules.specs.Control.{without_items}
 use Rattle.pc_rules.proofs.Meaning as mirror
 use Rattle.pc_rules.proofs.MeantCalls.{rules_are_records}
 use Rattle.pc_valid.specs.Words.{Masks, masks_after, Ty, ReadsValue, Slots, before, AllSet}
-use Rattle.pc_valid.specs.Rules as new
+use Rattle.pc_valid.specs.Valid as spec
 use Rattle.pc_rules.specs.Statements.{SaysWhatIsMeant}
 use Rattle.pc_rules.proofs.RecordWords.{order_iff, sendable_iff, arithmetic_iff, comparison_iff, equality_iff, add_iff, xor_iff, ends_to, to_ends, lower_iff, fits_iff, goes_iff, reads_iff, choice, chosen, joined_to, to_joined, recovers_to, to_recovers, all_set_iff, starts_to, to_starts, slot_to, to_slot, defined_to, to_defined, field_to, to_field, own_at, at_own, gives_up, go_to, to_go, called_to, to_called, incomplete_to, to_incomplete}
 
@@ -49,21 +49,21 @@ not_so true n = absurd (n refl)
 not_so false n = refl
 
 module _ (core : CoreData) (formed : Formed core) (slots : Slots) (own : Note) (ns : List Note) (x : Node) where
-  literal_to : (e : ℕ) → mirror.Literal own e → new.Literal own e
+  literal_to : (e : ℕ) → mirror.Literal own e → spec.Literal own e
   literal_to e r =
       record {
         type = r.type;
         masks = r.masks;
       }
 
-  to_literal : (e : ℕ) → new.Literal own e → mirror.Literal own e
+  to_literal : (e : ℕ) → spec.Literal own e → mirror.Literal own e
   to_literal e r =
       record {
         type = r.type;
         masks = r.masks;
       }
 
-  this_to : mirror.This core slots own x → new.This core slots own x
+  this_to : mirror.This core slots own x → spec.This core slots own x
   this_to r =
       let c = slot_to core slots x 0 r.slot r.is_slot in
       let is : c.home ≡ r.home = same_Some c.home r.home (sym c.is_home ∙ r.is_home) in
@@ -76,7 +76,7 @@ module _ (core : CoreData) (formed : Formed core) (slots : Slots) (own : Note) (
         masks = r.masks;
       }
 
-  to_this : new.This core slots own x → mirror.This core slots own x
+  to_this : spec.This core slots own x → mirror.This core slots own x
   to_this r =
       record {
         home = r.this.home;
@@ -90,7 +90,7 @@ module _ (core : CoreData) (formed : Formed core) (slots : Slots) (own : Note) (
         masks = r.masks;
       }
 
-  local_to : (s : ℕ) → mirror.Local core slots own x s → new.LocalRule core slots own x s
+  local_to : (s : ℕ) → mirror.Local core slots own x s → spec.LocalRule core slots own x s
   local_to s r =
       record {
         of = slot_to core slots x s r.slot r.is_slot;
@@ -100,7 +100,7 @@ module _ (core : CoreData) (formed : Formed core) (slots : Slots) (own : Note) (
         masks = r.masks;
       }
 
-  to_local : (s : ℕ) → new.LocalRule core slots own x s → mirror.Local core slots own x s
+  to_local : (s : ℕ) → spec.LocalRule core slots own x s → mirror.Local core slots own x s
   to_local s r =
       record {
         slot = (r.of.slot, (r.of.entity, r.of.cap));
@@ -111,7 +111,7 @@ module _ (core : CoreData) (formed : Formed core) (slots : Slots) (own : Note) (
         masks = r.masks;
       }
 
-  consume_to : (s : ℕ) → mirror.Consume core slots own x s → new.Consume core slots own x s
+  consume_to : (s : ℕ) → mirror.Consume core slots own x s → spec.Consume core slots own x s
   consume_to s r =
       record {
         of = slot_to core slots x s r.slot r.is_slot;
@@ -121,7 +121,7 @@ module _ (core : CoreData) (formed : Formed core) (slots : Slots) (own : Note) (
         masks = r.masks;
       }
 
-  to_consume : (s : ℕ) → new.Consume core slots own x s → mirror.Consume core slots own x s
+  to_consume : (s : ℕ) → spec.Consume core slots own x s → mirror.Consume core slots own x s
   to_consume s r =
       record {
         slot = (r.of.slot, (r.of.entity, r.of.cap));
@@ -132,7 +132,7 @@ module _ (core : CoreData) (formed : Formed core) (slots : Slots) (own : Note) (
         masks = r.masks;
       }
 
-  define_to : (s : ℕ) → mirror.Define core slots own ns x s → new.Define core slots own ns x s
+  define_to : (s : ℕ) → mirror.Define core slots own ns x s → spec.Define core slots own ns x s
   define_to s r =
       record {
         child = r.child;
@@ -148,7 +148,7 @@ module _ (core : CoreData) (formed : Formed core) (slots : Slots) (own : Note) (
         masks = r.masks;
       }
 
-  to_define : (s : ℕ) → new.Define core slots own ns x s → mirror.Define core slots own ns x s
+  to_define : (s : ℕ) → spec.Define core slots own ns x s → mirror.Define core slots own ns x s
   to_define s r =
       record {
         child = r.child;
@@ -165,7 +165,7 @@ module _ (core : CoreData) (formed : Formed core) (slots : Slots) (own : Note) (
         masks = r.masks;
       }
 
-  assign_to : (s : ℕ) → mirror.Assign core slots own ns x s → new.Assign core slots own ns x s
+  assign_to : (s : ℕ) → mirror.Assign core slots own ns x s → spec.Assign core slots own ns x s
   assign_to s r =
       record {
         child = r.child;
@@ -183,7 +183,7 @@ module _ (core : CoreData) (formed : Formed core) (slots : Slots) (own : Note) (
         masks = r.masks;
       }
 
-  to_assign : (s : ℕ) → new.Assign core slots own ns x s → mirror.Assign core slots own ns x s
+  to_assign : (s : ℕ) → spec.Assign core slots own ns x s → mirror.Assign core slots own ns x s
   to_assign s r =
       record {
         child = r.child;
@@ -201,7 +201,7 @@ module _ (core : CoreData) (formed : Formed core) (slots : Slots) (own : Note) (
         masks = r.masks;
       }
 
-  get_to : (name : ℕ) → mirror.Get core own ns x name → new.Get core own ns x name
+  get_to : (name : ℕ) → mirror.Get core own ns x name → spec.Get core own ns x name
   get_to name r =
       record {
         complete = λ i. r.complete (to_incomplete core formed ns x i);
@@ -216,7 +216,7 @@ module _ (core : CoreData) (formed : Formed core) (slots : Slots) (own : Note) (
         masks = (order_iff ns (before own) (masks_after own)).0 r.masks;
       }
 
-  to_get : (name : ℕ) → new.Get core own ns x name → mirror.Get core own ns x name
+  to_get : (name : ℕ) → spec.Get core own ns x name → mirror.Get core own ns x name
   to_get name r =
       record {
         complete = λ i. r.complete (incomplete_to core formed ns x i);
@@ -232,7 +232,7 @@ module _ (core : CoreData) (formed : Formed core) (slots : Slots) (own : Note) (
         masks = (order_iff ns (before own) (masks_after own)).1 r.masks;
       }
 
-  getown_to : (name : ℕ) → mirror.GetOwn core own ns x name → new.GetOwn core own ns x name
+  getown_to : (name : ℕ) → mirror.GetOwn core own ns x name → spec.GetOwn core own ns x name
   getown_to name r =
       record {
         incomplete = incomplete_to core formed ns x r.incomplete;
@@ -244,7 +244,7 @@ module _ (core : CoreData) (formed : Formed core) (slots : Slots) (own : Note) (
         masks = (order_iff ns (before own) (masks_after own)).0 r.masks;
       }
 
-  to_getown : (name : ℕ) → new.GetOwn core own ns x name → mirror.GetOwn core own ns x name
+  to_getown : (name : ℕ) → spec.GetOwn core own ns x name → mirror.GetOwn core own ns x name
   to_getown name r =
       record {
         incomplete = to_incomplete core formed ns x r.incomplete;
@@ -257,7 +257,7 @@ module _ (core : CoreData) (formed : Formed core) (slots : Slots) (own : Note) (
         masks = (order_iff ns (before own) (masks_after own)).1 r.masks;
       }
 
-  put_to : (name : ℕ) → mirror.Put core own ns x name → new.Put core own ns x name
+  put_to : (name : ℕ) → mirror.Put core own ns x name → spec.Put core own ns x name
   put_to name r =
       record {
         complete = λ i. r.complete (to_incomplete core formed ns x i);
@@ -278,7 +278,7 @@ module _ (core : CoreData) (formed : Formed core) (slots : Slots) (own : Note) (
         masks = (order_iff ns (before own) (masks_after own)).0 r.masks;
       }
 
-  to_put : (name : ℕ) → new.Put core own ns x name → mirror.Put core own ns x name
+  to_put : (name : ℕ) → spec.Put core own ns x name → mirror.Put core own ns x name
   to_put name r =
       record {
         complete = λ i. r.complete (incomplete_to core formed ns x i);
@@ -300,7 +300,7 @@ module _ (core : CoreData) (formed : Formed core) (slots : Slots) (own : Note) (
         masks = (order_iff ns (before own) (masks_after own)).1 r.masks;
       }
 
-  putown_to : (name : ℕ) → mirror.PutOwn core own ns x name → new.PutOwn core own ns x name
+  putown_to : (name : ℕ) → mirror.PutOwn core own ns x name → spec.PutOwn core own ns x name
   putown_to name r =
       record {
         incomplete = incomplete_to core formed ns x r.incomplete;
@@ -319,7 +319,7 @@ module _ (core : CoreData) (formed : Formed core) (slots : Slots) (own : Note) (
         masks = r.masks;
       }
 
-  to_putown : (name : ℕ) → new.PutOwn core own ns x name → mirror.PutOwn core own ns x name
+  to_putown : (name : ℕ) → spec.PutOwn core own ns x name → mirror.PutOwn core own ns x name
   to_putown name r =
       record {
         incomplete = to_incomplete core formed ns x r.incomplete;
@@ -338,7 +338,7 @@ module _ (core : CoreData) (formed : Formed core) (slots : Slots) (own : Note) (
         masks = r.masks;
       }
 
-  new_to : (k : ℕ) → mirror.New core own ns k → new.New core own ns k
+  new_to : (k : ℕ) → mirror.New core own ns k → spec.New core own ns k
   new_to k r =
       record {
         called = r.called;
@@ -348,7 +348,7 @@ module _ (core : CoreData) (formed : Formed core) (slots : Slots) (own : Note) (
         masks = (order_iff ns (before own) (masks_after own)).0 r.masks;
       }
 
-  to_new : (k : ℕ) → new.New core own ns k → mirror.New core own ns k
+  to_new : (k : ℕ) → spec.New core own ns k → mirror.New core own ns k
   to_new k r =
       record {
         called = r.called;
@@ -358,7 +358,7 @@ module _ (core : CoreData) (formed : Formed core) (slots : Slots) (own : Note) (
         masks = (order_iff ns (before own) (masks_after own)).1 r.masks;
       }
 
-  spawn_to : (k : ℕ) → mirror.Spawn core own ns k → new.Spawn core own ns k
+  spawn_to : (k : ℕ) → mirror.Spawn core own ns k → spec.Spawn core own ns k
   spawn_to k r =
       record {
         called = r.called;
@@ -368,7 +368,7 @@ module _ (core : CoreData) (formed : Formed core) (slots : Slots) (own : Note) (
         masks = (order_iff ns (before own) (masks_after own)).0 r.masks;
       }
 
-  to_spawn : (k : ℕ) → new.Spawn core own ns k → mirror.Spawn core own ns k
+  to_spawn : (k : ℕ) → spec.Spawn core own ns k → mirror.Spawn core own ns k
   to_spawn k r =
       record {
         called = r.called;
@@ -378,7 +378,7 @@ module _ (core : CoreData) (formed : Formed core) (slots : Slots) (own : Note) (
         masks = (order_iff ns (before own) (masks_after own)).1 r.masks;
       }
 
-  call_to : (name : ℕ) → mirror.Call core own ns name → new.Call core own ns name
+  call_to : (name : ℕ) → mirror.Call core own ns name → spec.Call core own ns name
   call_to name r =
       record {
         call = called_to core formed ns name r.call;
@@ -389,7 +389,7 @@ module _ (core : CoreData) (formed : Formed core) (slots : Slots) (own : Note) (
         masks = (order_iff ns (before own) (masks_after own)).0 r.masks;
       }
 
-  to_call : (name : ℕ) → new.Call core own ns name → mirror.Call core own ns name
+  to_call : (name : ℕ) → spec.Call core own ns name → mirror.Call core own ns name
   to_call name r =
       record {
         call = to_called core formed ns name r.call;
@@ -400,7 +400,7 @@ module _ (core : CoreData) (formed : Formed core) (slots : Slots) (own : Note) (
         masks = (order_iff ns (before own) (masks_after own)).1 r.masks;
       }
 
-  callrecover_to : (name : ℕ) → mirror.CallRecover core own ns name → new.CallRecover core own ns name
+  callrecover_to : (name : ℕ) → mirror.CallRecover core own ns name → spec.CallRecover core own ns name
   callrecover_to name r =
       record {
         call = called_to core formed ns name r.call;
@@ -415,7 +415,7 @@ module _ (core : CoreData) (formed : Formed core) (slots : Slots) (own : Note) (
         masks = (order_iff ns (before own) (masks_after own)).0 r.masks;
       }
 
-  to_callrecover : (name : ℕ) → new.CallRecover core own ns name → mirror.CallRecover core own ns name
+  to_callrecover : (name : ℕ) → spec.CallRecover core own ns name → mirror.CallRecover core own ns name
   to_callrecover name r =
       record {
         call = to_called core formed ns name r.call;
@@ -429,7 +429,7 @@ module _ (core : CoreData) (formed : Formed core) (slots : Slots) (own : Note) (
         masks = (order_iff ns (before own) (masks_after own)).1 r.masks;
       }
 
-  send_to : (name : ℕ) → mirror.Send core own ns name → new.Send core own ns name
+  send_to : (name : ℕ) → mirror.Send core own ns name → spec.Send core own ns name
   send_to name r =
       record {
         call = called_to core formed ns name r.call;
@@ -439,7 +439,7 @@ module _ (core : CoreData) (formed : Formed core) (slots : Slots) (own : Note) (
         masks = (order_iff ns (before own) (masks_after own)).0 r.masks;
       }
 
-  to_send : (name : ℕ) → new.Send core own ns name → mirror.Send core own ns name
+  to_send : (name : ℕ) → spec.Send core own ns name → mirror.Send core own ns name
   to_send name r =
       record {
         call = to_called core formed ns name r.call;
@@ -449,7 +449,7 @@ module _ (core : CoreData) (formed : Formed core) (slots : Slots) (own : Note) (
         masks = (order_iff ns (before own) (masks_after own)).1 r.masks;
       }
 
-  builtin_to : (name : ℕ) → mirror.Builtin core own ns name → new.Builtin core own ns name
+  builtin_to : (name : ℕ) → mirror.Builtin core own ns name → spec.Builtin core own ns name
   builtin_to name r =
       record {
         child = r.child;
@@ -460,7 +460,7 @@ module _ (core : CoreData) (formed : Formed core) (slots : Slots) (own : Note) (
         masks = (order_iff ns (before own) (masks_after own)).0 r.masks;
       }
 
-  to_builtin : (name : ℕ) → new.Builtin core own ns name → mirror.Builtin core own ns name
+  to_builtin : (name : ℕ) → spec.Builtin core own ns name → mirror.Builtin core own ns name
   to_builtin name r =
       record {
         child = r.child;
@@ -471,29 +471,29 @@ module _ (core : CoreData) (formed : Formed core) (slots : Slots) (own : Note) (
         masks = (order_iff ns (before own) (masks_after own)).1 r.masks;
       }
 
-  operator_to : (e d : ℕ) → mirror.BothRead e ns → own.ty ≡ Some (d, form.Val) → mirror.OneAfterOther ns (before own) (masks_after own) → new.Operator own ns e d
+  operator_to : (e d : ℕ) → mirror.BothRead e ns → own.ty ≡ Some (d, form.Val) → mirror.OneAfterOther ns (before own) (masks_after own) → spec.Operator own ns e d
   operator_to e d r t m =
       record { left = r.0; right = r.1; children = r.2; left_reads = (reads_iff e r.0.ty).0 r.3; right_reads = (reads_iff e r.1.ty).0 r.4; type = t; masks = (order_iff ns (before own) (masks_after own)).0 m }
 
-  to_both : (e d : ℕ) → new.Operator own ns e d → mirror.BothRead e ns
+  to_both : (e d : ℕ) → spec.Operator own ns e d → mirror.BothRead e ns
   to_both e d r = (r.left, r.right, r.children, (reads_iff e r.left.ty).1 r.left_reads, (reads_iff e r.right.ty).1 r.right_reads)
 
-  arith_to : (o : Op) → mirror.Arith own ns o → new.IsOneOf new.arithmetic o × new.Operator own ns 1 1
+  arith_to : (o : Op) → mirror.Arith own ns o → spec.IsOneOf spec.arithmetic o × spec.Operator own ns 1 1
   arith_to o r = ((arithmetic_iff o).0 r.operator, operator_to 1 1 r.both r.type r.masks)
 
-  to_arith : (o : Op) → new.IsOneOf new.arithmetic o × new.Operator own ns 1 1 → mirror.Arith own ns o
+  to_arith : (o : Op) → spec.IsOneOf spec.arithmetic o × spec.Operator own ns 1 1 → mirror.Arith own ns o
   to_arith o m = record { operator = (arithmetic_iff o).1 m.0; both = to_both 1 1 m.1; type = m.1.type; masks = (order_iff ns (before own) (masks_after own)).1 m.1.masks }
 
-  compare_to : (o : Op) → mirror.Compare own ns o → new.IsOneOf new.comparisons o × new.Operator own ns 1 2
+  compare_to : (o : Op) → mirror.Compare own ns o → spec.IsOneOf spec.comparisons o × spec.Operator own ns 1 2
   compare_to o r = ((comparison_iff o).0 r.operator, operator_to 1 2 r.both r.type r.masks)
 
-  to_compare : (o : Op) → new.IsOneOf new.comparisons o × new.Operator own ns 1 2 → mirror.Compare own ns o
+  to_compare : (o : Op) → spec.IsOneOf spec.comparisons o × spec.Operator own ns 1 2 → mirror.Compare own ns o
   to_compare o m = record { operator = (comparison_iff o).1 m.0; both = to_both 1 2 m.1; type = m.1.type; masks = (order_iff ns (before own) (masks_after own)).1 m.1.masks }
 
-  join_to : (o : Op) → mirror.Join own ns o → (o ≡ op.Add) × new.Operator own ns 3 3
+  join_to : (o : Op) → mirror.Join own ns o → (o ≡ op.Add) × spec.Operator own ns 3 3
   join_to o r = ((add_iff o).0 r.operator, operator_to 3 3 r.both r.type r.masks)
 
-  to_join : (o : Op) → (o ≡ op.Add) × new.Operator own ns 3 3 → mirror.Join own ns o
+  to_join : (o : Op) → (o ≡ op.Add) × spec.Operator own ns 3 3 → mirror.Join own ns o
   to_join o m = record {
     operator = (add_iff o).1 m.0;
     both = to_both 3 3 m.1;
@@ -502,10 +502,10 @@ module _ (core : CoreData) (formed : Formed core) (slots : Slots) (own : Note) (
         (order_iff ns (before own) (masks_after own)).1 m.1.masks;
   }
 
-  xor_to : (o : Op) → mirror.Xor own ns o → (o ≡ op.Xor) × new.Operator own ns 2 2
+  xor_to : (o : Op) → mirror.Xor own ns o → (o ≡ op.Xor) × spec.Operator own ns 2 2
   xor_to o r = ((xor_iff o).0 r.operator, operator_to 2 2 r.both r.type r.masks)
 
-  to_xor : (o : Op) → (o ≡ op.Xor) × new.Operator own ns 2 2 → mirror.Xor own ns o
+  to_xor : (o : Op) → (o ≡ op.Xor) × spec.Operator own ns 2 2 → mirror.Xor own ns o
   to_xor o m = record {
     operator = (xor_iff o).1 m.0;
     both = to_both 2 2 m.1;
@@ -515,9 +515,9 @@ module _ (core : CoreData) (formed : Formed core) (slots : Slots) (own : Note) (
   }
 
   abbrev Equals : Type 0
-  Equals = new.Operator own ns 1 2 ⊎ (new.Operator own ns 2 2 ⊎ new.Operator own ns 3 2)
+  Equals = spec.Operator own ns 1 2 ⊎ (spec.Operator own ns 2 2 ⊎ spec.Operator own ns 3 2)
 
-  equal_to : (o : Op) → mirror.Equal own ns o → new.IsOneOf new.equalities o × Equals
+  equal_to : (o : Op) → mirror.Equal own ns o → spec.IsOneOf spec.equalities o × Equals
   equal_to o r = (
     (equality_iff o).0 r.operator,
     elim r.both [
@@ -526,10 +526,10 @@ module _ (core : CoreData) (formed : Formed core) (slots : Slots) (own : Note) (
     ],
   )
 
-  equals : (o : Op) (e : ℕ) → is_equality o ≡ true → mirror.BothRead 1 ns ⊎ (mirror.BothRead 2 ns ⊎ mirror.BothRead 3 ns) → new.Operator own ns e 2 → mirror.Equal own ns o
+  equals : (o : Op) (e : ℕ) → is_equality o ≡ true → mirror.BothRead 1 ns ⊎ (mirror.BothRead 2 ns ⊎ mirror.BothRead 3 ns) → spec.Operator own ns e 2 → mirror.Equal own ns o
   equals o e t b r = record { operator = t; both = b; type = r.type; masks = (order_iff ns (before own) (masks_after own)).1 r.masks }
 
-  to_equal : (o : Op) → new.IsOneOf new.equalities o × Equals → mirror.Equal own ns o
+  to_equal : (o : Op) → spec.IsOneOf spec.equalities o × Equals → mirror.Equal own ns o
   to_equal o m =
       let t = (equality_iff o).1 m.0 in
       elim m.1 [
@@ -537,7 +537,7 @@ module _ (core : CoreData) (formed : Formed core) (slots : Slots) (own : Note) (
         | inr h ↦ elim h [ inl r ↦ equals o 2 t (inr (inl (to_both 2 2 r))) r | inr r ↦ equals o 3 t (inr (inr (to_both 3 2 r))) r ]
       ]
 
-  not_to : mirror.Not own ns → new.Not own ns
+  not_to : mirror.Not own ns → spec.Not own ns
   not_to r =
       record {
         child = r.child;
@@ -547,7 +547,7 @@ module _ (core : CoreData) (formed : Formed core) (slots : Slots) (own : Note) (
         masks = (order_iff ns (before own) (masks_after own)).0 r.masks;
       }
 
-  to_not : new.Not own ns → mirror.Not own ns
+  to_not : spec.Not own ns → mirror.Not own ns
   to_not r =
       record {
         child = r.child;
@@ -557,7 +557,7 @@ module _ (core : CoreData) (formed : Formed core) (slots : Slots) (own : Note) (
         masks = (order_iff ns (before own) (masks_after own)).1 r.masks;
       }
 
-  lazy_to : mirror.Lazy own ns → new.Lazy own ns
+  lazy_to : mirror.Lazy own ns → spec.Lazy own ns
   lazy_to r =
       record {
         left = r.left;
@@ -571,7 +571,7 @@ module _ (core : CoreData) (formed : Formed core) (slots : Slots) (own : Note) (
         masks = r.masks;
       }
 
-  to_lazy : new.Lazy own ns → mirror.Lazy own ns
+  to_lazy : spec.Lazy own ns → mirror.Lazy own ns
   to_lazy r =
       record {
         left = r.left;
@@ -585,7 +585,7 @@ module _ (core : CoreData) (formed : Formed core) (slots : Slots) (own : Note) (
         masks = r.masks;
       }
 
-  identity_to : mirror.Identity own ns → new.Identity own ns
+  identity_to : mirror.Identity own ns → spec.Identity own ns
   identity_to r =
       record {
         left = r.left;
@@ -599,7 +599,7 @@ module _ (core : CoreData) (formed : Formed core) (slots : Slots) (own : Note) (
         masks = (order_iff ns (before own) (masks_after own)).0 r.masks;
       }
 
-  to_identity : new.Identity own ns → mirror.Identity own ns
+  to_identity : spec.Identity own ns → mirror.Identity own ns
   to_identity r =
       record {
         left = r.left;
@@ -613,7 +613,7 @@ module _ (core : CoreData) (formed : Formed core) (slots : Slots) (own : Note) (
         masks = (order_iff ns (before own) (masks_after own)).1 r.masks;
       }
 
-  seq_to : mirror.Seq core own ns x → new.SeqRule core own ns x
+  seq_to : mirror.Seq core own ns x → spec.SeqRule core own ns x
   seq_to r =
       record {
         front = r.front;
@@ -626,7 +626,7 @@ module _ (core : CoreData) (formed : Formed core) (slots : Slots) (own : Note) (
         set = ap (λ (m : Masks). m.1) r.masks;
       }
 
-  to_seq : new.SeqRule core own ns x → mirror.Seq core own ns x
+  to_seq : spec.SeqRule core own ns x → mirror.Seq core own ns x
   to_seq r =
       record {
         front = r.front;
@@ -638,7 +638,7 @@ module _ (core : CoreData) (formed : Formed core) (slots : Slots) (own : Note) (
         masks = both_masks own.live_after (without_items core x.children r.after_children.0) own.set_after r.after_children.1 (to_ends core x.children r.after_children.0 own.live_after r.live) r.set;
       }
 
-  if_to : mirror.If core own ns → new.If core own ns
+  if_to : mirror.If core own ns → spec.If core own ns
   if_to r =
       record {
         condition = r.condition;
@@ -653,7 +653,7 @@ module _ (core : CoreData) (formed : Formed core) (slots : Slots) (own : Note) (
         masks = r.masks;
       }
 
-  to_if : new.If core own ns → mirror.If core own ns
+  to_if : spec.If core own ns → mirror.If core own ns
   to_if r =
       record {
         condition = r.condition;
@@ -668,7 +668,7 @@ module _ (core : CoreData) (formed : Formed core) (slots : Slots) (own : Note) (
         masks = r.masks;
       }
 
-  while_to : mirror.While own ns → new.While own ns
+  while_to : mirror.While own ns → spec.While own ns
   while_to r =
       record {
         condition = r.condition;
@@ -683,7 +683,7 @@ module _ (core : CoreData) (formed : Formed core) (slots : Slots) (own : Note) (
         masks = r.masks;
       }
 
-  to_while : new.While own ns → mirror.While own ns
+  to_while : spec.While own ns → mirror.While own ns
   to_while r =
       record {
         condition = r.condition;
@@ -698,7 +698,7 @@ module _ (core : CoreData) (formed : Formed core) (slots : Slots) (own : Note) (
         masks = r.masks;
       }
 
-  recover_to : (k : Option Cap) → mirror.Recover own ns k → new.Recover own ns k
+  recover_to : (k : Option Cap) → mirror.Recover own ns k → spec.Recover own ns k
   recover_to k r =
       record {
         child = r.child;
@@ -711,7 +711,7 @@ module _ (core : CoreData) (formed : Formed core) (slots : Slots) (own : Note) (
         masks = (order_iff ns (before own) (masks_after own)).0 r.masks;
       }
 
-  to_recover : (k : Option Cap) → new.Recover own ns k → mirror.Recover own ns k
+  to_recover : (k : Option Cap) → spec.Recover own ns k → mirror.Recover own ns k
   to_recover k r =
       record {
         child = r.child;
@@ -724,7 +724,7 @@ module _ (core : CoreData) (formed : Formed core) (slots : Slots) (own : Note) (
         masks = (order_iff ns (before own) (masks_after own)).1 r.masks;
       }
 
-  body_to : mirror.Body core own ns x → new.Body core own ns x
+  body_to : mirror.Body core own ns x → spec.Body core own ns x
   body_to r =
       record {
         home = r.home;
@@ -738,7 +738,7 @@ module _ (core : CoreData) (formed : Formed core) (slots : Slots) (own : Note) (
         masks = (order_iff ns (before own) (masks_after own)).0 r.masks;
       }
 
-  to_body : new.Body core own ns x → mirror.Body core own ns x
+  to_body : spec.Body core own ns x → mirror.Body core own ns x
   to_body r =
       record {
         home = r.home;
@@ -754,7 +754,7 @@ module _ (core : CoreData) (formed : Formed core) (slots : Slots) (own : Note) (
 
 -- ---- every rule
 
-pub means_to : (core : CoreData) (formed : Formed core) (slots : Slots) (own : Note) (ns : List Note) (x : Node) (r : Rule) (k : NodeKind) → mirror.Means core slots own ns x r k → new.Means core slots own ns x r k
+pub means_to : (core : CoreData) (formed : Formed core) (slots : Slots) (own : Note) (ns : List Note) (x : Node) (r : Rule) (k : NodeKind) → mirror.Means core slots own ns x r k → spec.Means core slots own ns x r k
 means_to core formed slots own ns x rule.Number (node.Number v) m = literal_to core formed slots own ns x 1 m
 means_to core formed slots own ns x rule.Truth (node.Truth v) m = literal_to core formed slots own ns x 2 m
 means_to core formed slots own ns x rule.Text (node.Text v) m = literal_to core formed slots own ns x 3 m
@@ -790,7 +790,7 @@ means_to core formed slots own ns x rule.Recover (node.Recover k) m = recover_to
 means_to core formed slots own ns x rule.Body node.Body m = body_to core formed slots own ns x m
 means_to core formed slots own ns x r k m = absurd m
 
-pub to_means : (core : CoreData) (formed : Formed core) (slots : Slots) (own : Note) (ns : List Note) (x : Node) (r : Rule) (k : NodeKind) → new.Means core slots own ns x r k → mirror.Means core slots own ns x r k
+pub to_means : (core : CoreData) (formed : Formed core) (slots : Slots) (own : Note) (ns : List Note) (x : Node) (r : Rule) (k : NodeKind) → spec.Means core slots own ns x r k → mirror.Means core slots own ns x r k
 to_means core formed slots own ns x rule.Number (node.Number v) m = to_literal core formed slots own ns x 1 m
 to_means core formed slots own ns x rule.Truth (node.Truth v) m = to_literal core formed slots own ns x 2 m
 to_means core formed slots own ns x rule.Text (node.Text v) m = to_literal core formed slots own ns x 3 m

@@ -11,12 +11,12 @@ use Rattle.pc_heap.specs.declared.value.Address.{Address}
 use Rattle.pc_heap.specs.declared.value.Value.{Value}
 use Rattle.pc_heap.specs.declared.value.Value.TheVariants as value
 use Rattle.pc_lists.specs.Lists.{◌>>=◌}
-use Rattle.pc_semantics.specs.Ahead.{ahead_of, by_move, of_actor, of_frames, of_tasks}
-use Rattle.pc_semantics.specs.Around.{Around, Move, Stuck, Overflows, Goes, Writes, Makes, Spawns, Enters, Sends, Leaves, pop, with_stack, with_tasks, with_top}
-use Rattle.pc_semantics.specs.Configurations.{Configuration}
-use Rattle.pc_semantics.specs.Calls.{get_field, get_from, get_of, get_task, get_value, put_field, put_into, put_of, put_task, put_value}
+use Rattle.pc_semantics.specs.Ahead.{ahead_of, by_move, of_frames}
+use Rattle.pc_semantics.specs.Parts.{of_actor, of_tasks, with_top, get_field, get_from, get_of, get_value, put_field, put_into, put_of, put_value, at_node}
+use Rattle.pc_semantics.specs.Configurations.{Around, Move, Stuck, Overflows, Goes, Writes, Makes, Spawns, Enters, Sends, Leaves, pop, with_stack, with_tasks, Configuration}
+use Rattle.pc_semantics.specs.Calls.{get_task, put_task}
 use Rattle.pc_semantics.specs.Safety.{access, access_of, touched_name}
-use Rattle.pc_semantics.specs.Step.{around, at_node, task_move}
+use Rattle.pc_semantics.specs.Step.{around, task_move}
 use Rattle.pc_semantics.specs.declared.access.Access.{Access}
 use Rattle.pc_semantics.specs.declared.actors.Actor.{Actor}
 use Rattle.pc_semantics.specs.declared.ahead.Ahead.{Ahead}

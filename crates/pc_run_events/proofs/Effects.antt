@@ -4,7 +4,8 @@ use Rattle.std.proofs.Common.{inl, inr, ap, sym, subst, ◌∙◌}
 use Rattle.std.proofs.lemmas.Option.{same_Some, none-some}
 use Rattle.std.specs.FinMap.{get, insert, len, len-insert}
 use Rattle.pc_heap.specs.Addresses.{addresses_total}
-use Rattle.pc_heap.specs.Objects.{ObjectMap, class_at, class_in, object_in, with_field, Object}
+use Rattle.pc_heap.specs.Objects.{ObjectMap, class_at, with_field, Object}
+use Rattle.pc_heap.specs.Parts.{class_in, object_in}
 use Rattle.pc_heap.specs.declared.value.Address.{Address}
 use Rattle.pc_heap.specs.declared.value.Value.{Value}
 use Rattle.pc_heap.specs.declared.value.Value.TheVariants.{At}
@@ -12,9 +13,8 @@ use Rattle.pc_core.specs.CoreData.{CoreData}
 use Rattle.pc_lists.proofs.Gets.{get_within}
 use Rattle.pc_lists.specs.Lists.{◌>>=◌}
 use Rattle.pc_semantics.specs.Ahead.{ahead_of, by_move}
-use Rattle.pc_semantics.specs.Around.{Move, Stuck, Overflows, Goes, Writes, Makes, Spawns, Enters, Sends, Leaves}
-use Rattle.pc_semantics.specs.Configurations.{Configuration, start}
-use Rattle.pc_semantics.specs.Safety.{access, address_of, touched_name}
+use Rattle.pc_semantics.specs.Configurations.{Move, Stuck, Overflows, Goes, Writes, Makes, Spawns, Enters, Sends, Leaves, Configuration, start, address_of}
+use Rattle.pc_semantics.specs.Safety.{access, touched_name}
 use Rattle.pc_semantics.specs.Step.{left}
 use Rattle.pc_semantics.specs.declared.actors.Actor.{Actor}
 use Rattle.pc_semantics.specs.declared.ahead.Ahead.{Ahead}

@@ -17,11 +17,11 @@ use Rattle.pc_heap.specs.declared.value.Value.TheVariants.{At}
 use Rattle.pc_lists.specs.Lists.{◌>>=◌}
 use Rattle.pc_run_events.proofs.Access.{Plain, get_node, put_node}
 use Rattle.pc_run_events.specs.Sights.{method_called, name_called}
-use Rattle.pc_semantics.specs.Around.{Around, Move, Stuck, Overflows, Goes, Writes, Makes, Spawns, Enters, Sends, Leaves, value_entity, popped, with_stack}
-use Rattle.pc_semantics.specs.Calls.{begin_new, enter, invoke_found, invoke_kind, invoke_method, invoke_on, invoke_task, is_string, make_of, make_task, push_text, send, spawn_of, spawn_task, text_of}
-use Rattle.pc_semantics.specs.Configurations.{own_address}
+use Rattle.pc_semantics.specs.Configurations.{Around, Move, Stuck, Overflows, Goes, Writes, Makes, Spawns, Enters, Sends, Leaves, value_entity, popped, with_stack, own_address, pop_arguments}
+use Rattle.pc_semantics.specs.Parts.{begin_new, enter, invoke_found, invoke_method, invoke_on, make_of, push_text, send, spawn_of, at_node}
+use Rattle.pc_semantics.specs.Calls.{invoke_kind, invoke_task, is_string, make_task, spawn_task, text_of}
 use Rattle.pc_semantics.specs.Safety.{touched_name}
-use Rattle.pc_semantics.specs.Step.{at_node, task_move}
+use Rattle.pc_semantics.specs.Step.{task_move}
 use Rattle.pc_semantics.specs.declared.frames.Frame.{Frame}
 use Rattle.pc_semantics.specs.declared.frames.Task.{Task}
 use Rattle.pc_semantics.specs.declared.frames.Task.TheVariants as task
@@ -148,8 +148,9 @@ module _ (core : CoreData) (h : ObjectMap) (i actors n : ℕ) where
 
   invoke_shown : (f : Frame) (x : Node) → slice_get core.nodes n ≡ Some x → (k : NodeKind) → x.kind ≡ k → Called (invoke_task core a f x.children k)
   invoke_shown f x there (node.Call name) is =
-      top_all (Shown core h (task.Invoke n)) f f.stack _
-      (λ v vs. arguments_all (Shown core h (task.Invoke n)) (with_stack f vs) (popped (length x.children - 1) vs []) _ (λ us g. on_shown name named v us g (value_entity h v) refl) tt) tt
+      let on = λ (v : Value) (us : List Value) (g : Frame). invoke_on core a name v us g (value_entity h v) in
+      top_all (Shown core h (task.Invoke n)) f f.stack (λ v g. pop_arguments g (length x.children - 1) (on v))
+      (λ v vs. arguments_all (Shown core h (task.Invoke n)) (with_stack f vs) (popped (length x.children - 1) vs []) (on v) (λ us g. on_shown name named v us g (value_entity h v) refl) tt) tt
     where
       named : (r : ℕ) → method_called core h (task.Invoke n) r ≡ (class_at h (own_address r) >>= (λ e. method_named core e name))
       named r =

@@ -52,8 +52,7 @@ pub record AllEvents (core : CoreData) (list : List ℕ) (events : List RunEvent
   pub order : (k m : ℕ) (t u : RunEvent) → k < m → slice_get events k ≡ Some t → slice_get events m ≡ Some u → t.place < u.place
   pub all : (p i : ℕ) (d : Deed) → Event core list p i → Does core list p i d → (k : ℕ) × (t : RunEvent) × (slice_get events k ≡ Some t) × (t.place ≡ suc p)
 
--- ---- the accesses among them, as `pc_trace` has them
-
+-- The accesses among the events, as `pc_trace` has them.
 abbrev pub touches_with : RunEvent → Deed → List Touch → List Touch
 touches_with t (deed.Touch x) rest = record { place = t.place; actor = t.actor; address = x.address; field = x.field; write = x.write; clock = t.clock } ∷ rest
 touches_with t (deed.Take m sent) rest = rest

@@ -4,3 +4,4 @@ pub mod Sights
 pub mod Turns
 pub mod Kept
 pub mod Lines
+pub mod Parts

@@ -1,28 +1,22 @@
 -- The events and the accesses of a run, as lines.
-use Rattle.std.specs.Prelude.{◌≡◌, ℕ, List, [], ◌++◌, Option, Some, None, IsSome, slice_get, codes, Bool, true, false, ◌∷◌, length, decimal}
+use Rattle.std.specs.Prelude.{◌≡◌, ℕ, List, [], ◌++◌, Option, Some, IsSome, slice_get, codes, Bool, true, false, length, decimal, unwrap_or, flat_map}
 use Rattle.pc_core.specs.{CoreData.CoreData, declared.declarations.EntityDef.EntityDef, declared.declarations.Method.Method}
-use Rattle.pc_lists.specs.Lists.{Each, Text, line_end}
+use Rattle.pc_lists.specs.Lists.{Each, Text, line_end, separated}
 use Rattle.pc_run_events.specs.{declared.events.Deed.Deed, declared.events.RunEvent.RunEvent, Events.touches_in}
 use Rattle.pc_heap.specs.declared.value.Address.{Address}
 use Rattle.pc_semantics.specs.declared.access.Access.{Access}
 use Rattle.pc_trace.specs.declared.touch.Touch.{Touch}
+use Rattle.std.specs.Option.{option_map_or}
 use Rattle.pc_run_events.specs.declared.events.Deed.TheVariants as deed
-
--- ---- the names of entities and methods
 
 -- What does not exist has no name.
 abbrev pub name_of_entity : Option EntityDef → Text
-name_of_entity None = []
-name_of_entity (Some x) = x.name
-
-abbrev pub name_or_nothing : Option Text → Text
-name_or_nothing None = []
-name_or_nothing (Some name) = name
+name_of_entity entity = option_map_or (λ (x : EntityDef). x.name) entity []
 
 -- A method, by its entity's name and its own: `E.m`.
 abbrev pub method_text : CoreData → Option Method → Text
-method_text core None = []
-method_text core (Some m) = name_of_entity (slice_get core.entities m.entity) ++ (codes "." ++ name_or_nothing (slice_get core.names m.name))
+method_text core method =
+    option_map_or (λ (m : Method). name_of_entity (slice_get core.entities m.entity) ++ (codes "." ++ unwrap_or (slice_get core.names m.name) [])) method []
 
 -- ---- what events name exists
 
@@ -75,34 +69,13 @@ deed_text core (deed.Make a m) = codes "make " ++ message_text core a m
 deed_text core (deed.New a e) = new_text core a e
 deed_text core (deed.Touch x) = access_text x
 
--- Numbers, each after a comma.
-abbrev pub more_text : List ℕ → Text
-more_text [] = []
-more_text (n ∷ ns) = codes "," ++ (decimal n ++ more_text ns)
-
--- Numbers with a comma between any two.
-abbrev pub clock_text : List ℕ → Text
-clock_text [] = []
-clock_text (n ∷ ns) = decimal n ++ more_text ns
-
 -- `PLACE ACTOR `
 abbrev pub event_words : RunEvent → Text
 event_words t = decimal t.place ++ (codes " " ++ (decimal t.actor ++ codes " "))
 
 -- `PLACE ACTOR DEED clock CLOCK`
 abbrev pub event_line : CoreData → RunEvent → Text
-event_line core t = event_words t ++ (deed_text core t.deed ++ (codes " clock " ++ (clock_text t.clock ++ line_end)))
-
-abbrev pub events_text : CoreData → List RunEvent → Text
-events_text core [] = []
-events_text core (t ∷ ts) = event_line core t ++ events_text core ts
-
-abbrev pub is_access : Deed → Bool
-is_access (deed.Touch x) = true
-is_access (deed.Take m sent) = false
-is_access (deed.Send r m) = false
-is_access (deed.Make a m) = false
-is_access (deed.New a e) = false
+event_line core t = event_words t ++ (deed_text core t.deed ++ (codes " clock " ++ (separated (codes ",") decimal t.clock ++ line_end)))
 
 -- `events N accesses M ordered`
 abbrev pub event_count_line : (events accesses : ℕ) → Text
@@ -110,7 +83,7 @@ event_count_line n m = codes "events " ++ (decimal n ++ (codes " accesses " ++ (
 
 -- The events, a line each, followed by their number and the number of accesses among them.
 abbrev pub events_text_of_run : CoreData → List RunEvent → Text
-events_text_of_run core events = events_text core events ++ event_count_line (length events) (length (touches_in events))
+events_text_of_run core events = flat_map (event_line core) events ++ event_count_line (length events) (length (touches_in events))
 
 -- ---- the accesses of a run, as lines
 
@@ -122,11 +95,7 @@ touch_text t =
 
 -- An access and its clock.
 abbrev pub touch_line : Touch → Text
-touch_line t = touch_text t ++ (clock_text t.clock ++ line_end)
-
-abbrev pub touches_text : List Touch → Text
-touches_text [] = []
-touches_text (t ∷ ts) = touch_line t ++ touches_text ts
+touch_line t = touch_text t ++ (separated (codes ",") decimal t.clock ++ line_end)
 
 -- `accesses N ordered`
 abbrev pub access_count_line : ℕ → Text
@@ -134,4 +103,4 @@ access_count_line n = codes "accesses " ++ (decimal n ++ (codes " ordered" ++ li
 
 -- The accesses, a line each, followed by their number.
 abbrev pub trace_text : List Touch → Text
-trace_text touches = touches_text touches ++ access_count_line (length touches)
+trace_text touches = flat_map touch_line touches ++ access_count_line (length touches)

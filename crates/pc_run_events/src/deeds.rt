@@ -1,7 +1,7 @@
 //! What a step did.
 ghost use Rattle.std.specs.Prelude.{◌≡◌};
 ghost use Rattle.pc_run_events.specs.Turns as spec;
-ghost use Rattle.pc_semantics.specs.Safety as safety;
+ghost use Rattle.pc_semantics.specs.Configurations as safety;
 
 use crate::events::Deed;
 use crate::sight::{Sight, oldest_method};

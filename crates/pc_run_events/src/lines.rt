@@ -2,6 +2,7 @@
 ghost use Rattle.std.specs.Prelude.{◌≡◌, ◌++◌, IfOk, OnOk, decimal, length, slice_get};
 ghost use Rattle.pc_run_events.specs.Events.{touches_in};
 ghost use Rattle.pc_run_events.specs.Lines as spec;
+ghost use Rattle.pc_run_events.specs.Parts as parts;
 ghost use Rattle.pc_run_events.specs.Lines.{method_text};
 
 use crate::events::{Deed, RunEvent};
@@ -23,7 +24,7 @@ fn push_number(text: &mut Vec<u8>, number: u64) -> Result<(), AllocError>
 
 // Appends numbers, each after a comma.
 fn push_more(text: &mut Vec<u8>, numbers: &[u64]) -> Result<(), AllocError>
-    ensures { OnOk result (text.new.items ≡ text.old.items ++ spec.more_text numbers.now) }
+    ensures { OnOk result (text.new.items ≡ text.old.items ++ parts.more_text numbers.now) }
 {
     for number in numbers {
         text.push(b',')?;
@@ -34,7 +35,7 @@ fn push_more(text: &mut Vec<u8>, numbers: &[u64]) -> Result<(), AllocError>
 
 /// Appends the numbers of a clock, with a comma between any two.
 pub(crate) fn push_clock(text: &mut Vec<u8>, clock: &[u64]) -> Result<(), AllocError>
-    ensures { OnOk result (text.new.items ≡ text.old.items ++ spec.clock_text clock.now) }
+    ensures { OnOk result (text.new.items ≡ text.old.items ++ parts.clock_text clock.now) }
 {
     match clock {
         [] => Ok(()),
@@ -156,7 +157,7 @@ fn push_events(
     core: &Core,
     events: &[RunEvent],
 ) -> Result<(), AllocError>
-    ensures { OnOk result (text.new.items ≡ text.old.items ++ spec.events_text core.now events.now) }
+    ensures { OnOk result (text.new.items ≡ text.old.items ++ parts.events_text core.now events.now) }
 {
     for event in events {
         push_event(alloc, text, core, event)?;
@@ -166,7 +167,7 @@ fn push_events(
 
 // Whether an event reads or writes a field.
 fn is_access(deed: &Deed) -> bool
-    ensures { result ≡ spec.is_access deed.now }
+    ensures { result ≡ parts.is_access deed.now }
 {
     match deed {
         Deed::Touch(_) => true,

@@ -1,6 +1,7 @@
 //! The names of entities and methods.
 ghost use Rattle.std.specs.Prelude.{◌≡◌, ◌++◌, Some, slice_get, OnOk};
 ghost use Rattle.pc_run_events.specs.Lines as spec;
+ghost use Rattle.pc_run_events.specs.Parts as parts;
 
 use pc_core::{Core, Method};
 use std::alloc::AllocError;
@@ -17,7 +18,7 @@ pub fn push_entity(text: &mut Vec<u8>, core: &Core, entity: u32) -> Result<(), A
 
 // Appends the name with this number.
 fn push_name(text: &mut Vec<u8>, core: &Core, name: u32) -> Result<(), AllocError>
-    ensures { OnOk result (text.new.items ≡ text.old.items ++ spec.name_or_nothing (slice_get core.now.names name)) }
+    ensures { OnOk result (text.new.items ≡ text.old.items ++ parts.name_or_nothing (slice_get core.now.names name)) }
 {
     match core.name_at(name) {
         Some(found) => text.extend_from_slice(found.as_slice()),

@@ -1,6 +1,7 @@
 //! The accesses of a run, as lines.
 ghost use Rattle.std.specs.Prelude.{◌≡◌, ◌++◌, IfOk, OnOk};
 ghost use Rattle.pc_run_events.specs.Lines as spec;
+ghost use Rattle.pc_run_events.specs.Parts as parts;
 
 use crate::lines::{kind_of, push_clock};
 use pc_caps::List;
@@ -32,7 +33,7 @@ fn push_touch(alloc: Global, text: &mut Vec<u8>, touch: &Touch) -> Result<(), Al
 
 // Appends the lines of accesses.
 fn push_touches(alloc: Global, text: &mut Vec<u8>, touches: &[Touch]) -> Result<(), AllocError>
-    ensures { OnOk result (text.new.items ≡ text.old.items ++ spec.touches_text touches.now) }
+    ensures { OnOk result (text.new.items ≡ text.old.items ++ parts.touches_text touches.now) }
 {
     for touch in touches {
         push_touch(alloc, text, touch)?;

@@ -6,8 +6,6 @@ use Rattle.std.specs.{List.list_all, Char.is_ascii_digit}
 use Rattle.pc_sched.specs.{declared.turns.Turn.Turn, declared.fault.SchedFault.SchedFault}
 use Rattle.pc_sched.specs.declared.fault.SchedFault.TheVariants as fault
 
--- ---- the limits of a schedule
-
 -- how many bytes its text may have
 abbrev pub schedule_limit : ℕ
 schedule_limit = 1048576

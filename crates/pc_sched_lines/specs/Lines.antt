@@ -3,8 +3,6 @@ use Rattle.std.specs.Prelude.{◌≡◌, ◌≢◌, ℕ, ◌<◌, List, [], ◌�
 use Rattle.pc_sched.specs.{declared.turns.Turn.Turn, Schedules.TurnList}
 use Rattle.pc_run.specs.Spreading.{spread}
 
--- ---- steps in rows: turns that are as long as they can be
-
 -- The turn is of a different actor than the first of these.
 abbrev pub HasOtherActor : Turn → List Turn → Type 0
 HasOtherActor turn [] = ⊤

@@ -15,8 +15,7 @@ use Rattle.pc_semantics.specs.declared.frames.Task.{Task}
 use Rattle.pc_semantics.specs.declared.frames.Task.TheVariants as task
 use Rattle.pc_semantics.specs.declared.mailbox.Message.{Message}
 use Rattle.pc_semantics.specs.declared.outcome.Outcome.TheVariants.{Moved, Skipped}
-use Rattle.pc_semantics.specs.Configurations.{Configuration, start, own_address, environment_address, environment, blank_object}
-use Rattle.pc_semantics.specs.Around.{none}
+use Rattle.pc_semantics.specs.Configurations.{Configuration, start, own_address, environment_address, environment, blank_object, none}
 use Rattle.pc_semantics.specs.Step.{after, outcomes, run_from, outcomes_from}
 use Rattle.pc_semantics.specs.Text.{steps_of, waiting}
 use Rattle.pc_semantics.specs.Programs.{hello, two_messages, making, touching}

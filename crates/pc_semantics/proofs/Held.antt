@@ -1,7 +1,7 @@
 -- The slots of a frame, whose last empty ones are not stored.
 use Rattle.std.proofs.Common.{◌≡◌, ℕ, zero, suc, ◌≤◌, List, [], ◌∷◌, ◌++◌, None, slice_get, set, replicate, length, refl, sym, ap, ◌∙◌, arith}
 use Rattle.std.specs.Prelude.{Option}
-use Rattle.pc_semantics.specs.Calls.{held}
+use Rattle.pc_semantics.specs.Parts.{held}
 use Rattle.pc_heap.specs.declared.value.Value.{Value}
 
 -- No empty slot holds a value.

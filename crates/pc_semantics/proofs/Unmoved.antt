@@ -10,9 +10,9 @@ use Rattle.pc_semantics.specs.declared.frames.Task.{Task}
 use Rattle.pc_semantics.specs.declared.mailbox.Message.{Message}
 use Rattle.pc_semantics.specs.declared.outcome.Outcome.{Outcome}
 use Rattle.pc_semantics.specs.declared.outcome.Outcome.TheVariants.{Moved}
-use Rattle.pc_semantics.specs.Configurations.{Configuration, with_frames}
-use Rattle.pc_semantics.specs.Around.{Move, Stuck, Overflows, Goes, Writes, Makes, Spawns, Enters, Sends, Leaves}
-use Rattle.pc_semantics.specs.Step.{begin_method, begun, delivered, made, printed_text, run_frames, run_task, step, step_of, take, take_first}
+use Rattle.pc_semantics.specs.Configurations.{Configuration, with_frames, Move, Stuck, Overflows, Goes, Writes, Makes, Spawns, Enters, Sends, Leaves}
+use Rattle.pc_semantics.specs.Parts.{begin_method, begun, delivered, run_task, step_of}
+use Rattle.pc_semantics.specs.Step.{made, printed_text, run_frames, step, take, take_first}
 
 -- The configuration is unchanged if the step did not move.
 abbrev Stays : Configuration → Outcome × Configuration → Type 0

@@ -1,7 +1,8 @@
 -- What an actor's next step is.
-use Rattle.std.specs.Prelude.{ℕ, List, [], ◌∷◌, Option, Some, None, slice_get}
+use Rattle.std.specs.Prelude.{ℕ, List, [], ◌∷◌, slice_get}
+use Rattle.std.specs.Option.{option_map_or}
 use Rattle.pc_core.specs.CoreData.{CoreData}
-use Rattle.pc_semantics.specs.{declared.actors.Actor.Actor, declared.frames.Frame.Frame, declared.frames.Task.Task, declared.outcome.Outcome.Outcome, Configurations.Configuration, Around.Around, Around.Move, Around.Stuck, Around.Overflows, Around.Goes, Around.Writes, Around.Makes, Around.Spawns, Around.Enters, Around.Sends, Around.Leaves, Around.with_tasks, Step.task_move, Step.around, Step.take_first, declared.ahead.Ahead.Ahead}
+use Rattle.pc_semantics.specs.{declared.actors.Actor.Actor, declared.frames.Frame.Frame, declared.outcome.Outcome.Outcome, Configurations.Configuration, Configurations.Move, Configurations.Stuck, Configurations.Overflows, Configurations.Goes, Configurations.Writes, Configurations.Makes, Configurations.Spawns, Configurations.Enters, Configurations.Sends, Configurations.Leaves, Step.frame_move, Step.around, Step.take_first, declared.ahead.Ahead.Ahead}
 use Rattle.pc_semantics.specs.declared.outcome.Outcome.TheVariants as outcome
 use Rattle.pc_semantics.specs.declared.ahead.Ahead.TheVariants as ahead
 
@@ -24,19 +25,10 @@ by_outcome outcome.Skipped = ahead.Skipped
 by_outcome (outcome.Lacks l) = ahead.Lacks
 by_outcome outcome.TooLong = ahead.TooLong
 
--- What the first of a frame's tasks is to do.
-abbrev pub of_tasks : CoreData → Around → Frame → List Task → Ahead
-of_tasks core around f [] = ahead.Lacks
-of_tasks core around f (t ∷ ts) = by_move (task_move core around (with_tasks f ts) t)
-
 abbrev pub of_frames : CoreData → Configuration → ℕ → Actor → List Frame → Ahead
 of_frames core c i a [] = by_outcome (take_first core c i a.mailbox).0
-of_frames core c i a (f ∷ fs) = of_tasks core (around c i) f f.tasks
-
-abbrev pub of_actor : CoreData → Configuration → ℕ → Option Actor → Ahead
-of_actor core c i None = ahead.Skipped
-of_actor core c i (Some a) = of_frames core c i a a.frames
+of_frames core c i a (f ∷ fs) = by_move (frame_move core (around c i) f)
 
 -- What the next step of actor i is.
 abbrev pub ahead_of : CoreData → Configuration → ℕ → Ahead
-ahead_of core c i = of_actor core c i (slice_get c.actors i)
+ahead_of core c i = option_map_or (λ (a : Actor). of_frames core c i a a.frames) (slice_get c.actors i) ahead.Skipped

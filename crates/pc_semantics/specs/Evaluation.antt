@@ -1,25 +1,17 @@
--- The evaluation of a node, and the tasks that look at values.
-use Rattle.std.specs.Prelude.{ℕ, List, [], ◌∷◌, ◌++◌, Option, Some, None, slice_get, Bool, true, false}
-use Rattle.pc_semantics.specs.{declared.frames.Task.Task, declared.frames.Frame.Frame, Around.Move, Around.Stuck, Around.Goes, Around.pushed, Around.with_slot, Around.doing, Around.none, Around.pop, Operators.binary, Operators.negated, Operators.compared, Children.evaluations}
-use Rattle.pc_heap.specs.{declared.value.Value.Value, declared.value.Value.TheVariants.Num, declared.value.Value.TheVariants.Truth, declared.value.Value.TheVariants.Text, declared.value.Value.TheVariants.Prim}
-use Rattle.pc_core.specs.{declared.nodes.Node.Node, declared.nodes.NodeKind.NodeKind}
-use Rattle.pc_semantics.specs.declared.frames.Task.TheVariants as task
+-- The evaluation of a node, operators, and the choice of what to do next.
+use Rattle.std.specs.Prelude.{ℕ, ◌+◌, ◌-◌, ◌*◌, ◌/◌, ◌%◌, ◌^◌, List, [], ◌∷◌, ◌++◌, length, Option, Some, None, nat_eq, nat_lt, Bool, true, false, not, ◌&&◌, cond, if◌then◌else◌}
+use Rattle.std.specs.Str.{bytes_eq}
+use Rattle.pc_caps.specs.Limits.{text_limit}
+use Rattle.pc_tree.specs.declared.kinds.Op.{Op}
+use Rattle.pc_heap.specs.{declared.value.Value.Value, declared.value.Value.TheVariants.Num, declared.value.Value.TheVariants.Truth, declared.value.Value.TheVariants.Text, declared.value.Value.TheVariants.Prim, declared.value.Value.TheVariants.At}
+use Rattle.pc_core.specs.{declared.nodes.NodeKind.NodeKind}
+use Rattle.pc_semantics.specs.{declared.frames.Task.Task, declared.frames.Frame.Frame, Configurations.Move, Configurations.Stuck, Configurations.Overflows, Configurations.Goes, Configurations.pushed, Configurations.with_slot, Configurations.slot_value, Configurations.doing, Configurations.given, Configurations.push_value, Configurations.pop, Configurations.none, Children.evaluations}
+use Rattle.pc_tree.specs.declared.kinds.Op.TheVariants as op
 use Rattle.pc_core.specs.declared.nodes.NodeKind.TheVariants as node
+use Rattle.pc_semantics.specs.declared.frames.Task.TheVariants as task
 use Rattle.pc_semantics.specs.declared.outcome.Lack.TheVariants as lack
 
--- ---- slots
-
--- A slot's value is pushed.
-abbrev pub push_slot : Frame → Option (Option Value) → Move
-push_slot f (Some (Some v)) = Goes (pushed f v)
-push_slot f o = Stuck lack.Slot
-
--- A slot's value is pushed, and the slot becomes empty.
-abbrev pub take_slot : Frame → ℕ → Option (Option Value) → Move
-take_slot f s (Some (Some v)) = Goes (pushed (with_slot f s None) v)
-take_slot f s o = Stuck lack.Slot
-
--- ---- children
+-- ---- Eval
 
 -- All children are evaluated, and then this task is done.
 abbrev pub children_first : Frame → List ℕ → Task → Move
@@ -36,16 +28,15 @@ item_tasks [] = []
 item_tasks (c ∷ []) = task.Eval c ∷ []
 item_tasks (c ∷ d ∷ children) = task.Eval c ∷ task.Discard ∷ item_tasks (d ∷ children)
 
--- ---- each kind
-
+-- Node n is evaluated, by its children and its kind.
 abbrev pub evaluate : Frame → ℕ → List ℕ → NodeKind → Move
 evaluate f n cs (node.Number k) = Goes (pushed f (Num k))
 evaluate f n cs (node.Truth b) = Goes (pushed f (Truth b))
 evaluate f n cs (node.Text t) = Goes (pushed f (Text t))
 evaluate f n cs (node.Prim e) = Goes (pushed f (Prim e))
-evaluate f n cs node.This = push_slot f (slice_get f.slots 0)
-evaluate f n cs (node.Local s) = push_slot f (slice_get f.slots s)
-evaluate f n cs (node.Consume s) = take_slot f s (slice_get f.slots s)
+evaluate f n cs node.This = push_value f lack.Slot (slot_value f 0)
+evaluate f n cs (node.Local s) = push_value f lack.Slot (slot_value f s)
+evaluate f n cs (node.Consume s) = given lack.Slot (slot_value f s) λ v. Goes (pushed (with_slot f s None) v)
 evaluate f n cs (node.Field name) = children_first f cs (task.Get n)
 evaluate f n cs (node.SetField name) = children_first f cs (task.Put n)
 evaluate f n cs (node.Define s) = children_first f cs (task.Store n)
@@ -64,26 +55,67 @@ evaluate f n cs node.Seq = Goes (doing f (item_tasks cs))
 evaluate f n cs (node.Recover cap) = first_then f cs []
 evaluate f n cs node.Body = first_then f cs (task.Return ∷ [])
 
-abbrev pub evaluate_node : Frame → ℕ → Option Node → Move
-evaluate_node f n None = Stuck lack.Value
-evaluate_node f n (Some x) = evaluate f n x.children x.kind
+-- ---- Apply
 
--- ---- tasks that look at values: operators, and choices of what to do next
+-- Sums, differences and products are reduced to 64 bits. A quotient or remainder by 0 is 0.
+abbrev pub of_numbers : Op → (left right : ℕ) → Option Value
+of_numbers op.Add a b = Some (Num ((a + b) % 2 ^ 64))
+of_numbers op.Sub a b = Some (Num ((a + (2 ^ 64 - b)) % 2 ^ 64))
+of_numbers op.Mul a b = Some (Num ((a * b) % 2 ^ 64))
+of_numbers op.Div a b = Some (Num (if nat_eq b 0 then 0 else a / b))
+of_numbers op.Rem a b = Some (Num (if nat_eq b 0 then 0 else a % b))
+of_numbers op.Eq a b = Some (Truth (nat_eq a b))
+of_numbers op.Ne a b = Some (Truth (not (nat_eq a b)))
+of_numbers op.Lt a b = Some (Truth (nat_lt a b))
+of_numbers op.Le a b = Some (Truth (not (nat_lt b a)))
+of_numbers op.Gt a b = Some (Truth (nat_lt b a))
+of_numbers op.Ge a b = Some (Truth (not (nat_lt a b)))
+of_numbers o a b = None
+
+abbrev pub same_truth : Bool → Bool → Bool
+same_truth a b = cond a b (not b)
+
+abbrev pub of_truths : Op → Bool → Bool → Option Value
+of_truths op.Eq a b = Some (Truth (same_truth a b))
+of_truths op.Ne a b = Some (Truth (not (same_truth a b)))
+of_truths op.Xor a b = Some (Truth (not (same_truth a b)))
+of_truths o a b = None
+
+-- Two texts are joined, unless the result would be too long, or compared.
+abbrev pub of_texts : Frame → Op → List ℕ → List ℕ → Move
+of_texts f op.Add a b = if nat_lt text_limit (length (a ++ b)) then Overflows else Goes (pushed f (Text (a ++ b)))
+of_texts f op.Eq a b = Goes (pushed f (Truth (bytes_eq a b)))
+of_texts f op.Ne a b = Goes (pushed f (Truth (not (bytes_eq a b))))
+of_texts f o a b = Stuck lack.Value
+
+abbrev pub binary : Frame → Op → Value → Value → Move
+binary f o (Num a) (Num b) = push_value f lack.Value (of_numbers o a b)
+binary f o (Truth a) (Truth b) = push_value f lack.Value (of_truths o a b)
+binary f o (Text a) (Text b) = of_texts f o a b
+binary f o v w = Stuck lack.Value
+
+-- Equal numbers, equal truth values, texts with equal bytes, the same primitive, or the same object.
+abbrev pub same_value : Value → Value → Bool
+same_value (Num a) (Num b) = nat_eq a b
+same_value (Truth a) (Truth b) = same_truth a b
+same_value (Text a) (Text b) = bytes_eq a b
+same_value (Prim a) (Prim b) = nat_eq a b
+same_value (At a) (At b) = nat_eq a.maker b.maker && nat_eq a.serial b.serial
+same_value v w = false
 
 -- The value must be a truth value.
 abbrev pub truth : (Bool → Frame → Move) → Value → Frame → Move
 truth next (Truth b) f = next b f
 truth next v f = Stuck lack.Value
 
--- ---- Apply
-
+-- An operator; `is`, or `isnt` if the truth value is false; or `not`. The right operand is on top.
 abbrev pub apply_task : Frame → NodeKind → Move
-apply_task f (node.Binary o) = pop f (λ w g. pop g (λ v h. binary h o v w))
-apply_task f (node.Same b) = pop f (λ w g. pop g (λ v h. compared h b v w))
-apply_task f node.Not = pop f (λ v g. negated g v)
+apply_task f (node.Binary o) = pop f λ w g. pop g λ v h. binary h o v w
+apply_task f (node.Same b) = pop f λ w g. pop g λ v h. Goes (pushed h (Truth (same_truth b (same_value v w))))
+apply_task f node.Not = pop f (truth λ b g. Goes (pushed g (Truth (not b))))
 apply_task f k = Stuck lack.Value
 
--- ---- Test: the left side decides, or the right side is evaluated
+-- ---- Test, Branch and Loop
 
 abbrev pub right_side : Frame → List ℕ → Move
 right_side f (a ∷ b ∷ []) = Goes (doing f (task.Eval b ∷ []))
@@ -97,27 +129,20 @@ abbrev pub test_or : List ℕ → Bool → Frame → Move
 test_or cs true f = Goes (pushed f (Truth true))
 test_or cs false f = right_side f cs
 
+-- The left side decides, or the right side is evaluated.
 abbrev pub test_task : Frame → List ℕ → NodeKind → Move
 test_task f cs node.And = pop f (truth (test_and cs))
 test_task f cs node.Or = pop f (truth (test_or cs))
 test_task f cs k = Stuck lack.Value
 
--- ---- Branch
-
+-- One of the two branches is evaluated.
 abbrev pub branch : List ℕ → Bool → Frame → Move
 branch (c ∷ a ∷ b ∷ []) true f = Goes (doing f (task.Eval a ∷ []))
 branch (c ∷ a ∷ b ∷ []) false f = Goes (doing f (task.Eval b ∷ []))
 branch cs b f = Stuck lack.Value
 
-abbrev pub branch_task : Frame → List ℕ → Move
-branch_task f cs = pop f (truth (branch cs))
-
--- ---- Loop: the body and then the whole loop again, or None
-
+-- The body and then the whole loop again, or None.
 abbrev pub loop_turn : ℕ → List ℕ → Bool → Frame → Move
 loop_turn n (c ∷ a ∷ []) true f = Goes (doing f (task.Eval a ∷ task.Discard ∷ task.Eval n ∷ []))
 loop_turn n (c ∷ a ∷ []) false f = Goes (pushed f none)
 loop_turn n cs b f = Stuck lack.Value
-
-abbrev pub loop_task : Frame → ℕ → List ℕ → Move
-loop_task f n cs = pop f (truth (loop_turn n cs))

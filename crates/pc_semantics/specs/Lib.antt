@@ -1,6 +1,4 @@
 pub mod Configurations
-pub mod Around
-pub mod Operators
 pub mod Evaluation
 pub mod Calls
 pub mod Step
@@ -11,5 +9,6 @@ pub mod Programs
 pub mod Examples
 pub mod Laws
 pub mod Lending
+pub mod Parts
 pub mod Pending
 pub mod Children

@@ -1,21 +1,14 @@
 -- When a program is safe: over every schedule no two actors race, waiting messages are let alone, and no step lacks
 -- anything.
 use Rattle.std.specs.Prelude.{◌≡◌, ◌≢◌, ◌⊎◌, ℕ, Bool, true, false, List, length, Option, Some, None, slice_get}
-use Rattle.pc_heap.specs.{Objects.class_at, declared.value.Address.Address, declared.value.Value.Value, declared.value.Value.TheVariants.At}
+use Rattle.pc_heap.specs.{Objects.class_at, declared.value.Address.Address, declared.value.Value.Value}
 use Rattle.pc_caps.specs.Tables.{sendable}
 use Rattle.pc_core.specs.{CoreData.field_named, CoreData.CoreData, declared.declarations.Method.Method, declared.declarations.ParamInfo.ParamInfo, declared.nodes.NodeKind.NodeKind}
 use Rattle.pc_lists.specs.Lists.{Each, ◌>>=◌}
-use Rattle.pc_semantics.specs.{declared.access.Access.Access, declared.frames.Frame.Frame, declared.frames.Task.Task, declared.mailbox.Message.Message, declared.outcome.Lack.Lack, declared.outcome.Outcome.TheVariants.Lacks, Configurations.Configuration, Configurations.own_address, Step.step, Step.after}
+use Rattle.pc_semantics.specs.{declared.access.Access.Access, declared.frames.Frame.Frame, declared.frames.Task.Task, declared.mailbox.Message.Message, declared.outcome.Lack.Lack, declared.outcome.Outcome.TheVariants.Lacks, Configurations.Configuration, Configurations.address_of, Configurations.own_address, Step.step, Step.after}
 use Rattle.pc_caps.specs.declared.capability.Cap.TheVariants as cap
 use Rattle.pc_core.specs.declared.nodes.NodeKind.TheVariants as node
 use Rattle.pc_semantics.specs.declared.frames.Task.TheVariants as task
-
--- ---- what an actor is about to touch
-
--- The address of the object that a value is.
-abbrev pub address_of : Value → Option Address
-address_of (At a) = Some a
-address_of v = None
 
 -- The name of the field that a node reads, or that it writes.
 abbrev pub name_read : NodeKind → Option ℕ
@@ -28,14 +21,8 @@ name_written k = None
 
 -- The name of the field that a task reads or writes, and whether it writes.
 abbrev pub touched_name : CoreData → Task → Option (ℕ × Bool)
-touched_name core (task.Get n) = do
-  x ← slice_get core.nodes n
-  name ← name_read x.kind
-  Some (name, false)
-touched_name core (task.Put n) = do
-  x ← slice_get core.nodes n
-  name ← name_written x.kind
-  Some (name, true)
+touched_name core (task.Get n) = do x ← slice_get core.nodes n; name ← name_read x.kind; Some (name, false)
+touched_name core (task.Put n) = do x ← slice_get core.nodes n; name ← name_written x.kind; Some (name, true)
 touched_name core t = None
 
 -- The field of the object on top of the stack.
@@ -56,8 +43,6 @@ access core c i = do
   touched ← touched_name core t
   access_of core c f touched
 
--- ---- races
-
 -- Two different actors are about to touch the same field of the same object, and one of them writes it.
 pub record Race (core : CoreData) (c : Configuration) : Type 0 where
   pub i : ℕ
@@ -70,8 +55,6 @@ pub record Race (core : CoreData) (c : Configuration) : Type 0 where
   pub address : one.address ≡ other.address
   pub field : one.field ≡ other.field
   pub writes : (one.write ≡ true) ⊎ (other.write ≡ true)
-
--- ---- waiting messages
 
 -- No actor is about to touch the object, if the parameter is `iso`, or to write it, if the parameter is `val`.
 pub record LetAlone (core : CoreData) (c : Configuration) (p : ParamInfo) (v : Value) : Type 0 where
@@ -90,8 +73,6 @@ pub record QuietMessage (core : CoreData) (c : Configuration) (j : ℕ) (m : Mes
 
 abbrev pub Quiet : CoreData → Configuration → Type 0
 Quiet core c = Each (λ j a. Each (λ k m. QuietMessage core c j m) a.mailbox) c.actors
-
--- ---- safety
 
 -- No actor's step lacks anything.
 abbrev pub LacksNothing : CoreData → Configuration → Type 0

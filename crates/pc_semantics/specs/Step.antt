@@ -1,36 +1,38 @@
 -- One step of an actor, and runs: the steps of a list of actors.
-use Rattle.std.specs.Prelude.{Option, Some, None, slice_get, ℕ, zero, List, [], ◌∷◌, ◌++◌, length}
-use Rattle.std.specs.FinMap.{insert}
-use Rattle.pc_core.specs.{CoreData.CoreData, declared.nodes.Node.Node, declared.declarations.Method.Method}
-use Rattle.pc_semantics.specs.{declared.frames.Frame.Frame, declared.frames.Task.Task, Around.Around, Around.Move, Around.Stuck, Around.Goes, Around.pop, Around.Overflows, Around.Writes, Around.Makes, Around.Spawns, Around.Enters, Around.Sends, Around.Leaves, Around.pushed, Around.first_frame, Evaluation.evaluate_node, Evaluation.apply_task, Evaluation.test_task, Evaluation.branch_task, Evaluation.loop_task, Calls.get_task, Calls.put_task, Calls.store_task, Calls.make_task, Calls.spawn_task, Calls.invoke_task, Calls.return_task, declared.actors.Actor.Actor, declared.mailbox.Message.Message, declared.outcome.Outcome.Outcome, declared.outcome.Outcome.TheVariants.Moved, declared.outcome.Outcome.TheVariants.Skipped, declared.outcome.Outcome.TheVariants.Lacks, declared.outcome.Outcome.TheVariants.TooLong, Configurations.Configuration, Configurations.with_objects, Configurations.with_actor, Configurations.with_frames, Configurations.own_address, Configurations.start}
+use Rattle.std.specs.Prelude.{Option, Some, option_map, slice_get, ℕ, zero, List, [], ◌∷◌, ◌++◌, drop, length}
+use Rattle.std.specs.{FinMap.insert, Option.option_map_or}
 use Rattle.pc_heap.specs.{Objects.with_value, Objects.Object, declared.value.Value.Value, declared.value.Value.TheVariants.Text, declared.value.Value.TheVariants.At}
+use Rattle.pc_core.specs.CoreData.{CoreData}
+use Rattle.pc_lists.specs.Lists.{◌>>=◌}
+use Rattle.pc_semantics.specs.{declared.actors.Actor.Actor, declared.frames.Frame.Frame, declared.frames.Task.Task, declared.mailbox.Message.Message, declared.outcome.Lack.Lack, declared.outcome.Outcome.Outcome, declared.outcome.Outcome.TheVariants.Moved, declared.outcome.Outcome.TheVariants.Skipped, declared.outcome.Outcome.TheVariants.Lacks, declared.outcome.Outcome.TheVariants.TooLong, Configurations.Configuration, Configurations.with_actor, Configurations.with_frames, Configurations.own_address, Configurations.start, Configurations.Around, Configurations.Move, Configurations.Stuck, Configurations.Overflows, Configurations.Goes, Configurations.Writes, Configurations.Makes, Configurations.Spawns, Configurations.Enters, Configurations.Sends, Configurations.Leaves, Configurations.given, Configurations.pop, Configurations.pushed, Configurations.with_tasks, Configurations.first_frame, Evaluation.evaluate, Evaluation.apply_task, Evaluation.truth, Evaluation.test_task, Evaluation.branch, Evaluation.loop_turn, Calls.get_task, Calls.put_task, Calls.store_task, Calls.make_task, Calls.spawn_task, Calls.invoke_task, Calls.leave}
 use Rattle.pc_semantics.specs.declared.frames.Task.TheVariants as task
 use Rattle.pc_semantics.specs.declared.outcome.Lack.TheVariants as lack
 
--- ---- what each task does
-
--- A task goes on with its node, if there is one.
-abbrev pub at_node : Option Node → (Node → Move) → Move
-at_node None next = Stuck lack.Value
-at_node (Some x) next = next x
-
 -- The move of a frame's task, which has been removed from the frame's tasks.
 abbrev pub task_move : CoreData → Around → Frame → Task → Move
-task_move core around f (task.Eval n) = evaluate_node f n (slice_get core.nodes n)
-task_move core around f (task.Get n) = at_node (slice_get core.nodes n) (λ x. get_task core around f x.kind)
-task_move core around f (task.Put n) = at_node (slice_get core.nodes n) (λ x. put_task core around f x.kind)
-task_move core around f (task.Store n) = at_node (slice_get core.nodes n) (λ x. store_task f x.kind)
-task_move core around f (task.Make n) = at_node (slice_get core.nodes n) (λ x. make_task core around f x.children x.kind)
-task_move core around f (task.Spawn n) = at_node (slice_get core.nodes n) (λ x. spawn_task core around f x.children x.kind)
-task_move core around f (task.Invoke n) = at_node (slice_get core.nodes n) (λ x. invoke_task core around f x.children x.kind)
-task_move core around f (task.Apply n) = at_node (slice_get core.nodes n) (λ x. apply_task f x.kind)
-task_move core around f (task.Test n) = at_node (slice_get core.nodes n) (λ x. test_task f x.children x.kind)
-task_move core around f (task.Branch n) = at_node (slice_get core.nodes n) (λ x. branch_task f x.children)
-task_move core around f (task.Loop n) = at_node (slice_get core.nodes n) (λ x. loop_task f n x.children)
-task_move core around f task.Discard = pop f (λ v g. Goes g)
-task_move core around f task.Return = return_task f (slice_get core.methods f.method)
+task_move core around f (task.Eval n) = given lack.Value (slice_get core.nodes n) λ x. evaluate f n x.children x.kind
+task_move core around f (task.Get n) = given lack.Value (slice_get core.nodes n) λ x. get_task core around f x.kind
+task_move core around f (task.Put n) = given lack.Value (slice_get core.nodes n) λ x. put_task core around f x.kind
+task_move core around f (task.Store n) = given lack.Value (slice_get core.nodes n) λ x. store_task f x.kind
+task_move core around f (task.Make n) = given lack.Value (slice_get core.nodes n) λ x. make_task core around f x.children x.kind
+task_move core around f (task.Spawn n) = given lack.Value (slice_get core.nodes n) λ x. spawn_task core around f x.children x.kind
+task_move core around f (task.Invoke n) = given lack.Value (slice_get core.nodes n) λ x. invoke_task core around f x.children x.kind
+task_move core around f (task.Apply n) = given lack.Value (slice_get core.nodes n) λ x. apply_task f x.kind
+task_move core around f (task.Test n) = given lack.Value (slice_get core.nodes n) λ x. test_task f x.children x.kind
+task_move core around f (task.Branch n) = given lack.Value (slice_get core.nodes n) λ x. pop f (truth (branch x.children))
+task_move core around f (task.Loop n) = given lack.Value (slice_get core.nodes n) λ x. pop f (truth (loop_turn n x.children))
+task_move core around f task.Discard = pop f λ v g. Goes g
+task_move core around f task.Return = given lack.Method (slice_get core.methods f.method) λ x. leave f x.kind
+
+-- The move of a frame: that of its first task.
+abbrev pub frame_move : CoreData → Around → Frame → Move
+frame_move core around f = given lack.Value (slice_get f.tasks 0) (task_move core around (with_tasks f (drop 1 f.tasks)))
 
 -- ---- a move is carried out
+
+-- The step leads to this configuration. If there is none, it lacks something, and nothing changes.
+abbrev pub leads_to : Configuration → Lack → Option Configuration → Outcome × Configuration
+leads_to c l o = option_map_or (λ d. (Moved, d)) o (Lacks l, c)
 
 -- The new actor is appended, with its object.
 abbrev pub with_spawned : Configuration → Object → Message → Configuration
@@ -40,14 +42,9 @@ with_spawned c o m = record {
   printed = c.printed;
 }
 
--- The message is appended to those that wait, in configuration d. If there is no such actor, the step lacks it, and
--- everything stays as it was before the step, in c.
-abbrev pub delivered : Configuration → Configuration → ℕ → Message → Option Actor → Outcome × Configuration
-delivered c d j m None = (Lacks lack.Object, c)
-delivered c d j m (Some a) = (Moved, with_actor d j (record { mailbox = a.mailbox ++ m ∷ []; frames = a.frames }))
-
-abbrev pub deliver : Configuration → Configuration → ℕ → Message → Outcome × Configuration
-deliver c d j m = delivered c d j m (slice_get d.actors j)
+-- The message is appended to those that wait for actor j, if there is such an actor.
+abbrev pub with_sent : Configuration → ℕ → Message → Option Configuration
+with_sent c j m = option_map (λ (a : Actor). with_actor c j (record a { mailbox = a.mailbox ++ m ∷ [] })) (slice_get c.actors j)
 
 -- The value is left on the stack of the frame below.
 abbrev pub left : Option Value → List Frame → List Frame
@@ -59,21 +56,12 @@ abbrev pub made : Configuration → ℕ → Actor → List Frame → Move → Ou
 made c i a fs (Stuck l) = (Lacks l, c)
 made c i a fs Overflows = (TooLong, c)
 made c i a fs (Goes f) = (Moved, with_frames c i a (f ∷ fs))
-made c i a fs (Writes at k v f) = (Moved, with_frames (with_objects c (with_value c.objects at k v)) i a (f ∷ fs))
-made c i a fs (Makes at o g f) = (Moved, with_frames (with_objects c (insert c.objects at o)) i a (g ∷ f ∷ fs))
+made c i a fs (Writes at k v f) = (Moved, with_frames (record c { objects = with_value c.objects at k v }) i a (f ∷ fs))
+made c i a fs (Makes at o g f) = (Moved, with_frames (record c { objects = insert c.objects at o }) i a (g ∷ f ∷ fs))
 made c i a fs (Spawns o m f) = (Moved, with_spawned (with_frames c i a (f ∷ fs)) o m)
 made c i a fs (Enters g f) = (Moved, with_frames c i a (g ∷ f ∷ fs))
-made c i a fs (Sends j m f) = deliver c (with_frames c i a (f ∷ fs)) j m
+made c i a fs (Sends j m f) = leads_to c lack.Object (with_sent (with_frames c i a (f ∷ fs)) j m)
 made c i a fs (Leaves v) = (Moved, with_frames c i a (left v fs))
-
--- ---- the first task
-
-abbrev pub around : Configuration → ℕ → Around
-around c i = record { objects = c.objects; actor = i; actors = length c.actors }
-
-abbrev pub run_task : CoreData → Configuration → ℕ → Actor → Frame → List Frame → List Task → Outcome × Configuration
-run_task core c i a f fs [] = (Lacks lack.Value, c)
-run_task core c i a f fs (t ∷ ts) = made c i a fs (task_move core (around c i) (record { method = f.method; slots = f.slots; stack = f.stack; tasks = ts }) t)
 
 -- ---- the first message
 
@@ -82,18 +70,13 @@ abbrev pub printed_text : Configuration → Actor → List Value → Outcome × 
 printed_text c a (Text t ∷ []) = (Moved, record { objects = c.objects; actors = (with_actor c 0 a).actors; printed = c.printed ++ t ∷ [] })
 printed_text c a arguments = (Lacks lack.Value, c)
 
-abbrev pub begun : Configuration → ℕ → Actor → Message → Method → Option ℕ → Outcome × Configuration
-begun c i a m x None = (Lacks lack.Method, c)
-begun c i a m x (Some body) = (Moved, with_frames c i a (first_frame m.method x (At (own_address i)) m.arguments body ∷ []))
-
-abbrev pub begin_method : Configuration → ℕ → Actor → Message → Option Method → Outcome × Configuration
-begin_method c i a m None = (Lacks lack.Method, c)
-begin_method c i a m (Some x) = begun c i a m x x.body
-
 -- Actor 0 prints; any other actor begins a method.
 abbrev pub take : CoreData → Configuration → ℕ → Actor → Message → Outcome × Configuration
 take core c zero a m = printed_text c a m.arguments
-take core c i a m = begin_method c i a m (slice_get core.methods m.method)
+take core c i a m = leads_to c lack.Method do
+  x ← slice_get core.methods m.method
+  body ← x.body
+  Some (with_frames c i a (first_frame m.method x (At (own_address i)) m.arguments body ∷ []))
 
 abbrev pub take_first : CoreData → Configuration → ℕ → List Message → Outcome × Configuration
 take_first core c i [] = (Skipped, c)
@@ -101,17 +84,17 @@ take_first core c i (m ∷ ms) = take core c i (record { mailbox = ms; frames = 
 
 -- ---- the step
 
+abbrev pub around : Configuration → ℕ → Around
+around c i = record { objects = c.objects; actor = i; actors = length c.actors }
+
+-- The first frame makes its move; without frames, the oldest message is taken.
 abbrev pub run_frames : CoreData → Configuration → ℕ → Actor → List Frame → Outcome × Configuration
 run_frames core c i a [] = take_first core c i a.mailbox
-run_frames core c i a (f ∷ fs) = run_task core c i a f fs f.tasks
-
-abbrev pub step_of : CoreData → Configuration → ℕ → Option Actor → Outcome × Configuration
-step_of core c i None = (Skipped, c)
-step_of core c i (Some a) = run_frames core c i a a.frames
+run_frames core c i a (f ∷ fs) = made c i a fs (frame_move core (around c i) f)
 
 -- A step of actor i: how it ends, and the configuration after it, which is the same unless it moved.
 abbrev pub step : CoreData → Configuration → ℕ → Outcome × Configuration
-step core c i = step_of core c i (slice_get c.actors i)
+step core c i = option_map_or (λ (a : Actor). run_frames core c i a a.frames) (slice_get c.actors i) (Skipped, c)
 
 -- ---- runs: the steps of a list of actors, one after another
 

@@ -3,33 +3,23 @@ use Rattle.std.specs.Prelude.{ℕ, ◌+◌, Bool, true, false, List, [], ◌∷�
 use Rattle.std.specs.{List.count_by, FinMap.len}
 use Rattle.pc_lists.specs.Lists.{line_end}
 use Rattle.pc_core.specs.CoreData.{CoreData}
-use Rattle.pc_semantics.specs.{declared.actors.Actor.Actor, declared.outcome.Outcome.Outcome, declared.outcome.Outcome.TheVariants.Moved, declared.outcome.Outcome.TheVariants.Skipped, declared.outcome.Outcome.TheVariants.Lacks, declared.outcome.Outcome.TheVariants.TooLong, Configurations.Configuration, Step.after, Step.outcomes}
-
--- ---- schedules
+use Rattle.pc_semantics.specs.{declared.actors.Actor.Actor, declared.outcome.Outcome.Outcome, declared.outcome.Outcome.TheVariants.Moved, declared.outcome.Outcome.TheVariants.Skipped, Configurations.Configuration, Step.after, Step.outcomes}
 
 -- Turns, each an actor and a number of steps, as the list of the actors of all steps.
 abbrev pub steps_of : List (ℕ × ℕ) → List ℕ
 steps_of turns = flat_map (λ (t : ℕ × ℕ). replicate t.1 t.0) turns
 
--- ---- what is counted
-
 abbrev pub is_moved : Outcome → Bool
 is_moved Moved = true
-is_moved Skipped = false
-is_moved (Lacks l) = false
-is_moved TooLong = false
+is_moved o = false
 
 abbrev pub is_skipped : Outcome → Bool
 is_skipped Skipped = true
-is_skipped Moved = false
-is_skipped (Lacks l) = false
-is_skipped TooLong = false
+is_skipped o = false
 
 -- How many messages wait.
 abbrev pub waiting : Configuration → ℕ
 waiting c = sum (map (λ (a : Actor). length a.mailbox) c.actors)
-
--- ---- the output
 
 abbrev pub lines : List (List ℕ) → List ℕ
 lines texts = flat_map (λ t. t ++ line_end) texts

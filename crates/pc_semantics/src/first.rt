@@ -2,6 +2,7 @@
 ghost use Rattle.std.specs.Prelude.{◌≡◌, position};
 ghost use Rattle.std.specs.Str.{bytes_eq};
 ghost use Rattle.pc_semantics.specs.Configurations as spec;
+ghost use Rattle.pc_semantics.specs.Parts as parts;
 
 use pc_caps::List;
 use pc_core::{Core, EntityDef};
@@ -34,7 +35,7 @@ fn place_named(entities: &[EntityDef], name: &[u8]) -> Option<usize>
 // The number of the entity with this name.
 #[tactic(auto, using(crate::proofs::Named::position_named))]
 fn entity_named(core: &Core, name: &[u8]) -> Option<u32>
-    ensures { result ≡ spec.number_of_entity core.now name.now }
+    ensures { result ≡ parts.number_of_entity core.now name.now }
 {
     core.formed();
     let place = place_named(core.entities(), name)?;

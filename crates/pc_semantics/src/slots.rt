@@ -1,6 +1,6 @@
 //! The slots of a frame.
 ghost use Rattle.std.specs.Prelude.{◌≡◌, ◌++◌, ◌⊎◌, ◌<◌, ◌≤◌, None, Some, length, replicate, slice_get, slice_set, MatchOption, IfOk, OnErr, IfErr, OnOk};
-ghost use Rattle.pc_semantics.specs.Calls.{held as value_of};
+ghost use Rattle.std.specs.Option.{option_flatten};
 
 use pc_heap::Value;
 use std::alloc::{AllocError, AllocFailed};
@@ -50,7 +50,7 @@ impl Slots {
     /// Takes the value out of a slot. `None` iff the slot is empty or there is no slot with this number. It does not
     /// allocate.
     pub fn take(&mut self, slot: usize) -> Option<Value>
-        ensures value { result ≡ value_of (slice_get self.old slot) }
+        ensures value { result ≡ option_flatten (slice_get self.old slot) }
         ensures rest { self.new ≡ slice_set self.old slot None }
     {
         if slot < self.held.len() {
@@ -64,7 +64,7 @@ impl Slots {
     /// `Err` hands the value back and changes nothing.
     #[inline(always)]
     pub fn put(&mut self, slot: usize, value: Value) -> Result<Option<Value>, AllocFailed<Value>>
-        ensures before { IfOk result (λ before. before ≡ value_of (slice_get self.old slot)) }
+        ensures before { IfOk result (λ before. before ≡ option_flatten (slice_get self.old slot)) }
         ensures ok { OnOk result (self.new ≡ slice_set self.old slot (Some value)) }
         ensures err { OnErr result (self.new ≡ self.old) }
         ensures back { IfErr result (λ failed. failed.value ≡ value) }
@@ -92,7 +92,7 @@ fn reach(held: &mut Vec<Option<Value>>, empty: &mut usize, slot: usize) -> Resul
 #[inline(always)]
 fn put_held(held: &mut Vec<Option<Value>>, slot: usize, value: Value) -> Option<Value>
     ensures new { held.new.items ≡ slice_set held.old.items slot (Some value) }
-    ensures old { result ≡ value_of (slice_get held.old.items slot) }
+    ensures old { result ≡ option_flatten (slice_get held.old.items slot) }
 {
     if slot < held.len() {
         exchange(held, slot, Some(value))

@@ -16,9 +16,9 @@ use Rattle.pc_semantics.specs.declared.frames.Task.{Task}
 use Rattle.pc_semantics.specs.declared.mailbox.Message.{Message}
 use Rattle.pc_semantics.specs.declared.outcome.Outcome.{Outcome}
 use Rattle.pc_semantics.specs.declared.outcome.Outcome.TheVariants.{Moved, Skipped, Lacks, TooLong}
-use Rattle.pc_semantics.specs.Configurations.{Configuration, main_create, start_of, start}
-use Rattle.pc_semantics.specs.Around.{Move, Stuck, Overflows, Goes, Writes, Makes, Spawns, Enters, Sends as Sending, Leaves}
-use Rattle.pc_semantics.specs.Step.{task_move, delivered, left, made, around, run_task, printed_text, begun, begin_method, take_first, run_frames, step_of, step, followed, run_from, after}
+use Rattle.pc_semantics.specs.Configurations.{Configuration, main_create, start_of, start, Move, Stuck, Overflows, Goes, Writes, Makes, Spawns, Enters, Sends as Sending, Leaves}
+use Rattle.pc_semantics.specs.Step.{task_move, left, made, around, printed_text, take_first, run_frames, step, followed, run_from, after}
+use Rattle.pc_semantics.specs.Parts.{delivered, run_task, begun, begin_method, step_of}
 use Rattle.pc_sends.specs.Held.{HeldAt, HeldFrom}
 use Rattle.pc_sends.specs.Tables.{running, Reach, first, next, Posts, Sends, message_of, next_move}
 use Rattle.pc_sends.specs.Found.{MayWait}

@@ -7,7 +7,8 @@ use Rattle.pc_lists.specs.Lists.{Each}
 use Rattle.pc_semantics.specs.declared.frames.Frame.{Frame}
 use Rattle.pc_semantics.specs.declared.frames.Task.{Task}
 use Rattle.pc_semantics.specs.declared.frames.Task.TheVariants as task
-use Rattle.pc_semantics.specs.Around.{Move, Stuck, Overflows, Goes, Writes, Makes, Spawns, Enters, Sends, Leaves, with_top, with_stack, with_popped}
+use Rattle.pc_semantics.specs.Configurations.{Move, Stuck, Overflows, Goes, Writes, Makes, Spawns, Enters, Sends, Leaves, with_stack}
+use Rattle.pc_semantics.specs.Parts.{with_top, with_popped}
 use Rattle.pc_semantics.specs.Children.{evaluations}
 use Rattle.pc_semantics.specs.Evaluation.{item_tasks}
 use Rattle.pc_sends.specs.Tables.{UsesMethod, Posts}

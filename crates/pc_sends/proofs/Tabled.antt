@@ -12,7 +12,8 @@ use Rattle.pc_sends.specs.declared.table.Row.{Row}
 use Rattle.pc_semantics.specs.Configurations.{Configuration, main_create}
 use Rattle.pc_sends.specs.declared.table.Table.{Table}
 use Rattle.pc_sends.specs.Growth.{Grown, OfSome, Sorts}
-use Rattle.pc_sends.specs.Tables.{Sends, row, RowBefore, InOrder, IsOfActor, IsLater, IsUnsent, IsNever, IsTable, TableTells}
+use Rattle.pc_sends.specs.Tables.{Sends, row, RowBefore, InOrder, IsOfActor, IsLater, IsNever, IsTable, TableTells}
+use Rattle.pc_sends.specs.Unsent.{IsUnsent}
 use Rattle.pc_sends.specs.Found.{MayWait}
 use Rattle.pc_sends.specs.Covering.{ReachCovers}
 use Rattle.pc_sends.specs.Reached.{IsReach, AreSent}

@@ -25,14 +25,13 @@ use Rattle.pc_semantics.specs.declared.frames.Task.{Task}
 use Rattle.pc_semantics.specs.declared.frames.Task.TheVariants as task
 use Rattle.pc_semantics.specs.declared.mailbox.Message.{Message}
 use Rattle.pc_semantics.specs.declared.outcome.Lack.TheVariants as lack
-use Rattle.pc_semantics.specs.Configurations.{own_address, blank_object}
-use Rattle.pc_semantics.specs.Around.{Around, Move, Stuck, Overflows, Goes, Spawns, Sends, with_stack, pushed, none, popped}
+use Rattle.pc_semantics.specs.Configurations.{own_address, blank_object, Around, Move, Stuck, Overflows, Goes, Spawns, Sends, Leaves, with_stack, pushed, none, popped}
 use Rattle.pc_semantics.specs.Children.{evaluations}
-use Rattle.pc_semantics.specs.Evaluation.{push_slot, take_slot, item_tasks, first_then, evaluate, evaluate_node, truth, apply_task, right_side, test_and, test_or, test_task, branch, loop_turn}
-use Rattle.pc_semantics.specs.Calls.{get_value, get_field, get_of, get_from, get_task, put_value, put_field, put_of, put_into, put_task, store, store_task, counted, is_string, text_of, begin_new, make_of, make_task, spawn_of, spawn_task, enter, send, invoke_kind, push_text, invoke_found, invoke_method, invoke_on, invoke_task, leave_object, leave, return_task}
-use Rattle.pc_semantics.specs.Operators.{push_or_lack, of_numbers, of_truths, of_texts, binary, negated}
+use Rattle.pc_semantics.specs.Parts.{push_slot, take_slot, evaluate_node, get_value, get_field, get_of, get_from, put_value, put_field, put_of, put_into, begin_new, make_of, spawn_of, enter, send, push_text, invoke_found, invoke_method, invoke_on, leave_object, return_task, push_or_lack, negated, compared, at_node}
+use Rattle.pc_semantics.specs.Evaluation.{item_tasks, first_then, evaluate, truth, apply_task, right_side, test_and, test_or, test_task, branch, loop_turn, of_numbers, of_truths, of_texts, binary}
+use Rattle.pc_semantics.specs.Calls.{get_task, put_task, store, store_task, counted, is_string, text_of, make_task, spawn_task, invoke_kind, invoke_task, leave}
 use Rattle.pc_caps.specs.Limits.{text_limit}
-use Rattle.pc_semantics.specs.Step.{at_node, task_move}
+use Rattle.pc_semantics.specs.Step.{task_move}
 use Rattle.pc_sends.specs.Held.{receiver_child, call_in, IsNoted}
 use Rattle.pc_sends.specs.Tables.{is_called, last_child_of, noted_at, Aims, UsesMethod, IsSent, Posts}
 use Rattle.pc_sends.proofs.Homes.{NodeIn, children_in, body_in}
@@ -178,7 +177,7 @@ module _ (core : CoreData) (ents : List (Option ℕ)) (formed : Formed core) (m 
 
   apply_task_in : (f : Frame) (x : NodeKind) → Of f → In (apply_task f x)
   apply_task_in f (node.Binary o) k = top_in core ents m f f.stack _ k (λ w g l. top_in core ents m g g.stack _ l (λ v h n. binary_in h o v w n))
-  apply_task_in f (node.Same b) k = top_in core ents m f f.stack _ k (λ w g l. top_in core ents m g g.stack _ l (λ v h n. n))
+  apply_task_in f (node.Same b) k = top_in core ents m f f.stack _ k (λ w g l. top_in core ents m g g.stack (λ v h. compared h b v w) l (λ v h n. n))
   apply_task_in f node.Not k = top_in core ents m f f.stack _ k (λ v g l. negated_in g v l)
   apply_task_in f x k = tt
 
@@ -329,7 +328,7 @@ module _ (core : CoreData) (ents : List (Option ℕ)) (formed : Formed core) (m 
   leave_object_in (Some (Some v)) = tt
 
   leave_in : (f : Frame) (q : MethodKind) → Of f → In (leave f q)
-  leave_in f method.Fun k = top_in core ents m f f.stack _ k (λ v g l. tt)
+  leave_in f method.Fun k = top_in core ents m f f.stack (λ v g. Leaves (Some v)) k (λ v g l. tt)
   leave_in f method.New k = leave_object_in (slice_get f.slots 0)
   leave_in f method.Be k = tt
   leave_in f method.Spawn k = tt

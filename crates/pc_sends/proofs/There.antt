@@ -11,7 +11,8 @@ use Rattle.pc_lists.proofs.Options.{bind_some}
 use Rattle.pc_core.specs.Members.{method_found}
 use Rattle.pc_core.specs.Nodes.{NamesFit}
 use Rattle.pc_core.specs.Formed.{Formed}
-use Rattle.pc_semantics.specs.Configurations.{main_create, number_of_entity}
+use Rattle.pc_semantics.specs.Configurations.{main_create}
+use Rattle.pc_semantics.specs.Parts.{number_of_entity}
 use Rattle.pc_sends.specs.Tables.{Aims, Reach, first, next}
 use Rattle.pc_sends.proofs.Moves.{IsThere}
 

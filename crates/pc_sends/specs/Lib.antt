@@ -5,3 +5,4 @@ pub mod Growth
 pub mod Reached
 pub mod Example
 pub mod Found
+pub mod Unsent

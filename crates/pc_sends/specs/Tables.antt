@@ -1,19 +1,17 @@
 -- The table of who sends what.
 use Rattle.std.specs.Prelude.{◌≡◌, ◌⊎◌, ◌↔◌, ℕ, false, List, length, Some, slice_get, ◌-◌, Bool, true, Option, None, [], ◌∷◌, ◌<◌, ◌≤◌}
 use Rattle.pc_tree.specs.Kinds.{is_abstract, first_own}
-use Rattle.pc_core.specs.{declared.declarations.EntityDef.EntityDef, CoreData.CoreData, CoreData.method_named, Further.IsAbstract, Further.NamesMethod, Conforms.Conforms, declared.declarations.Method.Method, declared.declarations.MethodKind.MethodKind, declared.nodes.Node.Node, declared.nodes.NodeKind.NodeKind}
+use Rattle.pc_core.specs.{declared.declarations.EntityDef.EntityDef, CoreData.CoreData, CoreData.method_named, Entities.Conforms, declared.declarations.Method.Method, declared.declarations.MethodKind.MethodKind, declared.nodes.Node.Node, declared.nodes.NodeKind.NodeKind}
 use Rattle.pc_lists.specs.Lists.{◌>>=◌, Has, Each, Ascends}
-use Rattle.pc_semantics.specs.{Configurations.main_create, Configurations.Configuration, declared.frames.Frame.Frame, declared.frames.Task.Task, declared.mailbox.Message.Message, Around.Around, Around.Move, Around.Spawns, Around.Sends as Sending, Step.task_move, Step.around}
+use Rattle.pc_semantics.specs.{Configurations.main_create, Configurations.Configuration, declared.frames.Frame.Frame, declared.frames.Task.Task, declared.mailbox.Message.Message, Configurations.Around, Configurations.Move, Configurations.Spawns, Configurations.Sends as Sending, Step.task_move, Step.around}
 use Rattle.pc_sends.specs.{declared.table.Row.Row, declared.table.Table.Table}
 use Rattle.pc_core.specs.declared.declarations.MethodKind.TheVariants as method
 use Rattle.pc_core.specs.declared.nodes.NodeKind.TheVariants as nodes
 use Rattle.pc_tree.specs.declared.kinds.EntityKind.TheVariants as kind
 
--- ---- the entities that a value may have if it is known to be of an entity
-
 -- The entities are the same, or the second is a trait or an interface to which the first conforms, by its methods.
 abbrev pub IsOrConformsTo : CoreData → (entity other : ℕ) → Type 0
-IsOrConformsTo core d e = (d ≡ e) ⊎ (IsAbstract core e × Conforms core d e)
+IsOrConformsTo core d e = (d ≡ e) ⊎ (((x : EntityDef) × (slice_get core.entities e ≡ Some x) × (is_abstract x.kind ≡ true)) × Conforms core d e)
 
 -- A value that is known to be of entity e may be of entity d. No value is of a trait or an interface.
 pub record MayBe (core : CoreData) (d e : ℕ) : Type 0 where
@@ -21,8 +19,6 @@ pub record MayBe (core : CoreData) (d e : ℕ) : Type 0 where
   pub is_own : slice_get core.entities d ≡ Some own
   pub concrete : is_abstract own.kind ≡ false
   pub is_one : IsOrConformsTo core d e
-
--- ---- calls
 
 -- A function or a behaviour.
 abbrev pub is_called : MethodKind → Bool
@@ -74,8 +70,6 @@ pub record UsesMethod (core : CoreData) (ents : List (Option ℕ)) (m t : ℕ) :
   pub own : node.method ≡ m
   pub aims : Aims core ents node.kind node.children t
 
--- ---- Reach
-
 -- The least set of methods with Main's `create` and, with each method, those that its nodes may make, spawn or call.
 pub data Reach (core : CoreData) (ents : List (Option ℕ)) : ℕ → Type 0 where
   first : {e t : ℕ} → main_create core ≡ Some (e, t) → Reach core ents t
@@ -86,7 +80,7 @@ pub data Reach (core : CoreData) (ents : List (Option ℕ)) : ℕ → Type 0 whe
 -- If a node of this kind uses method t, it sends a message: it is a Spawn, or a Call with a behaviour t.
 abbrev pub IsSent : CoreData → NodeKind → ℕ → Type 0
 IsSent core (nodes.Spawn k) t = Unit {0}
-IsSent core (nodes.Call name) t = NamesMethod core method.Be t
+IsSent core (nodes.Call name) t = (x : Method) × (slice_get core.methods t ≡ Some x) × (x.kind ≡ method.Be)
 IsSent core k t = ⊥
 
 -- A node of method m may send method t.
@@ -108,8 +102,6 @@ is_message method.Fun = false
 is_message method.Be = true
 is_message method.New = false
 is_message method.Spawn = true
-
--- ---- the frame that runs
 
 -- The running frame of actor i.
 abbrev pub running : Configuration → ℕ → Option Frame
@@ -171,21 +163,13 @@ pub record IsOfActor (core : CoreData) (t : ℕ) : Type 0 where
 abbrev pub IsLater : Option (ℕ × ℕ) → ℕ → Type 0
 IsLater start t = (e : ℕ) → start ≡ Some (e, t) → ⊥
 
--- A behaviour or a constructor of one of the file's actors, other than the one with which the program begins, that is
--- the target of none of these rows.
-pub record IsUnsent (core : CoreData) (rows : List Row) (t : ℕ) : Type 0 where
-  pub of_actor : IsOfActor core t
-  pub later : IsLater (main_create core) t
-  pub unsent : (e : ℕ) → Has rows (row e t) → ⊥
-
 -- The same, and nothing sends it.
 pub record IsNever (core : CoreData) (ents : List (Option ℕ)) (t : ℕ) : Type 0 where
   pub of_actor : IsOfActor core t
   pub later : IsLater (main_create core) t
   pub unsent : (e : ℕ) → Sends core ents e t → ⊥
 
--- ---- the table
-
+-- The table of who sends what, by the entities that are noted at the nodes.
 pub record IsTable (core : CoreData) (ents : List (Option ℕ)) (table : Table) : Type 0 where
   -- who sends what: each pair once, in order
   pub order : InOrder table.rows
@@ -197,8 +181,7 @@ pub record IsTable (core : CoreData) (ents : List (Option ℕ)) (table : Table) 
   pub reached_ascends : Ascends table.reached
   pub reached : (t : ℕ) → (Has table.reached t) ↔ (Reach core ents t)
 
--- ---- what it states about a configuration
-
+-- What the table states about a configuration.
 pub record TableTells (core : CoreData) (table : Table) (c : Configuration) : Type 0 where
   -- each frame is one of a method that is reached
   pub frames : Each (λ i a. Each (λ k f. Has table.reached f.method) a.frames) c.actors

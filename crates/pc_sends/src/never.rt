@@ -4,6 +4,7 @@ ghost use Rattle.pc_lists.specs.Lists.{Ascends, Has};
 ghost use Rattle.pc_semantics.specs.Configurations as beginning;
 ghost use Rattle.pc_sends.specs.Tables.{Sends};
 ghost use Rattle.pc_sends.specs.Tables as spec;
+ghost use Rattle.pc_sends.specs.Unsent as unsent;
 
 use crate::found::Found;
 use crate::messages::is_message;
@@ -76,7 +77,7 @@ fn is_unsent(core: &Core, first: Option<(u32, u32)>, targets: &Found, number: u3
 /// targets of these rows, in ascending order.
 pub(crate) fn list_never(alloc: Global, core: &Core, rows: &[Row]) -> Result<List<u32>, AllocError>
     ensures ascends { IfOk result (λ numbers. Ascends numbers) }
-    ensures exact { IfOk result (λ numbers. (t : ℕ) → Has numbers t ↔ spec.IsUnsent core.now rows.now t) }
+    ensures exact { IfOk result (λ numbers. (t : ℕ) → Has numbers t ↔ unsent.IsUnsent core.now rows.now t) }
 {
     core.formed();
     let targets = targets_of(alloc, rows)?;

@@ -3,6 +3,8 @@ pub mod Computed
 pub mod Counts
 pub mod Searched
 pub mod Turns
+pub mod Firsts
+pub mod FirstFaults
 pub mod StandsAlike
 pub mod Grouping
 pub mod Looked

@@ -6,7 +6,7 @@ use Rattle.pc_lists.specs.Lists.{Each, Has}
 use Rattle.pc_lists.proofs.Gets.{get_below}
 use Rattle.pc_core.specs.declared.declarations.Method.{Method}
 use Rattle.pc_core.specs.CoreData.{CoreData}
-use Rattle.pc_core.specs.Conforms.{HasFor}
+use Rattle.pc_core.specs.Entities.{HasFor}
 use Rattle.pc_core.specs.Formed.{Formed}
 use Rattle.pc_sub.specs.declared.groups.Groups.{Groups}
 use Rattle.pc_sub.specs.Alike.{Alike}

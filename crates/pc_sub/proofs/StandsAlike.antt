@@ -8,7 +8,7 @@ use Rattle.pc_caps.specs.declared.capability.Form.{Form}
 use Rattle.pc_core.specs.declared.declarations.Method.{Method}
 use Rattle.pc_core.specs.declared.declarations.ParamInfo.{ParamInfo}
 use Rattle.pc_core.specs.CoreData.{CoreData}
-use Rattle.pc_core.specs.Conforms.{Chain, StandsFor, HasFor}
+use Rattle.pc_core.specs.Entities.{Chain, StandsFor, HasFor}
 use Rattle.pc_lists.proofs.Gets.{get_map, map_get}
 use Rattle.pc_sub.specs.Alike.{Alike, param_type}
 

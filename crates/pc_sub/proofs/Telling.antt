@@ -11,7 +11,7 @@ use Rattle.pc_core.specs.declared.declarations.EntityDef.{EntityDef}
 use Rattle.pc_core.specs.declared.declarations.Method.{Method}
 use Rattle.pc_core.specs.CoreData.{CoreData}
 use Rattle.pc_core.specs.Conforming.{TellsConforming}
-use Rattle.pc_core.specs.Conforms.{Conforms, HasFor}
+use Rattle.pc_core.specs.Entities.{Conforms, HasFor}
 use Rattle.pc_core.specs.Further.{IsAbstract}
 use Rattle.pc_core.specs.EntitySets.{Holds, IsSetOf}
 use Rattle.pc_core.specs.Formed.{Formed}

@@ -4,7 +4,7 @@ use Rattle.std.proofs.lemmas.Option.{same_Some, none-some}
 use Rattle.std.proofs.lemmas.Bool.{eqb-true, eq-eqb, or_cases, or_left, or_right}
 use Rattle.pc_lists.proofs.Bools.{false_true}
 use Rattle.std.specs.Prelude.{◌≡◌, ◌↔◌, ℕ, zero, suc, true, List, [], ◌∷◌, Option, Some, None, IsTrue, nat_eq, slice_get, refl}
-use Rattle.pc_core.specs.{declared.declarations.EntityDef.EntityDef, CoreData.CoreData, Entities.Leads, Entities.one, Entities.more, Formed.Formed, Conforms.Chain}
+use Rattle.pc_core.specs.{declared.declarations.EntityDef.EntityDef, CoreData.CoreData, Entities.Leads, Entities.one, Entities.more, Formed.Formed, Entities.Chain}
 use Rattle.pc_lists.specs.Lists.{Has}
 use Rattle.pc_sub.specs.DeclarationFaults.{is_in, above_in, is_chain}
 

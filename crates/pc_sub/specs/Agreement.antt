@@ -4,7 +4,7 @@ use Rattle.std.proofs.lemmas.Bool.{and_parts, and_from, or_cases, or_left, or_ri
 use Rattle.pc_lists.proofs.Bools.{false_true}
 use Rattle.std.specs.Prelude.{◌≡◌, ◌↔◌, ℕ, true, ◌&&◌, Option, Some, None, IsTrue, slice_get, refl}
 use Rattle.std.specs.Option.{is_none}
-use Rattle.pc_core.specs.{declared.declarations.EntityDef.EntityDef, CoreData.CoreData, Formed.Formed, Conforms.Conforms}
+use Rattle.pc_core.specs.{declared.declarations.EntityDef.EntityDef, CoreData.CoreData, Formed.Formed, Entities.Conforms}
 use Rattle.pc_sub.specs.{declared.faults.DeclFault.DeclFault, DeclarationFaults.is_chain, Declarations.IsInterface, Declarations.Sub, Computed.is_interface, Computed.is_sub, Above.is_chain_iff, Faults.conforms, Faults.conformed}
 use Rattle.pc_sub.specs.DeclarationFaults as conform
 

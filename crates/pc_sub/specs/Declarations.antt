@@ -1,20 +1,14 @@
 -- When an entity is below another, and when the declarations of a core fit each other.
 use Rattle.std.specs.Prelude.{◌≡◌, ◌⊎◌, ℕ, Bool, true, false, Some, slice_get}
-use Rattle.pc_tree.specs.declared.kinds.EntityKind.{EntityKind}
-use Rattle.pc_core.specs.{declared.declarations.EntityDef.EntityDef, CoreData.CoreData, Conforms.Chain, Conforms.Conforms, declared.declarations.Method.Method, declared.declarations.MethodKind.MethodKind}
-use Rattle.pc_caps.specs.{Tables.sendable, declared.capability.Form.Form}
+use Rattle.pc_tree.specs.{declared.kinds.EntityKind.EntityKind, Kinds.at_kind}
+use Rattle.pc_core.specs.{declared.declarations.EntityDef.EntityDef, CoreData.CoreData, Entities.Chain, Entities.Conforms, declared.declarations.Method.Method, declared.declarations.MethodKind.MethodKind}
+use Rattle.pc_caps.specs.{Tables.sendable, declared.capability.Form.Form, Tables.at_form}
 use Rattle.pc_lists.specs.Lists.{Each}
-use Rattle.pc_tree.specs.declared.kinds.EntityKind.TheVariants as kind
-use Rattle.pc_caps.specs.declared.capability.Form.TheVariants as form
 use Rattle.pc_core.specs.declared.declarations.MethodKind.TheVariants as method
 
 -- For these kinds, an entity is below another that it does not name if it has the methods.
 abbrev pub is_structural : EntityKind → Bool
-is_structural kind.Class = false
-is_structural kind.Actor = false
-is_structural kind.Primitive = false
-is_structural kind.Trait = false
-is_structural kind.Interface = true
+is_structural = at_kind false false false false true
 
 abbrev pub IsInterface : CoreData → ℕ → Type 0
 IsInterface core e = (x : EntityDef) × (slice_get core.entities e ≡ Some x) × (is_structural x.kind ≡ true)
@@ -29,14 +23,7 @@ Sub core a b = Chain core a b ⊎ (IsInterface core b × Conforms core a b)
 
 -- The results of a class's constructor for which its parameters must be sendable.
 abbrev pub isolates : Form → Bool
-isolates form.IsoE = true
-isolates form.TrnE = true
-isolates form.Val = true
-isolates form.Iso = false
-isolates form.Trn = false
-isolates form.Ref = false
-isolates form.Box = false
-isolates form.Tag = false
+isolates = at_form true true false false false true false false
 
 -- The parameters of this method must be sendable: a behaviour, an actor's constructor, or a class's constructor whose
 -- result is `iso`, `trn` or `val`.

@@ -5,11 +5,11 @@ use Rattle.std.proofs.lemmas.List.{length-map}
 use Rattle.std.proofs.lemmas.Option.{same_Some, none-some, cond_some}
 use Rattle.pc_lists.proofs.Gets.{get_below, get_append, get_map, range_get}
 use Rattle.pc_lists.proofs.Options.{bind_some}
-use Rattle.std.specs.Prelude.{◌≡◌, ℕ, zero, suc, ◌+◌, ◌-◌, ◌<◌, ◌≤◌, Bool, true, false, cond, List, [], ◌∷◌, ◌++◌, map, length, Option, Some, None, slice_get, refl}
+use Rattle.std.specs.Prelude.{◌≡◌, ◌↔◌, ℕ, zero, suc, ◌+◌, ◌-◌, ◌<◌, ◌≤◌, Bool, true, false, cond, List, [], ◌∷◌, ◌++◌, map, length, Option, Some, None, slice_get, refl}
 use Rattle.pc_caps.specs.{Closure.below_iff, Tables.unalias, Tables.sendable}
-use Rattle.pc_core.specs.{declared.declarations.EntityDef.EntityDef, declared.declarations.Method.Method, declared.declarations.MethodKind.MethodKind, declared.declarations.ParamInfo.ParamInfo, CoreData.CoreData, CoreData.own_methods, CoreData.field_name, CoreData.method_name, CoreData.method_named, CoreData.IsMethod, Formed.Formed, Members.method_among, Members.method_found, Members.method_missed, Conforms.ParamFits, Conforms.StandsFor, Conforms.HasFor, Conforms.Conforms}
+use Rattle.pc_core.specs.{declared.declarations.EntityDef.EntityDef, declared.declarations.Method.Method, declared.declarations.MethodKind.MethodKind, declared.declarations.ParamInfo.ParamInfo, CoreData.CoreData, CoreData.own_methods, Parts.field_name, Parts.method_name, CoreData.method_named, CoreData.IsMethod, Formed.Formed, Members.method_among, Members.method_found, Members.method_missed, Entities.ParamFits, Entities.StandsFor, Entities.HasFor, Entities.Conforms}
 use Rattle.pc_lists.specs.Lists.{Each, ◌>>=◌}
-use Rattle.pc_sub.specs.{declared.faults.DeclFault.DeclFault, Above.is_chain_iff, DeclarationLaws.NoFaultWhereFit}
+use Rattle.pc_sub.specs.{declared.faults.DeclFault.DeclFault, Above.is_chain_iff}
 use Rattle.pc_core.specs.declared.declarations.MethodKind.TheVariants as method
 use Rattle.pc_sub.specs.declared.faults.DeclFault.TheVariants as fault
 use Rattle.pc_sub.specs.DeclarationFaults as conform
@@ -38,34 +38,34 @@ together : (xs ys : List DeclFault) → Clean xs → Clean ys → Clean (xs ++ y
 together xs ys e f = passed xs ys e ∙ f
 
 -- A fault that is there unless a test holds.
-unless : (b : Bool) (f : DeclFault) → Clean (cond b [] (f ∷ [])) → b ≡ true
+pub unless : (b : Bool) (f : DeclFault) → Clean (cond b [] (f ∷ [])) → b ≡ true
 unless true f e = refl
 unless false f e = absurd (none-some f (sym e))
 
-held : (b : Bool) (f : DeclFault) → b ≡ true → Clean (cond b [] (f ∷ []))
+pub held : (b : Bool) (f : DeclFault) → b ≡ true → Clean (cond b [] (f ∷ []))
 held b f h = subst (λ c. Clean (cond c [] (f ∷ []))) (sym h) refl
 
 -- Faults that are looked for only if a test holds.
-looked : (b : Bool) (xs : List DeclFault) → Clean (cond b xs []) → b ≡ true → Clean xs
+pub looked : (b : Bool) (xs : List DeclFault) → Clean (cond b xs []) → b ≡ true → Clean xs
 looked true xs e h = e
 looked false xs e h = absurd (let bad : false ≡ true = h in cc)
 
-unlooked : (b : Bool) (xs : List DeclFault) → (b ≡ true → Clean xs) → Clean (cond b xs [])
+pub unlooked : (b : Bool) (xs : List DeclFault) → (b ≡ true → Clean xs) → Clean (cond b xs [])
 unlooked true xs e = e refl
 unlooked false xs e = refl
 
 -- ---- what must be sendable
 
-sent_all : (m i : ℕ) (ps : List ParamInfo) → Clean (conform.not_sendable m i ps) → Each (λ j p. sendable p.cap ≡ true) ps
+pub sent_all : (m i : ℕ) (ps : List ParamInfo) → Clean (conform.not_sendable m i ps) → Each (λ j p. sendable p.cap ≡ true) ps
 sent_all m i [] e j p g = absurd (none-some p g)
 sent_all m i (q ∷ ps) e zero p g = subst (λ (r : ParamInfo). sendable r.cap ≡ true) (same_Some q p g) (unless (sendable q.cap) _ (both _ _ e).0)
 sent_all m i (q ∷ ps) e (suc j) p g = sent_all m (i + 1) ps (both _ _ e).1 j p g
 
-all_sent : (m i : ℕ) (ps : List ParamInfo) → Each (λ j p. sendable p.cap ≡ true) ps → Clean (conform.not_sendable m i ps)
+pub all_sent : (m i : ℕ) (ps : List ParamInfo) → Each (λ j p. sendable p.cap ≡ true) ps → Clean (conform.not_sendable m i ps)
 all_sent m i [] h = refl
 all_sent m i (q ∷ ps) h = together _ _ (held (sendable q.cap) _ (h 0 q refl)) (all_sent m (i + 1) ps (λ j p g. h (suc j) p g))
 
-takes_all : (m : ℕ) (xs : List Method) → Clean (conform.parameter_faults m xs) → Each (λ k x. spec.TakesSendable x) xs
+pub takes_all : (m : ℕ) (xs : List Method) → Clean (conform.parameter_faults m xs) → Each (λ k x. spec.TakesSendable x) xs
 takes_all m [] e k x g = absurd (none-some x g)
 takes_all m (y ∷ ys) e zero x g = subst spec.TakesSendable (same_Some y x g) (λ h. sent_all m 0 y.params (looked (spec.takes_sendable y.kind y.result.1) _ (both _ _ e).0 h))
 takes_all m (y ∷ ys) e (suc k) x g = takes_all (m + 1) ys (both _ _ e).1 k x g
@@ -131,7 +131,7 @@ stood core t y f s =
 
 -- ---- the entity's method of a name and kind
 
-kinds_equal : (j k : MethodKind) → conform.same_kind j k ≡ true → j ≡ k
+pub kinds_equal : (j k : MethodKind) → conform.same_kind j k ≡ true → j ≡ k
 kinds_equal method.Fun method.Fun e = refl
 kinds_equal method.Be method.Be e = refl
 kinds_equal method.New method.New e = refl
@@ -160,7 +160,7 @@ method_place core e name m x f g h =
           (get_append (map field_name x.fields) (map method_name (own_methods core x)) (m - x.first_method) ∙ named),
     )
 
-one_method : (core : CoreData) (e name m k : ℕ) → Formed core → IsMethod core e name m → IsMethod core e name k → m ≡ k
+pub one_method : (core : CoreData) (e name m k : ℕ) → Formed core → IsMethod core e name m → IsMethod core e name k → m ≡ k
 one_method core e name m k f h i =
     let r = method_among core m h.0 f h.1 (get_below core.methods m h.0 h.1) in
     let g : slice_get core.entities e ≡ Some r.0 = ap (slice_get core.entities) (sym h.2) ∙ r.1 in
@@ -171,7 +171,7 @@ one_method core e name m k f h i =
     let lower = b.0 in
     omega (arith, same, low, lower)
 
-like_has : (core : CoreData) (e n : ℕ) (t : Method) (o : Option (ℕ × Method)) → Formed core → conform.method_like core e t ≡ o → Clean (conform.conformance_faults core e n t o) → HasFor core e t
+pub like_has : (core : CoreData) (e n : ℕ) (t : Method) (o : Option (ℕ × Method)) → Formed core → conform.method_like core e t ≡ o → Clean (conform.conformance_faults core e n t o) → HasFor core e t
 like_has core e n t None f g c = absurd (none-some (fault.MissingMethod e n) (sym c))
 like_has core e n t (Some z) f g c =
     let a = bind_some (method_named core e t.name) _ z g in
@@ -182,18 +182,18 @@ like_has core e n t (Some z) f g c =
     (a.0, b.0, method_found core e t.name a.0 f a.1, b.1, kinds_equal b.0.kind t.kind k.0, subst (λ (w : Method). StandsFor core t w) (sym y) s)
 
 -- What is found by a name.
-named_like : (core : CoreData) (e m : ℕ) (t y : Method) → method_named core e t.name ≡ Some m → slice_get core.methods m ≡ Some y → y.kind ≡ t.kind → conform.method_like core e t ≡ Some (m, y)
+pub named_like : (core : CoreData) (e m : ℕ) (t y : Method) → method_named core e t.name ≡ Some m → slice_get core.methods m ≡ Some y → y.kind ≡ t.kind → conform.method_like core e t ≡ Some (m, y)
 named_like core e m t y g h k =
     let same : conform.same_kind y.kind t.kind ≡ true = ap (conform.same_kind y.kind) (sym k) ∙ same_kinds y.kind in
     ap (λ (o : Option ℕ). o >>= λ i. slice_get core.methods i >>= λ z. cond (conform.same_kind z.kind t.kind) (Some (i, z)) None) g
     ∙ ap (λ (o : Option Method). o >>= λ z. cond (conform.same_kind z.kind t.kind) (Some (m, z)) None) h
     ∙ ap (λ b. cond b (Some (m, y)) None) same
 
-named : (core : CoreData) (e name m : ℕ) (o : Option ℕ) → Formed core → method_named core e name ≡ o → IsMethod core e name m → o ≡ Some m
+pub named : (core : CoreData) (e name m : ℕ) (o : Option ℕ) → Formed core → method_named core e name ≡ o → IsMethod core e name m → o ≡ Some m
 named core e name m None f g h = absurd (method_missed core e name f g m (get_below core.methods m h.0 h.1) h)
 named core e name m (Some k) f g h = ap Some (one_method core e name k m f (method_found core e name k f g) h)
 
-has_like : (core : CoreData) (e n : ℕ) (t : Method) → Formed core → HasFor core e t → Clean (conform.conformance_faults core e n t (conform.method_like core e t))
+pub has_like : (core : CoreData) (e n : ℕ) (t : Method) → Formed core → HasFor core e t → Clean (conform.conformance_faults core e n t (conform.method_like core e t))
 has_like core e n t f h =
     let g : method_named core e t.name ≡ Some h.0 = named core e t.name h.0 (method_named core e t.name) f refl h.2 in
     subst (λ o. Clean (conform.conformance_faults core e n t o)) (sym (named_like core e h.0 t h.1 g h.3 h.4))
@@ -218,12 +218,12 @@ pub conformed : (core : CoreData) (e b : ℕ) (o : Option EntityDef) → Formed 
 conformed core e b None f g h = refl
 conformed core e b (Some y) f g h = has_trait core e y.first_method (own_methods core y) f (h y g)
 
-list_conforms : (core : CoreData) (e : ℕ) (bs : List ℕ) → Formed core → Clean (conform.list_faults core e bs) → Each (λ i b. Conforms core e b) bs
+pub list_conforms : (core : CoreData) (e : ℕ) (bs : List ℕ) → Formed core → Clean (conform.list_faults core e bs) → Each (λ i b. Conforms core e b) bs
 list_conforms core e [] f c i b g = absurd (none-some b g)
 list_conforms core e (a ∷ bs) f c zero b g = subst (Conforms core e) (same_Some a b g) (conforms core e a (slice_get core.entities a) f refl (both _ _ c).0)
 list_conforms core e (a ∷ bs) f c (suc i) b g = list_conforms core e bs f (both _ _ c).1 i b g
 
-list_conformed : (core : CoreData) (e : ℕ) (bs : List ℕ) → Formed core → Each (λ i b. Conforms core e b) bs → Clean (conform.list_faults core e bs)
+pub list_conformed : (core : CoreData) (e : ℕ) (bs : List ℕ) → Formed core → Each (λ i b. Conforms core e b) bs → Clean (conform.list_faults core e bs)
 list_conformed core e [] f h = refl
 list_conformed core e (a ∷ bs) f h = together _ _ (conformed core e a (slice_get core.entities a) f refl (h 0 a refl)) (list_conformed core e bs f (λ i b g. h (suc i) b g))
 
@@ -247,13 +247,9 @@ conform_all core n (y ∷ ys) f h =
 
 -- ---- all declarations
 
-pub fits_without_fault : NoFaultWhereFit
-fits_without_fault core f = (
+pub none_iff_fits : (core : CoreData) → Formed core → (conform.first_fault core ≡ None) ↔ spec.DeclOk core
+none_iff_fits core f = (
   λ c. let k = both (conform.parameter_faults 0 core.methods) (conform.core_entity_faults core 0 core.entities) c in
       record { sendable = takes_all 0 core.methods k.0; conform = λ e x g. let at : 0 + e ≡ e = omega arith in subst (λ n. Each (λ i b. Conforms core n b) x.provides) at (all_conform core 0 core.entities f k.1 e x g) },
   λ d. together (conform.parameter_faults 0 core.methods) (conform.core_entity_faults core 0 core.entities) (all_take 0 core.methods d.sendable) (conform_all core 0 core.entities f (λ e x g. let at : e ≡ 0 + e = omega arith in subst (λ n. Each (λ i b. Conforms core n b) x.provides) at (d.conform e x g))),
 )
-
--- If a declaration fails, the declarations do not fit.
-pub faulted : (core : CoreData) (x : DeclFault) → Formed core → conform.first_fault core ≡ Some x → spec.DeclOk core → ⊥
-faulted core x f e d = none-some x (sym ((fits_without_fault core f).1 d) ∙ e)

@@ -9,3 +9,4 @@ pub mod Groups
 pub mod Tables
 pub mod Computed
 pub mod DeclarationFaults
+pub mod FirstFault

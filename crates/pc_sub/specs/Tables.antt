@@ -2,7 +2,7 @@
 use Rattle.std.specs.Prelude.{◌≡◌, ◌↔◌, ℕ, ◌<◌, List, length, Some, slice_get}
 use Rattle.pc_masks.specs.declared.mask.Mask.{Mask}
 use Rattle.pc_lists.specs.Lists.{Each, Has}
-use Rattle.pc_core.specs.{declared.declarations.Method.Method, CoreData.CoreData, Further.IsAbstract, Conforms.HasFor, EntitySets.Holds, EntitySets.IsSetOf}
+use Rattle.pc_core.specs.{declared.declarations.Method.Method, CoreData.CoreData, Further.IsAbstract, Entities.HasFor, EntitySets.Holds, EntitySets.IsSetOf}
 use Rattle.pc_sub.specs.{declared.groups.Groups.Groups, Groups.IsGroup}
 
 -- If a place has this property, its set keeps what another set has too.

@@ -1,7 +1,8 @@
 //! Whether the declarations of a program fit each other.
-ghost use Rattle.std.specs.Prelude.{◌≡◌, ◌↔◌, IsOk, Some, None, MatchResult};
+ghost use Rattle.std.specs.Prelude.{◌≡◌, ◌↔◌, IsOk, IfErr};
 ghost use Rattle.pc_sub.specs.Declarations as spec;
 ghost use Rattle.pc_sub.specs.DeclarationFaults as faults;
+ghost use Rattle.pc_sub.specs.FirstFault.{IsFirstDeclarationFault};
 
 use crate::faults::DeclFault;
 use crate::parameters::parameter_fault;
@@ -11,10 +12,10 @@ use pc_core::Core;
 /// Checks the declarations: what must be sendable is, and each entity conforms to each trait and interface of its `is`
 /// list. The parameters come first, method by method; then, entity by entity, the traits and interfaces of its `is`
 /// list in order, and for each its methods in order. The fault is the first one in this order. Does not allocate.
-#[tactic(auto, using(crate::specs::Faults::fits_without_fault))]
+#[tactic(auto, using(crate::specs::Faults::none_iff_fits, crate::proofs::FirstFaults::first_is))]
 pub fn declarations(core: &Core) -> Result<(), DeclFault>
     ensures ok { IsOk result ↔ spec.DeclOk core.now }
-    ensures fault { MatchResult result (λ v. faults.first_fault core.now ≡ None) (λ f. faults.first_fault core.now ≡ Some f) }
+    ensures fault { IfErr result (IsFirstDeclarationFault core.now) }
 {
     core.formed();
     match first_fault(core) {

@@ -1,6 +1,6 @@
 //! Whether an entity has what a trait or an interface declares.
 ghost use Rattle.std.specs.Prelude.{◌≡◌, ◌↔◌, IsTrue, ◌+◌, ◌<◌, ◌≤◌, ◌^◌, length, slice_get};
-ghost use Rattle.pc_core.specs.Conforms.{Conforms};
+ghost use Rattle.pc_core.specs.Entities.{Conforms};
 ghost use Rattle.pc_core.specs.CoreData.{own_methods};
 ghost use Rattle.pc_sub.specs.DeclarationFaults as spec;
 

@@ -27,6 +27,8 @@ pub use checks::declarations;
 pub use conforming::conforms;
 pub use examples::{faults_of_small_declarations, subtypes_of_small_declarations};
 pub use faults::DeclFault;
-pub use laws::no_fault_where_declarations_fit;
+pub use laws::{
+    first_fault_is_computed, no_fault_where_declarations_fit, one_declaration_fails_first,
+};
 pub use subtypes::is_sub;
 pub use tables::tabulate;

@@ -1,6 +1,6 @@
 //! Which entities have a method for one that a trait or an interface declares.
 ghost use Rattle.std.specs.Prelude.{◌≡◌, ◌⊎◌, ◌↔◌, ℕ, ◌+◌, IfOk, IsTrue, length};
-ghost use Rattle.pc_core.specs.Conforms.{HasFor};
+ghost use Rattle.pc_core.specs.Entities.{HasFor};
 ghost use Rattle.pc_core.specs.EntitySets.{Holds, HasRoom, IsSetOf};
 ghost use Rattle.pc_lists.specs.Lists.{Each, Has};
 ghost use Rattle.pc_sub.specs.Groups as spec;

@@ -6,8 +6,6 @@ use Rattle.pc_swap.specs.declared.kept.Kept.{Kept}
 use Rattle.pc_semantics.specs.declared.ahead.Ahead.TheVariants as ahead
 use Rattle.pc_swap.specs.declared.kept.Kept.TheVariants as kept
 
--- ---- when the next steps of two actors are apart
-
 -- The actors are different, both steps move, they do not both send to the same actor, and they do not both make an
 -- actor.
 pub record Apart (core : CoreData) (c : Configuration) (i j : ℕ) : Type 0 where
@@ -40,8 +38,6 @@ IsKept core c i j kept.SameActor = i ≡ j
 IsKept core c i j kept.NotMoved = (i ≢ j) × ¬ (BothMove core c i j)
 IsKept core c i j kept.OneMailbox = (i ≢ j) × BothMove core c i j × OneMailbox core c i j
 IsKept core c i j kept.BothSpawn = (i ≢ j) × BothMove core c i j × ¬ (OneMailbox core c i j) × BothSpawn core c i j
-
--- ---- steps that are apart may be swapped
 
 -- The steps of i and then j, and those of j and then i, all move, and both orders lead to one configuration.
 pub record Swapped (core : CoreData) (c : Configuration) (i j : ℕ) : Type 0 where

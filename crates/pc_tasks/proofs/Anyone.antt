@@ -11,9 +11,9 @@ use Rattle.pc_core.specs.declared.nodes.NodeKind.TheVariants as node
 use Rattle.pc_semantics.specs.declared.frames.Frame.{Frame}
 use Rattle.pc_semantics.specs.declared.frames.Task.{Task}
 use Rattle.pc_semantics.specs.declared.frames.Task.TheVariants as task
-use Rattle.pc_semantics.specs.Around.{Move, with_top, with_stack, pop}
-use Rattle.pc_semantics.specs.Calls.{get_from, get_task, put_into, put_task}
-use Rattle.pc_semantics.specs.Step.{at_node}
+use Rattle.pc_semantics.specs.Configurations.{Move, with_stack, pop}
+use Rattle.pc_semantics.specs.Parts.{with_top, get_from, put_into, at_node}
+use Rattle.pc_semantics.specs.Calls.{get_task, put_task}
 use Rattle.pc_tasks.specs.Inside.{IsInside, amid, seeing, first_move, relieved}
 
 module _ (core : CoreData) (objects : ObjectMap) (i k : ℕ) where

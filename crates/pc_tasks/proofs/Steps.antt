@@ -10,9 +10,9 @@ use Rattle.pc_semantics.specs.declared.frames.Frame.{Frame}
 use Rattle.pc_semantics.specs.declared.frames.Task.{Task}
 use Rattle.pc_semantics.specs.declared.outcome.Outcome.{Outcome}
 use Rattle.pc_semantics.specs.declared.outcome.Outcome.TheVariants.{Lacks, TooLong}
-use Rattle.pc_semantics.specs.Configurations.{Configuration, with_objects, with_frames}
-use Rattle.pc_semantics.specs.Around.{Move, Stuck, Overflows, Goes, Writes, Makes, Spawns, Enters, Sends, Leaves, with_tasks}
-use Rattle.pc_semantics.specs.Step.{task_move, around, made, run_task, run_frames, step_of, step}
+use Rattle.pc_semantics.specs.Configurations.{Configuration, with_frames, Move, Stuck, Overflows, Goes, Writes, Makes, Spawns, Enters, Sends, Leaves, with_tasks}
+use Rattle.pc_semantics.specs.Parts.{with_objects, run_task, step_of}
+use Rattle.pc_semantics.specs.Step.{task_move, around, made, run_frames, step}
 use Rattle.pc_tasks.specs.Inside.{IsInside, StaysInside, ended, first_move}
 
 -- Nothing changes if the objects and the frames are unchanged.

@@ -1,21 +1,23 @@
 -- A field may be written if its object has it.
-use Rattle.std.proofs.Common.{◌≡◌, ℕ, ◌<◌, List, [], ◌∷◌, Option, Some, None, length, refl, sym, ap, ◌∙◌, arith}
-use Rattle.std.specs.Prelude.{slice_get}
+use Rattle.std.proofs.Common.{◌≡◌, ℕ, ◌<◌, List, [], ◌∷◌, Option, Some, None, length, drop, refl, sym, ap, ◌∙◌, arith}
+use Rattle.std.specs.Prelude.{slice_get, slice_set}
 use Rattle.std.specs.FinMap.{get}
 use Rattle.std.proofs.lemmas.Option.{same_Some, none-some}
 use Rattle.pc_lists.proofs.Gets.{get_below, get_within}
 use Rattle.pc_lists.proofs.Lookup.{place_found}
 use Rattle.pc_lists.specs.Lists.{place_of, ◌>>=◌}
-use Rattle.pc_heap.specs.Objects.{Object, ObjectMap, class_in, class_at}
+use Rattle.pc_heap.specs.Objects.{Object, ObjectMap, class_at}
+use Rattle.pc_heap.specs.Fields.{field_at}
+use Rattle.pc_heap.specs.Parts.{class_in, field_in}
 use Rattle.pc_heap.specs.declared.value.Address.{Address}
 use Rattle.pc_heap.specs.declared.value.Value.{Value}
 use Rattle.pc_heap.specs.declared.value.Value.TheVariants.{At}
-use Rattle.pc_core.specs.CoreData.{CoreData, field_name, field_named}
+use Rattle.pc_core.specs.CoreData.{CoreData, field_named}
+use Rattle.pc_core.specs.Parts.{field_name}
 use Rattle.pc_core.specs.declared.declarations.EntityDef.{EntityDef}
 use Rattle.pc_semantics.specs.declared.frames.Frame.{Frame}
-use Rattle.pc_semantics.specs.Around.{with_stack, with_top, pop}
-use Rattle.pc_semantics.specs.Configurations.{number_of_fields}
-use Rattle.pc_semantics.specs.Calls.{put_value, put_field, put_of, put_into}
+use Rattle.pc_semantics.specs.Configurations.{with_stack, pop}
+use Rattle.pc_semantics.specs.Parts.{with_top, number_of_fields, put_value, put_field, put_of, put_into}
 use Rattle.pc_semantics.specs.declared.ahead.Ahead.TheVariants as ahead
 use Rattle.pc_semantics.specs.Ahead.{by_move}
 use Rattle.pc_tasks.specs.Fielded.{HasFields, Fielded}
@@ -63,3 +65,37 @@ module _ (core : CoreData) (objects : ObjectMap) (fielded : Fielded core objects
 pub written : (core : CoreData) (objects : ObjectMap) (f : Frame) (name i e : ℕ) (a : Address) → Fielded core objects → 1 < length f.stack → slice_get f.stack 0 ≡ Some (At a) → class_at objects a ≡ Some e → field_named core e name ≡ Some i
     → ahead.Task ≡ by_move (pop f (λ o g. pop g (put_into core (seeing objects) name o)))
 written core objects f name i e a fielded l is class named = top_written core objects fielded name i e a named f f.stack l is class
+
+-- ---- what is popped
+
+-- The object and the value are on top of the stack.
+pub put_popped : (core : CoreData) (objects : ObjectMap) (f : Frame) (vs : List Value) (name : ℕ) (a : Address) (v : Value) → slice_get vs 0 ≡ Some (At a) → slice_get vs 1 ≡ Some v
+    → with_top f vs (λ o g. pop g (put_into core (seeing objects) name o)) ≡ put_of core (with_stack f (drop 2 vs)) name a v (get objects a)
+put_popped core objects f [] name a v top next = absurd (none-some (At a) top)
+put_popped core objects f (x ∷ []) name a v top next = absurd (none-some v next)
+put_popped core objects f (x ∷ y ∷ vs) name a v top next =
+    ap (λ (o : Value). put_into core (seeing objects) name o y (with_stack f vs)) (same_Some x (At a) top)
+    ∙ ap (λ (z : Value). put_of core (with_stack f vs) name a z (get objects a)) (same_Some y v next)
+
+-- The object has the field, or it has none of this number.
+pub put_is : (core : CoreData) (f : Frame) (o : Option Object) (name i e : ℕ) (a : Address) (v : Value) (s : Option (Option Value)) → class_in o ≡ Some e → field_named core e name ≡ Some i → field_in o i ≡ s → put_of core f name a v o ≡ put_value f a i v s
+put_is core f None name i e a v s class named is = absurd (none-some e class)
+put_is core f (Some o) name i e a v s class named is =
+    ap (put_field f a o v) (ap (λ n. field_named core n name) (same_Some o.entity e class) ∙ named)
+    ∙ ap (put_value f a i v) is
+
+module _ (core : CoreData) (objects : ObjectMap) (f : Frame) (name i e : ℕ) (a : Address) (v : Value) (top : slice_get f.stack 0 ≡ Some (At a)) (next : slice_get f.stack 1 ≡ Some v) (class : class_at objects a ≡ Some e) (named : field_named core e name ≡ Some i) where
+  pub put_ends : (s : Option (Option Value)) → field_at objects a i ≡ s → pop f (λ o g. pop g (put_into core (seeing objects) name o)) ≡ put_value (with_stack f (drop 2 f.stack)) a i v s
+  put_ends s is = put_popped core objects f f.stack name a v top next ∙ put_is core (with_stack f (drop 2 f.stack)) (get objects a) name i e a v s class named is
+
+-- ---- what is left on the stack
+
+pub both_less : (vs : List Value) (w : Value) → drop 1 (drop 1 (slice_set vs 1 w)) ≡ drop 2 vs
+both_less [] w = refl
+both_less (x ∷ []) w = refl
+both_less (x ∷ y ∷ vs) w = refl
+
+pub one_less : (vs : List Value) (v w : Value) → slice_get vs 1 ≡ Some v → drop 1 (slice_set vs 1 w) ≡ w ∷ drop 2 vs
+one_less [] v w e = absurd (none-some v e)
+one_less (x ∷ []) v w e = absurd (none-some v e)
+one_less (x ∷ y ∷ vs) v w e = refl

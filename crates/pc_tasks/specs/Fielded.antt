@@ -3,7 +3,7 @@ use Rattle.std.specs.Prelude.{◌≡◌, Some, length, slice_get}
 use Rattle.std.specs.FinMap.{get}
 use Rattle.pc_heap.specs.{Objects.Object, Objects.ObjectMap, declared.value.Address.Address}
 use Rattle.pc_core.specs.CoreData.{CoreData}
-use Rattle.pc_semantics.specs.Configurations.{number_of_fields}
+use Rattle.pc_semantics.specs.Parts.{number_of_fields}
 
 -- The object has a place for each field of its entity.
 abbrev pub HasFields : CoreData → Object → Type 0

@@ -2,11 +2,11 @@
 //! only read, and do not allocate.
 ghost use Rattle.std.specs.Prelude.{◌≡◌, ℕ, Bool, slice_get, List as Sequence};
 ghost use Rattle.pc_semantics.specs.Ahead.{by_move};
-ghost use Rattle.pc_semantics.specs.Around.{pop, Goes};
+ghost use Rattle.pc_semantics.specs.Configurations.{pop, Goes};
 ghost use Rattle.pc_semantics.specs.Evaluation as evaluation;
+ghost use Rattle.pc_semantics.specs.Parts as parts;
 ghost use Rattle.pc_semantics.specs.Calls as fields;
-ghost use Rattle.pc_semantics.specs.Operators as operators;
-ghost use Rattle.pc_semantics.specs.Step.{at_node};
+ghost use Rattle.pc_semantics.specs.Parts.{at_node};
 ghost use Rattle.pc_semantics.specs.declared.frames.Frame.{Frame};
 ghost use Rattle.pc_semantics.specs.declared.frames.Task.{Task};
 ghost use Rattle.pc_tasks.specs.Fielded.{Fielded};
@@ -20,8 +20,8 @@ use pc_tree::Op;
 
 // The value of a slot is pushed, or taken out of the slot.
 fn slot(frame: &Frame, slot: u32) -> Ahead
-    ensures read { result ≡ by_move (evaluation.push_slot (relieved frame.now) (slice_get frame.now.slots slot)) }
-    ensures taken { result ≡ by_move (evaluation.take_slot (relieved frame.now) slot (slice_get frame.now.slots slot)) }
+    ensures read { result ≡ by_move (parts.push_slot (relieved frame.now) (slice_get frame.now.slots slot)) }
+    ensures taken { result ≡ by_move (parts.take_slot (relieved frame.now) slot (slice_get frame.now.slots slot)) }
 {
     match frame.slots.get(slot as usize) {
         Some(_) => Ahead::Task,
@@ -72,7 +72,7 @@ fn evaluate_kind(frame: &Frame, children: &[u32], kind: &NodeKind) -> Ahead
 
 // The task Eval of this node.
 fn evaluate(core: &Core, frame: &Frame, number: u32) -> Ahead
-    ensures { result ≡ by_move (evaluation.evaluate_node (relieved frame.now) number (slice_get core.now.nodes number)) }
+    ensures { result ≡ by_move (parts.evaluate_node (relieved frame.now) number (slice_get core.now.nodes number)) }
 {
     match core.node_at(number) {
         Some(node) => evaluate_kind(frame, node.children.as_slice(), &node.kind),
@@ -82,7 +82,7 @@ fn evaluate(core: &Core, frame: &Frame, number: u32) -> Ahead
 
 // The field with this name of the object on top is read.
 fn read(core: &Core, heap: &Heap, frame: &Frame, name: u32) -> Ahead
-    ensures { result ≡ by_move (pop (relieved frame.now) (fields.get_from core.now (seeing heap.now.objects) name)) }
+    ensures { result ≡ by_move (pop (relieved frame.now) (parts.get_from core.now (seeing heap.now.objects) name)) }
 {
     let Some(Value::At(address)) = frame.stack.top() else {
         return Ahead::Lacks;
@@ -138,7 +138,7 @@ fn get(core: &Core, heap: &Heap, frame: &Frame, number: u32) -> Ahead
 #[tactic(auto, using(crate::proofs::Written::written))]
 fn write(core: &Core, heap: &Heap, frame: &Frame, name: u32) -> Ahead
     requires { Fielded core.now heap.now.objects }
-    ensures { result ≡ by_move (pop (relieved frame.now) (λ o g. pop g (fields.put_into core.now (seeing heap.now.objects) name o))) }
+    ensures { result ≡ by_move (pop (relieved frame.now) (λ o g. pop g (parts.put_into core.now (seeing heap.now.objects) name o))) }
 {
     if frame.stack.len() < 2 {
         return Ahead::Lacks;
@@ -238,7 +238,7 @@ fn store(core: &Core, frame: &Frame, number: u32) -> Ahead
 
 // The value of an operator, if it has one.
 fn given(value: Option<Value>) -> Ahead
-    ensures { (f : Frame) → result ≡ by_move (operators.push_or_lack f value) }
+    ensures { (f : Frame) → result ≡ by_move (parts.push_or_lack f value) }
 {
     match value {
         Some(_) => Ahead::Task,
@@ -248,7 +248,7 @@ fn given(value: Option<Value>) -> Ahead
 
 // An operator on two texts.
 fn of_texts(op: Op, left: &Text, right: &Text) -> Ahead
-    ensures { (f : Frame) → result ≡ by_move (operators.of_texts f op left.now right.now) }
+    ensures { (f : Frame) → result ≡ by_move (evaluation.of_texts f op left.now right.now) }
 {
     match op {
         Op::Add => {
@@ -277,7 +277,7 @@ fn of_texts(op: Op, left: &Text, right: &Text) -> Ahead
 
 // A binary operator on two values.
 fn binary(op: Op, left: &Value, right: &Value) -> Ahead
-    ensures { (f : Frame) → result ≡ by_move (operators.binary f op left.now right.now) }
+    ensures { (f : Frame) → result ≡ by_move (evaluation.binary f op left.now right.now) }
 {
     match (left, right) {
         (Value::Num(left), Value::Num(right)) => given(of_numbers(op, *left, *right)),
@@ -290,7 +290,7 @@ fn binary(op: Op, left: &Value, right: &Value) -> Ahead
 
 // A binary operator: the right operand is on top.
 fn apply_binary(frame: &Frame, op: Op) -> Ahead
-    ensures { result ≡ by_move (pop (relieved frame.now) (λ w g. pop g (λ v h. operators.binary h op v w))) }
+    ensures { result ≡ by_move (pop (relieved frame.now) (λ w g. pop g (λ v h. evaluation.binary h op v w))) }
 {
     let Some(right) = frame.stack.top() else {
         return Ahead::Lacks;
@@ -303,7 +303,7 @@ fn apply_binary(frame: &Frame, op: Op) -> Ahead
 
 // `is` or `isnt`.
 fn apply_same(frame: &Frame) -> Ahead
-    ensures { (wanted : Bool) → result ≡ by_move (pop (relieved frame.now) (λ w g. pop g (λ v h. operators.compared h wanted v w))) }
+    ensures { (wanted : Bool) → result ≡ by_move (pop (relieved frame.now) (λ w g. pop g (λ v h. parts.compared h wanted v w))) }
 {
     if frame.stack.len() < 2 {
         Ahead::Lacks
@@ -314,7 +314,7 @@ fn apply_same(frame: &Frame) -> Ahead
 
 // `not`.
 fn apply_not(frame: &Frame) -> Ahead
-    ensures { result ≡ by_move (pop (relieved frame.now) (λ v g. operators.negated g v)) }
+    ensures { result ≡ by_move (pop (relieved frame.now) (λ v g. parts.negated g v)) }
 {
     match frame.stack.top() {
         Some(Value::Truth(_)) => Ahead::Task,
@@ -432,7 +432,7 @@ fn test(core: &Core, frame: &Frame, number: u32) -> Ahead
 
 // One of two branches is evaluated.
 fn take_branch(frame: &Frame, children: &[u32]) -> Ahead
-    ensures { result ≡ by_move (evaluation.branch_task (relieved frame.now) children.now) }
+    ensures { result ≡ by_move (parts.branch_task (relieved frame.now) children.now) }
 {
     let Some(Value::Truth(_)) = frame.stack.top() else {
         return Ahead::Lacks;
@@ -445,7 +445,7 @@ fn take_branch(frame: &Frame, children: &[u32]) -> Ahead
 
 // The task Branch of this node.
 fn branch(core: &Core, frame: &Frame, number: u32) -> Ahead
-    ensures { result ≡ by_move (at_node (slice_get core.now.nodes number) (λ x. evaluation.branch_task (relieved frame.now) x.children)) }
+    ensures { result ≡ by_move (at_node (slice_get core.now.nodes number) (λ x. parts.branch_task (relieved frame.now) x.children)) }
 {
     match core.node_at(number) {
         Some(node) => take_branch(frame, node.children.as_slice()),
@@ -455,7 +455,7 @@ fn branch(core: &Core, frame: &Frame, number: u32) -> Ahead
 
 // A turn of a `while` with these children, or its end.
 fn turn(frame: &Frame, children: &[u32]) -> Ahead
-    ensures { (n : ℕ) → result ≡ by_move (evaluation.loop_task (relieved frame.now) n children.now) }
+    ensures { (n : ℕ) → result ≡ by_move (parts.loop_task (relieved frame.now) n children.now) }
 {
     let Some(Value::Truth(_)) = frame.stack.top() else {
         return Ahead::Lacks;
@@ -468,7 +468,7 @@ fn turn(frame: &Frame, children: &[u32]) -> Ahead
 
 // The task Loop of this node.
 fn go_round(core: &Core, frame: &Frame, number: u32) -> Ahead
-    ensures { result ≡ by_move (at_node (slice_get core.now.nodes number) (λ x. evaluation.loop_task (relieved frame.now) number x.children)) }
+    ensures { result ≡ by_move (at_node (slice_get core.now.nodes number) (λ x. parts.loop_task (relieved frame.now) number x.children)) }
 {
     match core.node_at(number) {
         Some(node) => turn(frame, node.children.as_slice()),

@@ -1,9 +1,9 @@
 //! Operators applied to the values on the stack.
 ghost use Rattle.std.specs.Prelude.{◌≡◌, ◌<◌, length, drop, slice_get, Some, IfOk, OnErr};
-ghost use Rattle.pc_semantics.specs.Around.{with_stack, pop};
-ghost use Rattle.pc_semantics.specs.Operators as operators;
+ghost use Rattle.pc_semantics.specs.Configurations.{with_stack, pop};
+ghost use Rattle.pc_semantics.specs.Parts as parts;
 ghost use Rattle.pc_semantics.specs.Evaluation as spec;
-ghost use Rattle.pc_semantics.specs.Step.{at_node};
+ghost use Rattle.pc_semantics.specs.Parts.{at_node};
 ghost use Rattle.pc_tasks.specs.Applied.{applied_to};
 ghost use Rattle.pc_tasks.specs.Inside.{relieved, within};
 
@@ -55,7 +55,7 @@ fn replace_two(frame: &mut Frame, applied: Applied) -> Outcome
 #[inline(always)]
 fn apply_binary(alloc: Global, frame: &mut Frame, op: Op) -> Result<Outcome, AllocError>
     requires { 0 < length frame.old.tasks }
-    ensures ok { IfOk result (λ o. within frame.old (pop (relieved frame.old) (λ w g. pop g (λ v h. operators.binary h op v w))) ≡ Some (o, frame.new)) }
+    ensures ok { IfOk result (λ o. within frame.old (pop (relieved frame.old) (λ w g. pop g (λ v h. spec.binary h op v w))) ≡ Some (o, frame.new)) }
     ensures err { OnErr result (frame.new ≡ frame.old) }
 {
     let Some(right) = frame.stack.top() else {
@@ -71,7 +71,7 @@ fn apply_binary(alloc: Global, frame: &mut Frame, op: Op) -> Result<Outcome, All
 // `is` or `isnt`.
 fn apply_same(frame: &mut Frame, wanted: bool) -> Outcome
     requires { 0 < length frame.old.tasks }
-    ensures { within frame.old (pop (relieved frame.old) (λ w g. pop g (λ v h. operators.compared h wanted v w))) ≡ Some (result, frame.new) }
+    ensures { within frame.old (pop (relieved frame.old) (λ w g. pop g (λ v h. parts.compared h wanted v w))) ≡ Some (result, frame.new) }
 {
     let Some(right) = frame.stack.top() else {
         return Outcome::Lacks(Lack::Value);
@@ -86,7 +86,7 @@ fn apply_same(frame: &mut Frame, wanted: bool) -> Outcome
 // `not`.
 fn apply_not(frame: &mut Frame) -> Outcome
     requires { 0 < length frame.old.tasks }
-    ensures { within frame.old (pop (relieved frame.old) (λ v g. operators.negated g v)) ≡ Some (result, frame.new) }
+    ensures { within frame.old (pop (relieved frame.old) (λ v g. parts.negated g v)) ≡ Some (result, frame.new) }
 {
     let Some(value) = frame.stack.top() else {
         return Outcome::Lacks(Lack::Value);

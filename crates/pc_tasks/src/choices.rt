@@ -1,8 +1,9 @@
 //! Tasks that look at a truth value and choose what to do next.
 ghost use Rattle.std.specs.Prelude.{◌≡◌, ◌<◌, length, drop, slice_get, Some, IfOk, OnErr};
-ghost use Rattle.pc_semantics.specs.Around.{Goes, with_stack, pop};
+ghost use Rattle.pc_semantics.specs.Configurations.{Goes, with_stack, pop};
 ghost use Rattle.pc_semantics.specs.Evaluation as spec;
-ghost use Rattle.pc_semantics.specs.Step.{at_node};
+ghost use Rattle.pc_semantics.specs.Parts as parts;
+ghost use Rattle.pc_semantics.specs.Parts.{at_node};
 ghost use Rattle.pc_tasks.specs.Inside.{relieved, within};
 
 use crate::frames::go_on_with;
@@ -95,7 +96,7 @@ pub fn test(core: &Core, frame: &mut Frame, number: u32) -> Outcome
 /// The task Branch of this node: one of the two branches is evaluated.
 pub fn branch(core: &Core, frame: &mut Frame, number: u32) -> Outcome
     requires { 0 < length frame.old.tasks }
-    ensures { within frame.old (at_node (slice_get core.now.nodes number) (λ x. spec.branch_task (relieved frame.old) x.children)) ≡ Some (result, frame.new) }
+    ensures { within frame.old (at_node (slice_get core.now.nodes number) (λ x. parts.branch_task (relieved frame.old) x.children)) ≡ Some (result, frame.new) }
 {
     match core.node_at(number) {
         Some(node) => take_branch(frame, node.children.as_slice()),
@@ -106,7 +107,7 @@ pub fn branch(core: &Core, frame: &mut Frame, number: u32) -> Outcome
 // One of the two branches is evaluated.
 fn take_branch(frame: &mut Frame, children: &[u32]) -> Outcome
     requires { 0 < length frame.old.tasks }
-    ensures { within frame.old (spec.branch_task (relieved frame.old) children.now) ≡ Some (result, frame.new) }
+    ensures { within frame.old (parts.branch_task (relieved frame.old) children.now) ≡ Some (result, frame.new) }
 {
     let Some(Value::Truth(truth)) = frame.stack.top() else {
         return Outcome::Lacks(Lack::Value);
@@ -124,7 +125,7 @@ fn take_branch(frame: &mut Frame, children: &[u32]) -> Outcome
 /// value is None.
 pub fn go_round(core: &Core, frame: &mut Frame, number: u32) -> Result<Outcome, AllocError>
     requires { 0 < length frame.old.tasks }
-    ensures ok { IfOk result (λ o. within frame.old (at_node (slice_get core.now.nodes number) (λ x. spec.loop_task (relieved frame.old) number x.children)) ≡ Some (o, frame.new)) }
+    ensures ok { IfOk result (λ o. within frame.old (at_node (slice_get core.now.nodes number) (λ x. parts.loop_task (relieved frame.old) number x.children)) ≡ Some (o, frame.new)) }
     ensures err { OnErr result (frame.new ≡ frame.old) }
 {
     match core.node_at(number) {
@@ -136,7 +137,7 @@ pub fn go_round(core: &Core, frame: &mut Frame, number: u32) -> Result<Outcome, 
 // A turn of the `while` with these children, or its end.
 fn turn(frame: &mut Frame, number: u32, children: &[u32]) -> Result<Outcome, AllocError>
     requires { 0 < length frame.old.tasks }
-    ensures ok { IfOk result (λ o. within frame.old (spec.loop_task (relieved frame.old) number children.now) ≡ Some (o, frame.new)) }
+    ensures ok { IfOk result (λ o. within frame.old (parts.loop_task (relieved frame.old) number children.now) ≡ Some (o, frame.new)) }
     ensures err { OnErr result (frame.new ≡ frame.old) }
 {
     let Some(Value::Truth(truth)) = frame.stack.top() else {

@@ -1,7 +1,8 @@
 //! The evaluation of nodes.
 ghost use Rattle.std.specs.Prelude.{◌≡◌, ◌<◌, ◌∷◌, ◌++◌, [], length, None, Some, option_to_list, slice_get, IfOk, OnOk, OnErr};
-ghost use Rattle.pc_semantics.specs.Around.{Goes, doing};
+ghost use Rattle.pc_semantics.specs.Configurations.{Goes, doing};
 ghost use Rattle.pc_semantics.specs.Evaluation as spec;
+ghost use Rattle.pc_semantics.specs.Parts as parts;
 ghost use Rattle.pc_tasks.specs.Inside.{relieved, within};
 
 use crate::frames::{go_on_with, push_value};
@@ -15,7 +16,7 @@ use std::alloc::AllocError;
 #[inline(always)]
 fn push_slot(frame: &mut Frame, slot: u32) -> Result<Outcome, AllocError>
     requires { 0 < length frame.old.tasks }
-    ensures ok { IfOk result (λ o. within frame.old (spec.push_slot (relieved frame.old) (slice_get frame.old.slots slot)) ≡ Some (o, frame.new)) }
+    ensures ok { IfOk result (λ o. within frame.old (parts.push_slot (relieved frame.old) (slice_get frame.old.slots slot)) ≡ Some (o, frame.new)) }
     ensures err { OnErr result (frame.new ≡ frame.old) }
 {
     let Some(value) = frame.slots.get(slot as usize) else {
@@ -28,7 +29,7 @@ fn push_slot(frame: &mut Frame, slot: u32) -> Result<Outcome, AllocError>
 // A slot's value is pushed, and the slot becomes empty.
 fn take_slot(frame: &mut Frame, slot: u32) -> Result<Outcome, AllocError>
     requires { 0 < length frame.old.tasks }
-    ensures ok { IfOk result (λ o. within frame.old (spec.take_slot (relieved frame.old) slot (slice_get frame.old.slots slot)) ≡ Some (o, frame.new)) }
+    ensures ok { IfOk result (λ o. within frame.old (parts.take_slot (relieved frame.old) slot (slice_get frame.old.slots slot)) ≡ Some (o, frame.new)) }
     ensures err { OnErr result (frame.new ≡ frame.old) }
 {
     let place = slot as usize;
@@ -137,7 +138,7 @@ fn evaluate(
 #[inline(always)]
 pub fn evaluate_node(core: &Core, frame: &mut Frame, number: u32) -> Result<Outcome, AllocError>
     requires { 0 < length frame.old.tasks }
-    ensures ok { IfOk result (λ o. within frame.old (spec.evaluate_node (relieved frame.old) number (slice_get core.now.nodes number)) ≡ Some (o, frame.new)) }
+    ensures ok { IfOk result (λ o. within frame.old (parts.evaluate_node (relieved frame.old) number (slice_get core.now.nodes number)) ≡ Some (o, frame.new)) }
     ensures err { OnErr result (frame.new ≡ frame.old) }
 {
     let Some(node) = core.node_at(number) else {

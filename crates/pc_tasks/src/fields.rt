@@ -1,8 +1,9 @@
 //! Reading and writing fields, and storing in slots.
 ghost use Rattle.std.specs.Prelude.{◌≡◌, ◌<◌, length, slice_get, Some, IfOk, OnErr};
-ghost use Rattle.pc_semantics.specs.Around.{pop};
+ghost use Rattle.pc_semantics.specs.Configurations.{pop};
 ghost use Rattle.pc_semantics.specs.Calls as spec;
-ghost use Rattle.pc_semantics.specs.Step.{at_node};
+ghost use Rattle.pc_semantics.specs.Parts as parts;
+ghost use Rattle.pc_semantics.specs.Parts.{at_node};
 ghost use Rattle.pc_tasks.specs.Inside.{seeing, relieved, within, ended};
 
 use crate::values::none;
@@ -14,7 +15,7 @@ use std::alloc::AllocError;
 // The field with this name of the object on top is read.
 fn read(core: &Core, heap: &Heap, frame: &mut Frame, name: u32) -> Result<Outcome, AllocError>
     requires { 0 < length frame.old.tasks }
-    ensures ok { IfOk result (λ o. within frame.old (pop (relieved frame.old) (spec.get_from core.now (seeing heap.now.objects) name)) ≡ Some (o, frame.new)) }
+    ensures ok { IfOk result (λ o. within frame.old (pop (relieved frame.old) (parts.get_from core.now (seeing heap.now.objects) name)) ≡ Some (o, frame.new)) }
     ensures err { OnErr result (frame.new ≡ frame.old) }
 {
     let address = match frame.stack.top() {
@@ -139,7 +140,7 @@ pub fn store(core: &Core, frame: &mut Frame, number: u32) -> Result<Outcome, All
 // The field with this name of the object on top gets the value below it.
 fn write(core: &Core, heap: &mut Heap, frame: &mut Frame, name: u32) -> Outcome
     requires { 0 < length frame.old.tasks }
-    ensures end { ended heap.old.objects frame.old (pop (relieved frame.old) (λ o g. pop g (spec.put_into core.now (seeing heap.old.objects) name o))) ≡ Some (result, heap.new.objects, frame.new) }
+    ensures end { ended heap.old.objects frame.old (pop (relieved frame.old) (λ o g. pop g (parts.put_into core.now (seeing heap.old.objects) name o))) ≡ Some (result, heap.new.objects, frame.new) }
     ensures room { heap.new.room ≡ heap.old.room }
 {
     if frame.stack.len() < 2 {

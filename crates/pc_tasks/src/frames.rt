@@ -1,6 +1,6 @@
 //! How a frame goes on.
 ghost use Rattle.std.specs.Prelude.{◌≡◌, ◌<◌, length, Some, IfOk, OnOk, OnErr};
-ghost use Rattle.pc_semantics.specs.Around.{Goes, pushed, doing};
+ghost use Rattle.pc_semantics.specs.Configurations.{Goes, pushed, doing};
 ghost use Rattle.pc_tasks.specs.Inside.{relieved, within};
 
 use pc_heap::Value;

@@ -1,6 +1,7 @@
 //! When two values are the same.
 ghost use Rattle.std.specs.Prelude.{◌≡◌};
-ghost use Rattle.pc_semantics.specs.Operators as spec;
+ghost use Rattle.pc_semantics.specs.Evaluation as spec;
+ghost use Rattle.pc_semantics.specs.Parts as parts;
 
 use pc_heap::{Address, Value};
 
@@ -12,7 +13,7 @@ pub fn same_truth(left: bool, right: bool) -> bool
 }
 
 fn same_address(left: Address, right: Address) -> bool
-    ensures { result ≡ spec.same_address left right }
+    ensures { result ≡ parts.same_address left right }
 {
     if left.maker == right.maker {
         left.serial == right.serial

@@ -2,7 +2,8 @@
 ghost use Rattle.std.specs.Prelude.{◌≡◌, ◌/◌, ◌%◌, ◌++◌, length, nat_lt, IfOk};
 ghost use Rattle.pc_caps.specs.Limits.{text_limit};
 ghost use Rattle.pc_semantics.specs.declared.frames.Frame.{Frame};
-ghost use Rattle.pc_semantics.specs.Operators as spec;
+ghost use Rattle.pc_semantics.specs.Evaluation as spec;
+ghost use Rattle.pc_semantics.specs.Parts as parts;
 ghost use Rattle.pc_tasks.specs.Applied.{applied_to};
 
 use crate::identity::same_truth;
@@ -24,13 +25,13 @@ pub enum Applied {
 
 // A quotient or remainder by 0 is 0.
 fn quotient(left: u64, right: u64) -> u64
-    ensures { result ≡ spec.unless_by_zero right (left / right) }
+    ensures { result ≡ parts.unless_by_zero right (left / right) }
 {
     if right == 0 { 0 } else { left / right }
 }
 
 fn remainder(left: u64, right: u64) -> u64
-    ensures { result ≡ spec.unless_by_zero right (left % right) }
+    ensures { result ≡ parts.unless_by_zero right (left % right) }
 {
     if right == 0 { 0 } else { left % right }
 }
@@ -91,7 +92,7 @@ pub fn is_too_long(left: &Text, right: &Text) -> bool
 
 // Both texts joined.
 fn joined(alloc: Global, left: &Text, right: &Text) -> Result<Applied, AllocError>
-    ensures { IfOk result (λ r. (f : Frame) → applied_to f r ≡ spec.joined_text f (left.now ++ right.now)) }
+    ensures { IfOk result (λ r. (f : Frame) → applied_to f r ≡ parts.joined_text f (left.now ++ right.now)) }
 {
     if is_too_long(left, right) {
         Ok(Applied::TooLong)
@@ -127,7 +128,7 @@ fn of_texts(alloc: Global, op: Op, left: &Text, right: &Text) -> Result<Applied,
 // A value, if there is one.
 #[inline(always)]
 fn given(value: Option<Value>) -> Applied
-    ensures { (f : Frame) → applied_to f result ≡ spec.push_or_lack f value }
+    ensures { (f : Frame) → applied_to f result ≡ parts.push_or_lack f value }
 {
     match value {
         Some(value) => Applied::Gives(value),
@@ -152,7 +153,7 @@ pub fn binary(alloc: Global, op: Op, left: &Value, right: &Value) -> Result<Appl
 
 /// `not` of a value.
 pub fn negated(value: &Value) -> Applied
-    ensures { (f : Frame) → applied_to f result ≡ spec.negated f value.now }
+    ensures { (f : Frame) → applied_to f result ≡ parts.negated f value.now }
 {
     match value {
         Value::Truth(truth) => Applied::Gives(Value::Truth(!*truth)),

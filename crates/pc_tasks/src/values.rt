@@ -1,6 +1,6 @@
 //! The value that carries no information.
 ghost use Rattle.std.specs.Prelude.{◌≡◌};
-ghost use Rattle.pc_semantics.specs.Around as spec;
+ghost use Rattle.pc_semantics.specs.Configurations as spec;
 
 use pc_heap::Value;
 use pc_tree::NONE_ENTITY;

@@ -12,8 +12,8 @@ use Rattle.pc_tree.specs.declared.kinds.MethodWord.TheVariants as method
 use Rattle.pc_token.specs.declared.kinds.Token.{Token}
 use Rattle.pc_token.specs.declared.words.Word.{Word}
 use Rattle.pc_token.specs.declared.words.Word.TheVariants as w
-use Rattle.pc_grammar.specs.Spells.{over, SpellsType, SpellsTyped, Spells, SpellsTerms, SpellsMoreTerms, SpellsSuffixes, SpellsArgs, SpellsMoreArgs, SpellsArm, SpellsArms, SpellsMoreArms, SpellsOther, SpellsSeq, SpellsItems, SpellsMoreItems, SpellsItem}
-use Rattle.pc_grammar.specs.SpellsFile.{SpellsValue, SpellsField, SpellsFields, SpellsBody, SpellsMethod, SpellsMethods, SpellsEntity}
+use Rattle.pc_grammar.specs.Spells.{over, SpellsType, SpellsTyped, Spells, SpellsTerms, SpellsMoreTerms, SpellsSuffixes, SpellsArgs, SpellsMoreArgs, SpellsArm, SpellsArms, SpellsMoreArms, SpellsOther, SpellsSeq, SpellsItems, SpellsMoreItems, SpellsItem, SpellsValue, SpellsField, SpellsBody, SpellsMethod, SpellsEntity}
+use Rattle.pc_grammar.specs.Parts.{SpellsFields, SpellsMethods}
 use Rattle.pc_body_spec.specs.Bodies.{initial_fields}
 use Rattle.pc_body_spec.specs.Places.{written_places, places, exprs_places, suffixes_places, arm_places, arms_places, other_places, seq_places, items_places, item_places, value_places, initial_places, written_body_places, body_places}
 use Rattle.pc_text_order.specs.Laws.{BodiesAscend}

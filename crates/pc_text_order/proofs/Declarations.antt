@@ -6,7 +6,8 @@ use Rattle.pc_tree.specs.declared.written_names.TypeRef.{TypeRef}
 use Rattle.pc_tree.specs.declared.file.ParamDef.{ParamDef}
 use Rattle.pc_tree.specs.declared.kinds.EntityKind.{EntityKind}
 use Rattle.pc_token.specs.declared.kinds.Token.{Token}
-use Rattle.pc_grammar.specs.SpellsFile.{SpellsReturns, SpellsParam, SpellsMoreParams, SpellsParamList, SpellsParams, SpellsField, SpellsFields, SpellsMethod, SpellsMethods, SpellsMoreNames, SpellsNames, SpellsAlone, SpellsProvides, SpellsEntity}
+use Rattle.pc_grammar.specs.Spells.{SpellsReturns, SpellsParam, SpellsMoreParams, SpellsParamList, SpellsParams, SpellsField, SpellsMethod, SpellsMoreNames, SpellsNames, SpellsAlone, SpellsProvides, SpellsEntity}
+use Rattle.pc_grammar.specs.Parts.{SpellsFields, SpellsMethods}
 use Rattle.pc_names.specs.Laws.{name_start, result_places, field_places, param_places, method_places, declared_places}
 use Rattle.pc_text_order.specs.Laws.{DeclarationsAscend}
 use Rattle.pc_text_order.proofs.Among.{Among, nothing, put, after, both, past, before, moved, among_ascends}

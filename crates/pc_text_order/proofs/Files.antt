@@ -4,7 +4,8 @@ use Rattle.std.specs.Prelude.{slice_get}
 use Rattle.std.proofs.lemmas.Option.{same_Some, none-some}
 use Rattle.pc_tree.specs.Tree as t
 use Rattle.pc_token.specs.declared.kinds.Token.{Token}
-use Rattle.pc_grammar.specs.SpellsFile.{SpellsEntity, SpellsMoreEntities, SpellsEntities, SpellsFile}
+use Rattle.pc_grammar.specs.Spells.{SpellsEntity, SpellsEntities, SpellsFile}
+use Rattle.pc_grammar.specs.Parts.{SpellsMoreEntities}
 use Rattle.pc_text_order.proofs.Among.{Among, past, before, moved}
 
 module _ (e : t.Entity) (ns : List ℕ) (part : (us : List Token) → SpellsEntity e us → Among ns us) where

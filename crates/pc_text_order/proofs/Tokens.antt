@@ -3,7 +3,8 @@ use Rattle.std.proofs.Common.{◌≡◌, ℕ, zero, suc, ◌+◌, ◌<◌, ◌�
 use Rattle.std.proofs.lemmas.Option.{same_Some, none-some}
 use Rattle.pc_lists.specs.Lists.{Each, Ascends}
 use Rattle.pc_token.specs.declared.kinds.Token.{Token}
-use Rattle.pc_lex.specs.Pieces.{Piece, gap, token, Pieces, tokens_of, has_line_end}
+use Rattle.pc_lex.specs.Pieces.{Piece, gap, token, Pieces, tokens_of}
+use Rattle.pc_lex.specs.Parts.{has_line_end}
 use Rattle.pc_lex.proofs.OneCut.{piece_some}
 use Rattle.pc_expr.specs.Gives.{EndsWithEnd}
 use Rattle.pc_text_order.specs.Laws.{starts, TokensAscend, TokensEnd}

@@ -4,7 +4,7 @@ use Rattle.pc_lists.specs.Lists.{Ascends, Each}
 use Rattle.pc_token.specs.declared.kinds.Token.{Token}
 use Rattle.pc_lex.specs.Pieces.{Tokens}
 use Rattle.pc_expr.specs.Gives.{EndsWithEnd}
-use Rattle.pc_grammar.specs.SpellsFile.{SpellsFile}
+use Rattle.pc_grammar.specs.Spells.{SpellsFile}
 use Rattle.pc_body_spec.specs.Places.{initial_places, body_places}
 use Rattle.pc_tree.specs.Tree as t
 use Rattle.pc_names.specs.Laws as names

@@ -1,4 +1,3 @@
 pub mod Words
-pub mod Asking
 pub mod Laws
 pub mod Finding

@@ -1,10 +1,10 @@
--- The reserved words and the signs, and their spellings.
-use Rattle.std.specs.Prelude.{ℕ, List, if◌then◌else◌, codes}
-use Rattle.pc_token.specs.{declared.words.Word.Word, declared.signs.Sign.Sign}
+-- The reserved words and the signs, their spellings, and tests on a token.
+use denote.Enum.Bare.{sameb}
+use Rattle.std.specs.Prelude.{ℕ, List, if◌then◌else◌, codes, Bool, false}
+use Rattle.pc_token.specs.{declared.words.Word.Word, declared.signs.Sign.Sign, contracts.words.Word.the_type as word_type, contracts.signs.Sign.the_type as sign_type, declared.kinds.Token.Token, declared.kinds.TokenKind.TokenKind}
 use Rattle.pc_token.specs.declared.words.Word.TheVariants as word
 use Rattle.pc_token.specs.declared.signs.Sign.TheVariants as sign
-
--- ---- the reserved words
+use Rattle.pc_token.specs.declared.kinds.TokenKind.TheVariants as kind
 
 -- the spelling of a word
 abbrev pub word_text : Word → List ℕ
@@ -68,8 +68,6 @@ word_text word.CompileIntrinsicWord = codes "compile_intrinsic"
 word_text word.AddressofWord = codes "addressof"
 word_text word.DigestofWord = codes "digestof"
 
--- ---- the signs
-
 -- the spelling of a sign
 abbrev pub sign_text : Sign → List ℕ
 sign_text sign.Arrow = codes "=>"
@@ -93,3 +91,27 @@ sign_text sign.Slash = codes "/"
 sign_text sign.Percent = codes "%"
 sign_text sign.Less = codes "<"
 sign_text sign.Greater = codes ">"
+
+-- ---- tests on a token
+
+unfoldable pub same_word : Word → Word → Bool
+same_word = sameb word_type
+
+unfoldable pub same_sign : Sign → Sign → Bool
+same_sign = sameb sign_type
+
+abbrev pub kind_is_word : Word → TokenKind → Bool
+kind_is_word w (kind.Word x) = same_word x w
+kind_is_word w _ = false
+
+-- whether a token is this word
+unfoldable pub is_word : Word → Token → Bool
+is_word w t = kind_is_word w t.kind
+
+abbrev pub kind_is_sign : Sign → TokenKind → Bool
+kind_is_sign s (kind.Sign x) = same_sign x s
+kind_is_sign s _ = false
+
+-- whether a token is this sign
+unfoldable pub is_sign : Sign → Token → Bool
+is_sign s t = kind_is_sign s t.kind

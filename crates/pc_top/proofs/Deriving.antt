@@ -3,9 +3,9 @@ use Rattle.std.proofs.Common.{◌≡◌, ◌≤◌, ℕ, List, length, Ok, refl,
 use Rattle.pc_core.specs.CoreData.{CoreData}
 use Rattle.pc_core.specs.Formed.{Formed}
 use Rattle.pc_ann.specs.declared.annotation.Ann.{Ann}
-use Rattle.pc_deriv.specs.Text.{IsText, derivation_slot_limit, derivation_node_limit, deriv_text}
+use Rattle.pc_deriv.specs.Text.{IsText, deriv_text}
+use Rattle.pc_deriv.specs.Parts.{derivation_slot_limit, derivation_node_limit}
 use Rattle.pc_deriv.specs.declared.version.Version.TheVariants as version
-use Rattle.pc_core_relation.proofs.Files.{made_cores_stand}
 use Rattle.pc_core_relation.proofs.Ones.{standing_cores_are_made}
 use Rattle.pc_elab.specs.Cores.{CoresAreFormed as FilesAreFormed}
 use Rattle.pc_grammar.specs.FileAnswers.{IsFileAnswer, spelled}
@@ -35,8 +35,8 @@ use Rattle.pc_top.specs.CoresFormed.{CoresAreFormed, IsSmall}
 
 -- a source that all stages let pass
 pub source_says : {name : Text} {r : Reading} {s : Source} → SourceStage name r (Ok s) → (r ≡ whole s.bytes) × CoreOf s.bytes s.core
-source_says (goes (fits {bytes = b} short) (has_core (goes (lexed {ts = t} l) (goes (parsed {file = f} tree) (elaborated {core = c} made))))) =
-    (refl, record { short = short; tokens = t; file = f; lexed = l; parsed = tree; stands = made_cores_stand f c made })
+source_says (goes (fits {bytes = b} short) (has_core (goes (lexed {ts = t} l) (goes (parsed {file = f} tree) (elaborated made))))) =
+    (refl, record { short = short; tokens = t; file = f; lexed = l; parsed = tree; stands = made })
 
 -- one of which only the tree is needed: it was read whole, and its tokens spell this file
 pub file_says : {name : Text} {r : Reading} {f : t.File} → FileStage name r (Ok f)
@@ -44,7 +44,7 @@ pub file_says : {name : Text} {r : Reading} {f : t.File} → FileStage name r (O
 file_says (goes (fits {bytes = b} short) (goes (lexed {ts = ts} l) (parsed p))) = (b, refl, short, ts, l, p)
 
 pub core_passes : (name : Text) (bytes : List ℕ) (core : CoreData) → CoreOf bytes core → SourceStage name (whole bytes) (Ok (record { bytes = bytes; core = core }))
-core_passes name bytes core c = goes (fits c.short) (has_core (goes (lexed c.lexed) (goes (parsed c.parsed) (elaborated (standing_cores_are_made c.file core c.stands)))))
+core_passes name bytes core c = goes (fits c.short) (has_core (goes (lexed c.lexed) (goes (parsed c.parsed) (elaborated c.stands))))
 
 -- its core fits together and is small
 pub source_formed : CoresAreFormed → {name : Text} {r : Reading} {s : Source} → SourceStage name r (Ok s) → Formed s.core × IsSmall s.core

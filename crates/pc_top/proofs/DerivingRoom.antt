@@ -6,9 +6,11 @@ use Rattle.pc_ann.specs.declared.annotation.Ann.{Ann}
 use Rattle.pc_lists.specs.Lists.{Text}
 use Rattle.pc_args.specs.Asked.{Asked}
 use Rattle.pc_io.specs.Sink.{Change}
-use Rattle.pc_refusals.specs.Verdict.{AllKnown, Files, Named, NoneFailed, Verdict, IsAccepting}
+use Rattle.pc_refusals.specs.Verdict.{Files, Named, Verdict, IsAccepting}
+use Rattle.pc_refusals.specs.Knowing.{AllKnown, NoneFailed}
 use Rattle.pc_refusals.proofs.Statuses.{IsOwn, other_not_one, other_own}
-use Rattle.pc_top.specs.Commands.{IsVerdictOf, OnOutOf, files_of, infers, source_of}
+use Rattle.pc_top.specs.Commands.{IsVerdictOf, OnOutOf, infers, source_of}
+use Rattle.pc_top.specs.Words.{files_of}
 use Rattle.pc_top.specs.CoreOf.{IsDerivable}
 use Rattle.pc_top.specs.Shapes.{OfDerivation}
 use Rattle.pc_top.proofs.Room.{NotOne, Room, looks_for_none, of_file, zero_not_one, zero_own}

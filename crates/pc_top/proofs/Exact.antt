@@ -6,7 +6,8 @@ use Rattle.pc_args.specs.Asked.{Asked, check}
 use Rattle.pc_refusals.specs.Verdict.{Files, named, Verdict}
 use Rattle.pc_refusals.proofs.OneSource.{SourceLaws}
 use Rattle.pc_top.specs.Asked.{OfFile}
-use Rattle.pc_top.specs.Commands.{HasNumber, IsVerdictOf, infers, source_of}
+use Rattle.pc_top.specs.Commands.{IsVerdictOf, infers, source_of}
+use Rattle.pc_top.specs.Words.{HasNumber}
 use Rattle.pc_top.specs.Commands.Check.{Derived}
 use Rattle.pc_top.specs.CoreOf.{IsDerivable, IsUnderivable}
 use Rattle.pc_top.specs.Exact.{StatusesAreExact}

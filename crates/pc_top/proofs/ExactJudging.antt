@@ -11,11 +11,13 @@ use Rattle.pc_refusals.specs.Derivation.{in_parts}
 use Rattle.pc_refusals.specs.Derivation.Deriving.{reads}
 use Rattle.pc_refusals.specs.Derivation.Judging.{holds}
 use Rattle.pc_refusals.specs.Source.FromFile.{goes_on}
-use Rattle.pc_refusals.specs.Verdict.{AllKnown, Files, Named, IsReadingOf, NoneFailed, named, whole, Verdict, done}
+use Rattle.pc_refusals.specs.Verdict.{Files, Named, IsReadingOf, named, whole, Verdict, done}
+use Rattle.pc_refusals.specs.Knowing.{AllKnown, NoneFailed}
 use Rattle.pc_refusals.specs.Source.{source_limit}
 use Rattle.pc_refusals.specs.Source.Length.{fits}
 use Rattle.pc_refusals.proofs.Lengths.{text_within}
-use Rattle.pc_top.specs.Commands.{IsVerdictOf, files_of}
+use Rattle.pc_top.specs.Commands.{IsVerdictOf}
+use Rattle.pc_top.specs.Words.{files_of}
 use Rattle.pc_core_commands.specs.Judge.{accepted_text}
 use Rattle.pc_top.specs.Exact.{IsDerivationOf, JudgedAreExact, ReadsBoth}
 use Rattle.pc_top.specs.One.{TellsOf, UnfailedOf, VerdictIsOne}

@@ -2,8 +2,9 @@
 use Rattle.std.proofs.Common.{◌≡◌, ◌<◌, length, Ok, Err, refl, subst}
 use Rattle.std.specs.Prelude.{Result}
 use Rattle.pc_core.specs.CoreData.{CoreData}
+use Rattle.pc_core_relation.specs.MemberFaults.{IsMemberFault}
+use Rattle.pc_core_relation.proofs.MemberFaults.{is_first}
 use Rattle.pc_elab.specs.Cores.{IsFirstFault, IsSpelledFile}
-use Rattle.pc_file_spec.specs.Cores.{IsElabFault}
 use Rattle.pc_names.specs.Faults.{IsNotMemory, IsNameFault}
 use Rattle.pc_names.specs.declared.fault.NameFault.{NameFault}
 use Rattle.pc_names.specs.declared.fault.NameFault.TheVariants as names
@@ -41,13 +42,13 @@ tree_spelled {bytes = bytes} law (goes (lexed {ts = ts} l) (parsed p)) = (ts, p.
 pub names_stop : (name bytes : Text) (file : t.File) (f : NameFault) (s : Stop) → IsNameFault file f → IsNameStop name bytes f s → StageStops (Elaborating name bytes file) s
 names_stop name bytes file f s r h = name_stops (Elaborating name bytes file) name bytes f s (λ o. misnamed f o r) h
 
-pub member_fault : (file : t.File) (f : NameFault) → IsNotMemory f → IsFirstFault file f → IsElabFault file f
-member_fault file (names.Double s) o r = r
-member_fault file (names.Unknown s) o r = r
-member_fault file names.NoMain o r = r
-member_fault file (names.BadMain s) o r = r
-member_fault file (names.Cycle s) o r = r
-member_fault file (names.TooMany w s) o r = r
+pub member_fault : (file : t.File) (f : NameFault) → IsNotMemory f → IsFirstFault file f → IsMemberFault file f
+member_fault file (names.Double s) o r = is_first file (names.Double s) r
+member_fault file (names.Unknown s) o r = is_first file (names.Unknown s) r
+member_fault file names.NoMain o r = is_first file names.NoMain r
+member_fault file (names.BadMain s) o r = is_first file (names.BadMain s) r
+member_fault file (names.Cycle s) o r = is_first file (names.Cycle s) r
+member_fault file (names.TooMany w s) o r = is_first file (names.TooMany w s) r
 member_fault file names.Memory o r = absurd (o refl)
 
 pub members_stop : (name bytes : Text) (file : t.File) (f : NameFault) (s : Stop) → IsFirstFault file f → IsNameStop name bytes f s → StageStops (Elaborating name bytes file) s

@@ -5,17 +5,19 @@ use Rattle.std.specs.Io.KnownBytes.{Appends}
 use Rattle.std.proofs.lemmas.Option.{none-some, same_Some}
 use Rattle.pc_lists.specs.Lists.{Text}
 use Rattle.pc_args.specs.Asked.{Asked}
-use Rattle.pc_args.specs.Line.{Reads}
+use Rattle.pc_args.specs.Numbers.{Reads}
 use Rattle.pc_io.specs.Sink.{Change}
 use Rattle.pc_refusals.specs.Source.{AcceptedStage, source_limit}
 use Rattle.pc_refusals.specs.Inner.Answering.{AnswerStops, AnswersText, EndsCommand}
 use Rattle.pc_refusal_lines.specs.Lines.{usage_line}
-use Rattle.pc_refusals.specs.Verdict.{AllKnown, Files, Named, NoneFailed, named, Verdict, IsAccepting}
+use Rattle.pc_refusals.specs.Verdict.{Files, Named, named, Verdict, IsAccepting}
+use Rattle.pc_refusals.specs.Knowing.{AllKnown, NoneFailed}
 use Rattle.pc_refusals.specs.declared.stop.Stop.{Stop}
 use Rattle.pc_refusals.specs.declared.typing.Accepted.{Accepted}
 use Rattle.pc_refusals.proofs.Ending.{answers_by, ends_by, part_answers, part_ends, part_stops, words_stop}
 use Rattle.pc_refusals.proofs.Statuses.{IsLate}
-use Rattle.pc_top.specs.Commands.{HasNumber, IsVerdictOf, OnOutOf, files_of, infers, source_of}
+use Rattle.pc_top.specs.Commands.{IsVerdictOf, OnOutOf, infers, source_of}
+use Rattle.pc_top.specs.Words.{HasNumber, files_of}
 use Rattle.pc_top.specs.Inner.Numbering.{NumberStops, NumberedEnds}
 use Rattle.pc_top.specs.Shapes.{ByNumber, OfAccepted, UnreadNumbered}
 use Rattle.pc_top.specs.Shapes.ByNumber.{no_number, spelled}

@@ -1,7 +1,7 @@
 -- Any two ends of the stages after a source are equal.
-use Rattle.std.proofs.Common.{◌≡◌, ℕ, List, Some, Ok, Err, refl, sym, ◌∙◌, ap}
+use Rattle.std.proofs.Common.{◌≡◌, ℕ, List, Ok, Err, refl, sym, ◌∙◌, ap}
 use Rattle.std.specs.Prelude.{slice_get, codes}
-use Rattle.std.proofs.lemmas.Option.{same_Some, none-some}
+use Rattle.std.proofs.lemmas.Option.{same_Some}
 use Rattle.pc_ann.specs.declared.annotation.Ann.{Ann}
 use Rattle.pc_core.specs.declared.declarations.Method.{Method}
 use Rattle.pc_core.specs.declared.nodes.Node.{Node}
@@ -15,10 +15,11 @@ use Rattle.pc_sched.specs.Schedules.{schedule_limit}
 use Rattle.pc_sched.specs.declared.fault.SchedFault.TheVariants.{BadWord, TooMany}
 use Rattle.pc_sched.specs.declared.turns.Turn.{Turn}
 use Rattle.pc_sub.specs.Declarations.{DeclOk}
-use Rattle.pc_sub.specs.DeclarationFaults.{first_fault}
+use Rattle.pc_sub.specs.FirstFault.{IsFirstDeclarationFault}
 use Rattle.pc_sub.specs.declared.faults.DeclFault.{DeclFault}
 use Rattle.pc_lists.specs.Lists.{Text}
-use Rattle.pc_refusals.specs.Source.{AcceptedStage, Typing, HasOneEnd, ScheduleStage, Scheduling, Length, SourceStage}
+use Rattle.pc_refusals.specs.Source.{AcceptedStage, Typing, ScheduleStage, Scheduling, Length, SourceStage}
+use Rattle.pc_refusals.specs.Ends.{HasOneEnd}
 use Rattle.pc_refusals.specs.Source.Typing.{typed, declared, no_rule, unset}
 use Rattle.pc_refusals.specs.FaultLines.{decl_offset, decl_text}
 use Rattle.pc_refusals.specs.Derivation.{Deriving, DerivationStage, Judging, judge_line, text_status, text_line}
@@ -45,8 +46,8 @@ bad_many p q e = cc
 module _ (laws : Laws) where
   -- ---- the annotation of a core
 
-  no_fault : (core : CoreData) (f : DeclFault) → Formed core → DeclOk core → first_fault core ≡ Some f → ⊥
-  no_fault core f is d e = none-some f (sym ((laws.fits core is).1 d) ∙ e)
+  no_fault : (core : CoreData) (f : DeclFault) → Formed core → DeclOk core → IsFirstDeclarationFault core f → ⊥
+  no_fault core f is d e = (laws.fits core is).0 d f e
 
   node_same : (core : CoreData) (a b : Ann) (n m : ℕ) (s : NoRule core a n) (t : NoRule core b m) → n ≡ m → s.at ≡ t.at
   node_same core a b n m s t e = same_Some s.at t.at (sym s.is_at ∙ (ap (slice_get core.nodes) e ∙ t.is_at))
@@ -61,7 +62,7 @@ module _ (laws : Laws) where
     one_typing _ _ (typed a v) (no_rule b n h) = absurd (laws.refusing.ruleless s.core b n is h (a, v))
     one_typing _ _ (typed a v) (unset b m left) = absurd (laws.refusing.setless s.core b m is left (a, v))
     one_typing _ _ (declared f e) (typed a v) = absurd (laws.refusing.failing s.core f is e (a, v))
-    one_typing _ _ (declared f e) (declared g h) = ap (λ (x : DeclFault). Err (refused 1 (offset_line name s.bytes (decl_offset s.core x) (decl_text x)))) (same_Some f g (sym e ∙ h))
+    one_typing _ _ (declared f e) (declared g h) = ap (λ (x : DeclFault). Err (refused 1 (offset_line name s.bytes (decl_offset s.core x) (decl_text x)))) (laws.one_declared s.core f g is e h)
     one_typing _ _ (declared f e) (no_rule b n h) = absurd (no_fault s.core f is h.declarations e)
     one_typing _ _ (declared f e) (unset b m left) = absurd (no_fault s.core f is left.declarations e)
     one_typing _ _ (no_rule a n h) (typed b v) = absurd (laws.refusing.ruleless s.core a n is h (b, v))

@@ -8,7 +8,7 @@ use Rattle.pc_outcome_laws.specs.Laws.{AnswersAreOne}
 use Rattle.pc_sched_lines.specs.Rows.{LinesAreOne}
 use Rattle.pc_rules.specs.Statements.{OneValid}
 use Rattle.pc_sched.specs.Laws.{OneList, NotBoth, OneFault}
-use Rattle.pc_sub.specs.DeclarationLaws.{NoFaultWhereFit}
+use Rattle.pc_sub.specs.DeclarationLaws.{NoFaultWhereFit, OneFirstFault}
 use Rattle.pc_swap.specs.Laws.{KeptAreNotApart}
 use Rattle.pc_refusals.proofs.OneSource.{SourceLaws}
 use Rattle.pc_top.specs.CoresFormed.{CoresAreFormed}
@@ -25,6 +25,7 @@ pub record Laws : Type 0 where
   pub source : SourceLaws
   pub refusing : Refusing
   pub fits : NoFaultWhereFit
+  pub one_declared : OneFirstFault
   pub valid : OneValid
   pub node : OneNode
   pub constructor : OneConstructor

@@ -6,12 +6,14 @@ use Rattle.std.proofs.lemmas.Option.{none-some, same_Some}
 use Rattle.pc_lists.specs.Lists.{Text}
 use Rattle.pc_args.specs.Asked.{Asked}
 use Rattle.pc_io.specs.Sink.{Change}
-use Rattle.pc_refusals.specs.Verdict.{AllKnown, Files, NoneFailed, named, Verdict, IsAccepting}
+use Rattle.pc_refusals.specs.Verdict.{Files, named, Verdict, IsAccepting}
+use Rattle.pc_refusals.specs.Knowing.{AllKnown, NoneFailed}
 use Rattle.pc_refusals.proofs.OneSource.{SourceLaws}
 use Rattle.pc_refusals.proofs.Statuses.{IsOwn}
 use Rattle.pc_top.specs.Asked.{HasNoDerivationOf, OfFile, OfSource}
-use Rattle.pc_top.specs.Commands.{HasNumber, IsVerdictOf, OnOutOf, files_of, infers, source_of}
-use Rattle.pc_top.specs.Commands.Sends.{TablesTell}
+use Rattle.pc_top.specs.Commands.{IsVerdictOf, OnOutOf, infers, source_of}
+use Rattle.pc_top.specs.Words.{HasNumber, files_of}
+use Rattle.pc_top.specs.Laws.{TablesTell}
 use Rattle.pc_top.specs.CoreOf.{IsDerivable, IsUnderivable}
 use Rattle.pc_top.proofs.Begins.{Begins, begins_accepts, begins_exact, begins_own, begins_refuses}
 use Rattle.pc_top.proofs.Premises.{Laws, Refusing}

@@ -9,12 +9,14 @@ use Rattle.pc_regions.specs.Laws.{ValidIsSafe}
 use Rattle.pc_refusals.specs.Verdict.{Answer, Files, named, Verdict, IsAccepting}
 use Rattle.pc_refusals.specs.Verdict.Answer.{given as answer_given, file as answer_file, out_failed, err_failed, file_err_failed, no_memory}
 use Rattle.pc_refusals.proofs.Statuses.{IsOwn}
-use Rattle.pc_top.specs.Asked.{Accepts, FailedIn, HasNoDerivation, HasNoDerivationOf, IsVerdict, OfFile, OfSource, RefusedIsUnderivable}
+use Rattle.pc_top.specs.Asked.{Accepts, FailedIn, HasNoDerivation, HasNoDerivationOf, IsVerdict, OfFile, OfSource}
+use Rattle.pc_top.specs.Laws.{RefusedIsUnderivable}
 use Rattle.pc_top.specs.Commands.{IsVerdictOf, OnOutOf, source_of}
-use Rattle.pc_top.specs.Commands.Make.{made_text}
-use Rattle.pc_top.specs.Commands.Sends.{TablesTell}
-use Rattle.pc_top.specs.CoreOf.{DerivableIsSafe, IsDerivable}
-use Rattle.pc_top.specs.IsolatedCore.{DerivableIsIsolated}
+use Rattle.pc_gen.specs.Generated.{generated_text}
+use Rattle.pc_top.specs.Laws.{TablesTell}
+use Rattle.pc_top.specs.CoreOf.{IsDerivable}
+use Rattle.pc_top.specs.Laws.{DerivableIsSafe}
+use Rattle.pc_top.specs.Laws.{DerivableIsIsolated}
 use Rattle.pc_top.specs.CoresFormed.{CoresAreFormed}
 use Rattle.pc_top.specs.Failures.{NoVerdictIsAFailure}
 use Rattle.pc_top.specs.OnOut.{OnOut, Swaps, Traces}
@@ -121,7 +123,7 @@ module _ (Holds : Text → Type 0) (law : (bytes : Text) → IsDerivable bytes �
   asked_holds : (known : Text → Option Text) (asked : Option Asked) → OfSource IsDerivable known asked → OfSource Holds known asked
   asked_holds known None h = h
   asked_holds known (Some asked) h =
-      (file_holds known (source_of asked) h.0, λ seed size is. let m = h.1 seed size is in (m.0, m.1, m.2, m.3, law (made_text m.0 m.1) m.4))
+      (file_holds known (source_of asked) h.0, λ seed size is. let m = h.1 seed size is in (m.0, m.1, m.2, m.3, law (generated_text m.0 m.1) m.4))
 
   pub accepted_holds : (known : Text → Option Text) (words : List Text) → Accepts known words → OfSource Holds known (command_of words)
   accepted_holds known words h = asked_holds known (command_of words) h

@@ -22,7 +22,7 @@ use Rattle.pc_top.specs.Commands.Check.{Derived, IsCheck}
 use Rattle.pc_core_commands.specs.Judge.{accepted_text}
 use Rattle.pc_top.specs.Commands.Judge.{IsJudge}
 use Rattle.pc_top.specs.Commands.Upgrade.{IsUpgrade}
-use Rattle.pc_top.specs.OnOut.{UpgradedIsAccepted, WrittenIsAccepted}
+use Rattle.pc_top.specs.Laws.{UpgradedIsAccepted, WrittenIsAccepted}
 use Rattle.pc_top.specs.Shapes.{OfDerivation}
 use Rattle.pc_top.proofs.Accepted.{source_whole}
 use Rattle.pc_top.proofs.Deriving.{source_says, accepted_source}

@@ -1,9 +1,10 @@
 -- The verdict on the words of a command line.
 use Rattle.std.specs.Prelude.{ℕ, ◌≡◌, Option, Some, None, List, IfSome, IsTrue}
 use Rattle.pc_args.specs.{Line.IsSeed, Line.IsSize, Asked.Asked, Asked.make, Asked.command_of}
+use Rattle.pc_gen.specs.Generated.{generated_text}
 use Rattle.pc_lists.specs.Lists.{Text}
 use Rattle.pc_refusals.specs.Verdict.{Files, Verdict}
-use Rattle.pc_top.specs.{Commands.FailedOf, Commands.IsVerdictOf, Commands.infers, Commands.source_of, Commands.Make.made_text, CoreOf.IsDerivable, CoreOf.IsUnderivable, CoreOf.HasSafeCore, IsolatedCore.HasIsolatedCore}
+use Rattle.pc_top.specs.{Commands.FailedOf, Commands.IsVerdictOf, Commands.infers, Commands.source_of, CoreOf.IsDerivable, CoreOf.IsUnderivable, CoreOf.HasSafeCore, IsolatedCore.HasIsolatedCore}
 
 -- The verdict on the words: a status, a text on out and a line on err.
 abbrev pub IsVerdict : Files → List Text → Verdict → Type 0
@@ -17,7 +18,7 @@ FailedIn files words name = FailedOf files (command_of words) name
 
 -- This holds of the text of the program that `make` generates from these words.
 abbrev pub OfMade : (Text → Type 0) → Text → Text → Type 0
-OfMade Holds seed size = (a b : ℕ) × IsSeed seed a × IsSize size b × Holds (made_text a b)
+OfMade Holds seed size = (a b : ℕ) × IsSeed seed a × IsSize size b × Holds (generated_text a b)
 
 -- This holds of a file's bytes, if they are known and the command has a file whose core must have a derivation.
 abbrev pub OfFile : (Text → Type 0) → (Text → Option Text) → Option Text → Type 0
@@ -49,7 +50,3 @@ HasNoDerivationOf known (Some asked) = IsTrue (infers asked) × OfSource IsUnder
 
 abbrev pub HasNoDerivation : (Text → Option Text) → List Text → Type 0
 HasNoDerivation known words = HasNoDerivationOf known (command_of words)
-
--- With status 1, this is the case.
-abbrev pub RefusedIsUnderivable : Type 0
-RefusedIsUnderivable = (files : Files) (words : List Text) (v : Verdict) → IsVerdict files words v → v.status ≡ 1 → HasNoDerivation files.known words

@@ -14,7 +14,7 @@ pub mod Show
 pub mod Swap
 pub mod Trace
 pub mod Upgrade
-use Rattle.std.specs.Prelude.{ℕ, ◌≡◌, ◌⊎◌, Bool, true, false, List, [], ◌∷◌, Option, Some, None, IfSome}
+use Rattle.std.specs.Prelude.{ℕ, ◌≡◌, ◌⊎◌, Bool, true, false, [], Option, Some, None, IfSome}
 use Rattle.std.specs.Io.KnownBytes.{Appends}
 use Rattle.pc_lists.specs.Lists.{Text}
 use Rattle.pc_args.specs.{Asked.Asked, Asked.check, Asked.events, Asked.explain, Asked.judge, Asked.make, Asked.outcomes, Asked.places, Asked.play, Asked.run, Asked.schedule_of, Asked.sends, Asked.show, Asked.swap, Asked.trace, Asked.upgrade, Line.IsSeed, Line.IsSize}
@@ -63,24 +63,6 @@ FailedOf files (Some (places source)) name = FailedAt (named files source) name
 FailedOf files (Some (explain source)) name = FailedAt (named files source) name
 FailedOf files (Some (events source schedule)) name = UnreadScheduled (named files source) (named files schedule) name
 
--- The files that a command reads, in this order.
-abbrev pub files_of : Asked → List Text
-files_of (check source) = source ∷ []
-files_of (judge source derivation) = source ∷ derivation ∷ []
-files_of (run source schedule) = source ∷ schedule ∷ []
-files_of (show source) = source ∷ []
-files_of (make seed size) = []
-files_of (swap source schedule place) = source ∷ schedule ∷ []
-files_of (trace source schedule) = source ∷ schedule ∷ []
-files_of (events source schedule) = source ∷ schedule ∷ []
-files_of (places source) = source ∷ []
-files_of (explain source) = source ∷ []
-files_of (sends source) = source ∷ []
-files_of (upgrade source derivation) = source ∷ derivation ∷ []
-files_of (schedule_of source seed) = source ∷ []
-files_of (play source seed) = source ∷ []
-files_of (outcomes source count) = source ∷ []
-
 -- The file among them whose core must have a derivation, if there is one. The program of `make` is in no file.
 abbrev pub source_of : Asked → Option Text
 source_of (check source) = Some source
@@ -116,24 +98,6 @@ infers (upgrade source derivation) = false
 infers (schedule_of source seed) = true
 infers (play source seed) = true
 infers (outcomes source count) = true
-
--- The number among the words is one that the command takes. For `make`, the laws about it state this themselves.
-abbrev pub HasNumber : Asked → Type 0
-HasNumber (check source) = Unit {0}
-HasNumber (judge source derivation) = Unit {0}
-HasNumber (run source schedule) = Unit {0}
-HasNumber (show source) = Unit {0}
-HasNumber (make seed size) = Unit {0}
-HasNumber (swap source schedule place) = (n : ℕ) × IsPlace place n
-HasNumber (trace source schedule) = Unit {0}
-HasNumber (sends source) = Unit {0}
-HasNumber (upgrade source derivation) = Unit {0}
-HasNumber (schedule_of source seed) = (n : ℕ) × IsSeed seed n
-HasNumber (play source seed) = (n : ℕ) × IsSeed seed n
-HasNumber (outcomes source count) = (n : ℕ) × IsCount count n
-HasNumber (places source) = Unit {0}
-HasNumber (explain source) = Unit {0}
-HasNumber (events source schedule) = Unit {0}
 
 -- What is on out after a command has passed all its stages, if the bytes of its files are known. `swap`, `trace` and
 -- `events` write nothing if a text ended the run.

@@ -1,7 +1,7 @@
 -- What sources mean.
 use Rattle.std.specs.Prelude.{ℕ, ◌≤◌, List, length}
 use Rattle.pc_core.specs.CoreData.{CoreData}
-use Rattle.pc_grammar.specs.SpellsFile.{IsSpelled}
+use Rattle.pc_grammar.specs.Spells.{IsSpelled}
 use Rattle.pc_lex.specs.Pieces.{TokenList, bytes_limit}
 use Rattle.pc_core_relation.specs.Files.{IsCoreOf}
 use Rattle.pc_valid.specs.Valid.{Derivable}
@@ -27,13 +27,7 @@ IsDerivable bytes = (core : CoreData) × CoreOf bytes core × Derivable core
 abbrev pub IsUnderivable : List ℕ → Type 0
 IsUnderivable bytes = (core : CoreData) × CoreOf bytes core × (Derivable core → ⊥)
 
--- ---- what a derivation is for
-
 -- The source has a core, and the core is safe: after every list of actors, of any length, no two of them race, what
 -- waits in messages is let alone, and no step lacks anything.
 abbrev pub HasSafeCore : List ℕ → Type 0
 HasSafeCore bytes = (core : CoreData) × CoreOf bytes core × Safe core
-
--- A source whose core has a derivation is safe.
-abbrev pub DerivableIsSafe : Type 0
-DerivableIsSafe = (bytes : List ℕ) → IsDerivable bytes → HasSafeCore bytes

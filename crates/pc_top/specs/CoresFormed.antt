@@ -1,7 +1,7 @@
 -- What holds of the core of every source.
 use Rattle.std.specs.Prelude.{ℕ, ◌≤◌, List, length}
 use Rattle.pc_core.specs.{CoreData.CoreData, Formed.Formed}
-use Rattle.pc_deriv.specs.Text.{derivation_slot_limit, derivation_node_limit}
+use Rattle.pc_deriv.specs.Parts.{derivation_slot_limit, derivation_node_limit}
 use Rattle.pc_top.specs.CoreOf.{CoreOf}
 
 -- The core is small enough for its annotations to have a text.

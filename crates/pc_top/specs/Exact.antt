@@ -5,9 +5,10 @@ use Rattle.pc_core.specs.CoreData.{CoreData}
 use Rattle.pc_deriv.specs.Text.{IsText}
 use Rattle.pc_valid.specs.Valid.{Valid}
 use Rattle.pc_args.specs.{Line.IsSeed, Line.IsSize, Asked.Asked, Asked.check, Asked.judge, Asked.make, Asked.upgrade, Asked.command_of}
+use Rattle.pc_gen.specs.Generated.{generated_text}
 use Rattle.pc_lists.specs.Lists.{Text}
-use Rattle.pc_top.specs.{Asked.IsVerdict, Commands.HasNumber, Commands.infers, Commands.source_of, CoreOf.CoreOf, CoreOf.IsDerivable, CoreOf.IsUnderivable, Commands.Make.made_text}
-use Rattle.pc_refusals.specs.Verdict.{Files, NoneFailed, Verdict}
+use Rattle.pc_top.specs.{Asked.IsVerdict, Words.HasNumber, Commands.infers, Commands.source_of, CoreOf.CoreOf, CoreOf.IsDerivable, CoreOf.IsUnderivable}
+use Rattle.pc_refusals.specs.{Verdict.Files, Verdict.Verdict, Knowing.NoneFailed}
 
 -- The words ask for this, and have this verdict. The bytes of the command's source are known, and no reading of it
 -- failed.
@@ -27,7 +28,7 @@ pub record StatusesAreExact : Type 0 where
   pub refused : (files : Files) (words : List Text) (asked : Asked) (source bytes : Text) (v : Verdict) → ReadsSource files words asked source bytes v
       → IsTrue (infers asked) → (v.status ≡ 1) ↔ IsUnderivable bytes
   pub made : (files : Files) (words : List Text) (seed size : Text) (a b : ℕ) (v : Verdict) → command_of words ≡ Some (make seed size) → IsSeed seed a → IsSize size b
-      → IsVerdict files words v → (v.status ≡ 1) ↔ IsUnderivable (made_text a b)
+      → IsVerdict files words v → (v.status ≡ 1) ↔ IsUnderivable (generated_text a b)
 
 -- ---- a derivation
 

@@ -11,3 +11,5 @@ pub mod One
 pub mod Played
 pub mod Referee
 pub mod Shapes
+pub mod Words
+pub mod Laws

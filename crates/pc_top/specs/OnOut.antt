@@ -1,11 +1,10 @@
 -- What is on out after a command has passed all its stages.
 use Rattle.std.specs.Prelude.{ℕ, ◌≡◌, Option, Some, List, IfSome}
 use Rattle.pc_lists.specs.Lists.{Text}
-use Rattle.pc_args.specs.Asked.{check, judge, swap, trace, upgrade, command_of}
+use Rattle.pc_args.specs.Asked.{swap, trace, command_of}
 use Rattle.pc_io.specs.Sink.{Change}
-use Rattle.pc_refusals.specs.Verdict.{Files, done}
-use Rattle.pc_top.specs.{Asked.IsVerdict, Commands.OnOutOf, Commands.Swap.WritesSwap, Commands.Trace.WritesTrace}
-use Rattle.pc_core_commands.specs.{Judge.accepted_text, Swap.IsPlace}
+use Rattle.pc_top.specs.{Commands.OnOutOf, Commands.Swap.WritesSwap, Commands.Trace.WritesTrace}
+use Rattle.pc_core_commands.specs.Swap.{IsPlace}
 
 -- What the command of the words writes, if the bytes of its files are known: the source's derivation, `accepted`, the
 -- text of the run, the printed tree or the core with its places; or why the source is refused, or that it is accepted;
@@ -27,23 +26,3 @@ Swaps known words out = (source schedule place : Text) → command_of words ≡ 
 abbrev pub Traces : (Text → Option Text) → List Text → Change → Type 0
 Traces known words out = (source schedule : Text) → command_of words ≡ Some (trace source schedule)
     → IfSome (known source) (λ bytes. IfSome (known schedule) (WritesTrace out bytes))
-
--- ---- from one command to another
-
--- If `check` is done with a text for a source, `judge` accepts that text for the same source, wherever it is read from.
--- Which words ask for `check` and for `judge` does not matter.
-abbrev pub WrittenIsAccepted : Type 0
-WrittenIsAccepted =
-    (files later : Files) (words later_words : List Text) (source derivation text : Text) → command_of words ≡ Some (check source)
-    → command_of later_words ≡ Some (judge source derivation) → later.known source ≡ files.known source → later.known derivation ≡ Some text
-    → IsVerdict files words (done text) → IsVerdict later later_words (done accepted_text)
-
--- If `upgrade` is done with a text for a source, `judge` accepts it for the same source, and `upgrade` is done with the
--- same text again.
-pub record UpgradedIsAccepted : Type 0 where
-  pub judged : (files later : Files) (words later_words : List Text) (source derivation other text : Text) → command_of words ≡ Some (upgrade source derivation)
-      → command_of later_words ≡ Some (judge source other) → later.known source ≡ files.known source → later.known other ≡ Some text
-      → IsVerdict files words (done text) → IsVerdict later later_words (done accepted_text)
-  pub again : (files later : Files) (words later_words : List Text) (source derivation other text : Text) → command_of words ≡ Some (upgrade source derivation)
-      → command_of later_words ≡ Some (upgrade source other) → later.known source ≡ files.known source → later.known other ≡ Some text
-      → IsVerdict files words (done text) → IsVerdict later later_words (done text)

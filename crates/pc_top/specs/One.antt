@@ -2,8 +2,8 @@
 use Rattle.std.specs.Prelude.{◌≡◌, Option, Some, None, List}
 use Rattle.pc_lists.specs.Lists.{Text}
 use Rattle.pc_args.specs.Asked.{Asked, command_of}
-use Rattle.pc_top.specs.{Asked.IsVerdict, Commands.files_of}
-use Rattle.pc_refusals.specs.Verdict.{AllKnown, Files, NoneFailed, Verdict}
+use Rattle.pc_top.specs.{Asked.IsVerdict, Words.files_of}
+use Rattle.pc_refusals.specs.{Verdict.Files, Verdict.Verdict, Knowing.AllKnown, Knowing.NoneFailed}
 
 -- The bytes of the files that the words name are known.
 abbrev pub TellsOf : (Text → Option Text) → Option Asked → Type 0

@@ -1,7 +1,7 @@
 //! The commands, each in a file of its own, and which of them the words ask for.
 ghost use Rattle.std.specs.Prelude.{◌≡◌, ◌≤◌, Some};
 ghost use Rattle.pc_lists.specs.Lists.{Text};
-ghost use Rattle.pc_args.specs.Asked.{asked_by};
+ghost use Rattle.pc_args.specs.Commands.{asked_by};
 ghost use Rattle.pc_io.specs.Sink.{change};
 ghost use Rattle.pc_refusals.specs.Inner.Answering.{EndsCommand};
 ghost use Rattle.pc_refusals.specs.Verdict.{files_change};

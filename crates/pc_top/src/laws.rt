@@ -1,14 +1,14 @@
 //! What is proved of the verdict. Each call does nothing, and its contract is the law.
-ghost use Rattle.pc_top.specs.Asked.{RefusedIsUnderivable};
-ghost use Rattle.pc_top.specs.CoreOf.{DerivableIsSafe};
-ghost use Rattle.pc_top.specs.IsolatedCore.{DerivableIsIsolated};
+ghost use Rattle.pc_top.specs.Laws.{RefusedIsUnderivable};
+ghost use Rattle.pc_top.specs.Laws.{DerivableIsSafe};
+ghost use Rattle.pc_top.specs.Laws.{DerivableIsIsolated};
 ghost use Rattle.pc_top.specs.CoresFormed.{CoresAreFormed};
 ghost use Rattle.pc_top.specs.Exact.{JudgedAreExact, StatusesAreExact};
 ghost use Rattle.pc_top.specs.Failures.{FailuresAreTold, NoVerdictIsAFailure};
-ghost use Rattle.pc_top.specs.OnOut.{UpgradedIsAccepted, WrittenIsAccepted};
+ghost use Rattle.pc_top.specs.Laws.{UpgradedIsAccepted, WrittenIsAccepted};
 ghost use Rattle.pc_top.specs.One.{VerdictIsOne};
 ghost use Rattle.pc_top.specs.Played.{PlayedAsRun};
-ghost use Rattle.pc_top.specs.Commands.Sends.{TablesTell};
+ghost use Rattle.pc_top.specs.Laws.{TablesTell};
 
 use pc_check::{
     nothing_is_derivable_with_a_declaration_that_fails, nothing_is_derivable_with_a_field_unset,
@@ -32,7 +32,7 @@ use pc_rules::one_annotation_is_valid;
 use pc_sched::turns_are_one;
 use pc_sched_lines::lines_are_one;
 use pc_sends::held_covers;
-use pc_sub::no_fault_where_declarations_fit;
+use pc_sub::{no_fault_where_declarations_fit, one_declaration_fails_first};
 use pc_swap::kept_are_not_apart;
 use pc_text_order::tokens_are_in_order;
 use pc_types::accepted_never_lacks;
@@ -57,6 +57,7 @@ pub fn verdict_is_one()
     cores_are_one();
     cores_of_sources_are_formed();
     no_fault_where_declarations_fit();
+    one_declaration_fails_first();
     one_annotation_is_valid();
     nothing_is_derivable_without_a_rule();
     nothing_is_derivable_with_a_field_unset();

@@ -13,8 +13,6 @@ use Rattle.pc_trace.specs.declared.touch.Verdict.TheVariants as verdict
 abbrev pub actor_limit : ℕ
 actor_limit = 64
 
--- ---- accesses
-
 -- The access is the one of the event at place p, and the clock is the clock of this event.
 pub record TouchAt (core : CoreData) (list : List ℕ) (p : ℕ) (t : Touch) : Type 0 where
   pub event : Event core list p t.actor

@@ -1,5 +1,6 @@
 -- How deep a tree is.
-use Rattle.std.specs.Prelude.{ℕ, suc, max, List, [], ◌∷◌, Option, Some, None}
+use Rattle.std.specs.Prelude.{ℕ, suc, max, List, [], ◌∷◌}
+use Rattle.std.specs.Option.{option_map_or}
 use Rattle.pc_tree.specs.Tree as t
 
 -- The number of nested levels: a level is opened by the `(` of a group or of arguments, even if there are none, by
@@ -56,27 +57,12 @@ abbrev mutual
   items_depth t.no_items = 0
   items_depth (t.item i is) = max (item_depth i) (items_depth is)
 
--- a field's value and a body are at level 1
-abbrev pub value_depth : Option t.Expr → ℕ
-value_depth None = 0
-value_depth (Some e) = suc (depth e)
+-- The greatest level that these have, 0 if there are none.
+abbrev pub highest : {A : Type 0} → (A → ℕ) → List A → ℕ
+highest level [] = 0
+highest level (x ∷ xs) = max (level x) (highest level xs)
 
-abbrev pub body_depth : Option t.Seq → ℕ
-body_depth None = 0
-body_depth (Some b) = suc (seq_depth b)
-
-abbrev pub fields_depth : List t.Field → ℕ
-fields_depth [] = 0
-fields_depth (f ∷ fs) = max (value_depth f.value) (fields_depth fs)
-
-abbrev pub methods_depth : List t.Method → ℕ
-methods_depth [] = 0
-methods_depth (m ∷ ms) = max (body_depth m.body) (methods_depth ms)
-
-abbrev pub entities_depth : List t.Entity → ℕ
-entities_depth [] = 0
-entities_depth (e ∷ es) = max (max (fields_depth e.fields) (methods_depth e.methods)) (entities_depth es)
-
--- the highest level of a file
+-- The highest level of a file. A field's value and a body are at level 1.
 abbrev pub file_depth : t.File → ℕ
-file_depth f = entities_depth f.entities
+file_depth file =
+    highest (λ (e : t.Entity). max (highest (λ (f : t.Field). option_map_or (λ v. suc (depth v)) f.value 0) e.fields) (highest (λ (m : t.Method). option_map_or (λ b. suc (seq_depth b)) m.body 0) e.methods)) file.entities

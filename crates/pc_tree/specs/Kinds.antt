@@ -39,52 +39,36 @@ first_own = 6
 
 -- ---- what each kind of entity may contain
 
+-- A row of a table: one entry for each kind, in the order class, actor, primitive, trait, interface.
+abbrev pub at_kind : {T : Type 0} → T → T → T → T → T → EntityKind → T
+at_kind class actor primitive trait interface kind.Class = class
+at_kind class actor primitive trait interface kind.Actor = actor
+at_kind class actor primitive trait interface kind.Primitive = primitive
+at_kind class actor primitive trait interface kind.Trait = trait
+at_kind class actor primitive trait interface kind.Interface = interface
+
 -- A trait or an interface: it only says which methods others have, and has no objects of its own.
 abbrev pub is_abstract : EntityKind → Bool
-is_abstract kind.Class = false
-is_abstract kind.Actor = false
-is_abstract kind.Primitive = false
-is_abstract kind.Trait = true
-is_abstract kind.Interface = true
+is_abstract = at_kind false false false true true
 
 -- A capability may be written after the keyword of the entity.
 abbrev pub may_have_cap : EntityKind → Bool
-may_have_cap kind.Class = true
-may_have_cap kind.Actor = false
-may_have_cap kind.Primitive = false
-may_have_cap kind.Trait = true
-may_have_cap kind.Interface = true
+may_have_cap = at_kind true false false true true
 
 abbrev pub may_have_fields : EntityKind → Bool
-may_have_fields kind.Class = true
-may_have_fields kind.Actor = true
-may_have_fields kind.Primitive = false
-may_have_fields kind.Trait = false
-may_have_fields kind.Interface = false
+may_have_fields = at_kind true true false false false
 
 -- Behaviours may be in actors, traits and interfaces, and constructors in classes and actors.
 abbrev pub may_stand : EntityKind → MethodWord → Bool
 may_stand e word.Fun = true
-may_stand kind.Class word.Be = false
-may_stand kind.Actor word.Be = true
-may_stand kind.Primitive word.Be = false
-may_stand kind.Trait word.Be = true
-may_stand kind.Interface word.Be = true
-may_stand kind.Class word.New = true
-may_stand kind.Actor word.New = true
-may_stand kind.Primitive word.New = false
-may_stand kind.Trait word.New = false
-may_stand kind.Interface word.New = false
+may_stand e word.Be = at_kind false true false true true e
+may_stand e word.New = at_kind true true false false false e
 
 -- A capability may be written after the keyword of the method.
 abbrev pub may_have_method_cap : EntityKind → MethodWord → Bool
 may_have_method_cap e word.Fun = true
 may_have_method_cap e word.Be = false
-may_have_method_cap kind.Class word.New = true
-may_have_method_cap kind.Actor word.New = false
-may_have_method_cap kind.Primitive word.New = false
-may_have_method_cap kind.Trait word.New = false
-may_have_method_cap kind.Interface word.New = false
+may_have_method_cap e word.New = at_kind true false false false false e
 
 -- ---- the same for the parts of a tree
 
@@ -97,14 +81,8 @@ abbrev pub FieldsIf : Bool → List t.Field → Type 0
 FieldsIf true fs = Unit {0}
 FieldsIf false fs = fs ≡ []
 
-abbrev pub MayHaveFields : EntityKind → List t.Field → Type 0
-MayHaveFields e fs = FieldsIf (may_have_fields e) fs
-
 -- A body is optional in a trait or an interface, and required elsewhere.
 abbrev pub BodyUnless : Bool → Option t.Seq → Type 0
 BodyUnless true b = Unit {0}
 BodyUnless false None = ⊥
 BodyUnless false (Some b) = Unit {0}
-
-abbrev pub HasBody : EntityKind → Option t.Seq → Type 0
-HasBody e b = BodyUnless (is_abstract e) b

@@ -1,5 +1,5 @@
 -- The tree as plain data: no pointers, and a separate type for each kind of list of subtrees.
-use Rattle.std.specs.Prelude.{ℕ, List, [], ◌∷◌, Bool, Option}
+use Rattle.std.specs.Prelude.{ℕ, List, Bool, Option}
 use Rattle.pc_caps.specs.{declared.span.Span.Span, declared.capability.Cap.Cap}
 use Rattle.pc_tree.specs.{declared.kinds.Op.Op, declared.kinds.EntityKind.EntityKind, declared.kinds.MethodWord.MethodWord, declared.written_names.Name.Name, declared.written_names.TypeRef.TypeRef, declared.file.ParamDef.ParamDef}
 
@@ -82,23 +82,7 @@ pub record Entity : Type 0 where
 pub record File : Type 0 where
   pub entities : List Entity
 
-abbrev pub exprs_of : List Expr → Exprs
-exprs_of [] = no_exprs
-exprs_of (e ∷ es) = expr e (exprs_of es)
-
-abbrev pub suffixes_of : List Suffix → Suffixes
-suffixes_of [] = no_suffixes
-suffixes_of (s ∷ ss) = suffix s (suffixes_of ss)
-
-abbrev pub arms_of : List Arm → Arms
-arms_of [] = no_arms
-arms_of (a ∷ more) = arm a (arms_of more)
-
-abbrev pub items_of : List Item → Items
-items_of [] = no_items
-items_of (i ∷ is) = item i (items_of is)
-
--- the span of each part in the text
+-- the span of an expression in the text
 abbrev pub span_of : Expr → Span
 span_of (number n s) = s
 span_of (truth b s) = s
@@ -115,17 +99,3 @@ span_of (if_ a o s) = s
 span_of (while_ c b s) = s
 span_of (recover c b s) = s
 span_of (assign l r s) = s
-
-abbrev pub suffix_span : Suffix → Span
-suffix_span (dot n) = n.span
-suffix_span (args es s) = s
-
-abbrev pub arm_span : Arm → Span
-arm_span (arm_of c b s) = s
-
-abbrev pub seq_span : Seq → Span
-seq_span (seq is s) = s
-
-abbrev pub item_span : Item → Span
-item_span (local f n t e s) = s
-item_span (plain e) = span_of e

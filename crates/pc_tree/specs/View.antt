@@ -1,7 +1,7 @@
 -- The tree of `specs/Tree.antt` that a value of the types represents.
 use Rattle.std.specs.Prelude.{List, map, Option, Some, None}
 use Rattle.std.specs.{declared.boxed.Box.Box, declared.alloc.Global.Global}
-use Rattle.pc_tree.specs.{declared.expression.Expr.Expr, declared.expression.Expr.fold-Expr, declared.expression.Expr.TheOpen.Expr-F, declared.expression.Expr.TheOpen.Item-F, declared.expression.Expr.TheOpen.Suffix-F, declared.expression.Expr.TheOpen.Arm-F, declared.expression.Expr.TheOpen.Seq-F, declared.expression.Item.Item, declared.expression.Item.fold-Item, declared.expression.Suffix.Suffix, declared.expression.Suffix.fold-Suffix, declared.expression.Arm.Arm, declared.expression.Arm.fold-Arm, declared.expression.Seq.Seq, declared.expression.Seq.fold-Seq, declared.file.FieldDef.FieldDef, declared.file.MethodDef.MethodDef, declared.file.Entity.Entity, declared.file.File.File}
+use Rattle.pc_tree.specs.{declared.expression.Expr.Expr, declared.expression.Expr.fold-Expr, declared.expression.Expr.TheOpen.Expr-F, declared.expression.Expr.TheOpen.Item-F, declared.expression.Expr.TheOpen.Suffix-F, declared.expression.Expr.TheOpen.Arm-F, declared.expression.Expr.TheOpen.Seq-F, declared.expression.Item.Item, declared.expression.Item.fold-Item, declared.expression.Suffix.Suffix, declared.expression.Suffix.fold-Suffix, declared.expression.Arm.Arm, declared.expression.Arm.fold-Arm, declared.expression.Seq.Seq, declared.expression.Seq.fold-Seq, declared.file.FieldDef.FieldDef, declared.file.MethodDef.MethodDef, declared.file.Entity.Entity, declared.file.File.File, Parts.exprs_of, Parts.suffixes_of, Parts.arms_of, Parts.items_of}
 use Rattle.pc_tree.specs.Tree as t
 
 abbrev pub other_of : Option (Box t.Seq Global) → t.Other
@@ -18,10 +18,10 @@ expr_step (Expr-F.TypeName n) = t.type_name n
 expr_step (Expr-F.This s) = t.this s
 expr_step (Expr-F.Consume n s) = t.consume n s
 expr_step (Expr-F.Not e s) = t.not_ e.value s
-expr_step (Expr-F.Infix o es s) = t.infix_ o (t.exprs_of es) s
-expr_step (Expr-F.Chain e ss s) = t.chain e.value (t.suffixes_of ss) s
+expr_step (Expr-F.Infix o es s) = t.infix_ o (exprs_of es) s
+expr_step (Expr-F.Chain e ss s) = t.chain e.value (suffixes_of ss) s
 expr_step (Expr-F.Group b s) = t.group b.value s
-expr_step (Expr-F.If a o s) = t.if_ (t.arms_of a) (other_of o) s
+expr_step (Expr-F.If a o s) = t.if_ (arms_of a) (other_of o) s
 expr_step (Expr-F.While c b s) = t.while_ c.value b.value s
 expr_step (Expr-F.Recover c b s) = t.recover c b.value s
 expr_step (Expr-F.Assign l r s) = t.assign l.value r.value s
@@ -32,13 +32,13 @@ item_step (Item-F.Plain e) = t.plain e
 
 abbrev pub suffix_step : Suffix-F t.Expr t.Item t.Suffix t.Arm t.Seq → t.Suffix
 suffix_step (Suffix-F.Dot n) = t.dot n
-suffix_step (Suffix-F.Args es s) = t.args (t.exprs_of es) s
+suffix_step (Suffix-F.Args es s) = t.args (exprs_of es) s
 
 abbrev pub arm_step : Arm-F t.Expr t.Item t.Suffix t.Arm t.Seq → t.Arm
 arm_step a = t.arm_of a.cond a.body a.span
 
 abbrev pub seq_step : Seq-F t.Expr t.Item t.Suffix t.Arm t.Seq → t.Seq
-seq_step s = t.seq (t.items_of s.items) s.span
+seq_step s = t.seq (items_of s.items) s.span
 
 abbrev pub expr_view : Expr → t.Expr
 expr_view = fold-Expr t.Expr t.Item t.Suffix t.Arm t.Seq expr_step item_step suffix_step arm_step seq_step
@@ -56,16 +56,16 @@ abbrev pub seq_view : Seq → t.Seq
 seq_view = fold-Seq t.Expr t.Item t.Suffix t.Arm t.Seq expr_step item_step suffix_step arm_step seq_step
 
 abbrev pub exprs_view : List Expr → t.Exprs
-exprs_view es = t.exprs_of (map expr_view es)
+exprs_view es = exprs_of (map expr_view es)
 
 abbrev pub suffixes_view : List Suffix → t.Suffixes
-suffixes_view ss = t.suffixes_of (map suffix_view ss)
+suffixes_view ss = suffixes_of (map suffix_view ss)
 
 abbrev pub arms_view : List Arm → t.Arms
-arms_view arms = t.arms_of (map arm_view arms)
+arms_view arms = arms_of (map arm_view arms)
 
 abbrev pub items_view : List Item → t.Items
-items_view is = t.items_of (map item_view is)
+items_view is = items_of (map item_view is)
 
 abbrev pub other_view : Option (Box Seq Global) → t.Other
 other_view None = t.no_other

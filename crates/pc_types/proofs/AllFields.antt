@@ -9,7 +9,7 @@ use Rattle.pc_core.specs.CoreData.{CoreData}
 use Rattle.pc_masks.specs.declared.mask.Mask.{Mask}
 use Rattle.pc_ann.specs.declared.annotation.Ann.{Ann}
 use Rattle.pc_masks.specs.MaskLaws.{first_bits}
-use Rattle.pc_semantics.specs.Around.{value_entity}
+use Rattle.pc_semantics.specs.Configurations.{value_entity}
 use Rattle.pc_rules.specs.Parts.{fields_in, field_count, all_fields}
 use Rattle.pc_types.proofs.Types.{Finished}
 use Rattle.pc_types.proofs.Tasks.{Within}

@@ -20,10 +20,10 @@ use Rattle.pc_ann.specs.declared.annotation.Rule.{Rule}
 use Rattle.pc_ann.specs.declared.annotation.Rule.TheVariants as rule
 use Rattle.pc_semantics.specs.declared.frames.Frame.{Frame}
 use Rattle.pc_semantics.specs.declared.frames.Task.TheVariants as task
-use Rattle.pc_semantics.specs.Around.{Around, Move, Overflows, Goes, with_stack, pushed}
-use Rattle.pc_semantics.specs.Operators.{push_or_lack, of_numbers, of_truths, joined_text, of_texts, with_second_number, with_truth, with_text, binary, negated, same_truth, same_value, compared}
+use Rattle.pc_semantics.specs.Configurations.{Around, Move, Overflows, Goes, with_stack, pushed}
+use Rattle.pc_semantics.specs.Parts.{push_or_lack, joined_text, with_second_number, with_truth, with_text, negated, compared}
+use Rattle.pc_semantics.specs.Evaluation.{of_numbers, of_truths, of_texts, binary, same_truth, same_value, apply_task}
 use Rattle.pc_caps.specs.Limits.{text_limit}
-use Rattle.pc_semantics.specs.Evaluation.{apply_task}
 use Rattle.pc_rules.specs.Parts.{reads_as, through, type_of, one_child}
 use Rattle.pc_valid.specs.Words.{Ty, Masks, before}
 use Rattle.pc_rules.specs.Fields.{is_this}

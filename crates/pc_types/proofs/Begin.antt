@@ -17,7 +17,8 @@ use Rattle.pc_ann.specs.declared.annotation.Note.{Note}
 use Rattle.pc_ann.specs.declared.annotation.Ann.{Ann}
 use Rattle.pc_masks.specs.Masks.{first, same}
 use Rattle.pc_masks.specs.MaskLaws.{first_bits}
-use Rattle.pc_semantics.specs.Around.{first_slots, first_frame}
+use Rattle.pc_semantics.specs.Parts.{first_slots}
+use Rattle.pc_semantics.specs.Configurations.{first_frame}
 use Rattle.pc_rules.specs.declared.said.Said.{Said}
 use Rattle.pc_rules.specs.Parts.{through, one_child}
 use Rattle.pc_valid.specs.Words.{Masks, before}

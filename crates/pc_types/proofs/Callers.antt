@@ -29,8 +29,7 @@ use Rattle.pc_ann.specs.declared.annotation.Ann.{Ann}
 use Rattle.pc_masks.specs.Masks.{IsInMask, empty}
 use Rattle.pc_masks.specs.MaskLaws.{first_bits}
 use Rattle.pc_semantics.specs.declared.frames.Frame.{Frame}
-use Rattle.pc_semantics.specs.Configurations.{blank_object}
-use Rattle.pc_semantics.specs.Around.{Around, with_stack}
+use Rattle.pc_semantics.specs.Configurations.{blank_object, Around, with_stack}
 use Rattle.pc_rules.specs.Parts.{constructs}
 use Rattle.pc_valid.specs.Words.{Masks}
 use Rattle.pc_rules.specs.Control.{start_set}

@@ -11,16 +11,16 @@ use Rattle.pc_tree.specs.Kinds.{is_abstract}
 use Rattle.pc_core.specs.declared.declarations.EntityDef.{EntityDef}
 use Rattle.pc_core.specs.declared.declarations.Method.{Method}
 use Rattle.pc_core.specs.declared.declarations.ParamInfo.{ParamInfo}
-use Rattle.pc_core.specs.CoreData.{CoreData, own_methods, field_name, method_name, method_named, IsMethod}
+use Rattle.pc_core.specs.CoreData.{CoreData, own_methods, method_named, IsMethod}
+use Rattle.pc_core.specs.Parts.{field_name, method_name}
 use Rattle.pc_lists.specs.Lists.{Has, place_of}
 use Rattle.pc_core.specs.Further.{IsAbstract}
-use Rattle.pc_core.specs.Entities.{Provides, Leads, one, more}
+use Rattle.pc_core.specs.Entities.{Provides, Leads, one, more, Chain, ParamFits, StandsFor, HasFor, Conforms}
 use Rattle.pc_core.specs.Members.{method_among, method_found, method_missed}
 use Rattle.pc_lists.proofs.Bools.{false_true}
 use Rattle.pc_lists.proofs.Options.{bind_some}
 use Rattle.pc_lists.proofs.Lookup.{place_found}
 use Rattle.pc_core.specs.Formed.{Formed}
-use Rattle.pc_core.specs.Conforms.{Chain, ParamFits, StandsFor, HasFor, Conforms}
 use Rattle.pc_sub.specs.Declarations.{Sub, IsInterface, is_structural, DeclOk}
 use Rattle.pc_types.proofs.Under.{Under}
 use Rattle.pc_types.proofs.Needs.{Declared}

@@ -8,8 +8,9 @@ use Rattle.pc_core.specs.CoreData.{CoreData}
 use Rattle.pc_ann.specs.declared.annotation.Ann.{Ann}
 use Rattle.pc_semantics.specs.declared.frames.Frame.{Frame}
 use Rattle.pc_semantics.specs.declared.frames.Task.TheVariants as task
-use Rattle.pc_semantics.specs.Around.{Around}
-use Rattle.pc_semantics.specs.Evaluation.{evaluate, evaluate_node}
+use Rattle.pc_semantics.specs.Configurations.{Around}
+use Rattle.pc_semantics.specs.Evaluation.{evaluate}
+use Rattle.pc_semantics.specs.Parts.{evaluate_node}
 use Rattle.pc_rules.specs.Parts.{through}
 use Rattle.pc_valid.specs.Words.{Masks, before}
 use Rattle.pc_rules.specs.Rules.{said_by}

@@ -20,8 +20,8 @@ use Rattle.pc_ann.specs.declared.annotation.Ann.{Ann}
 use Rattle.pc_masks.specs.Masks.{without_number}
 use Rattle.pc_masks.specs.MaskLaws.{within_bits, without_number_bits}
 use Rattle.pc_semantics.specs.declared.frames.Frame.{Frame}
-use Rattle.pc_semantics.specs.Around.{Around, Goes, pushed}
-use Rattle.pc_semantics.specs.Evaluation.{push_slot, take_slot}
+use Rattle.pc_semantics.specs.Configurations.{Around, Goes, pushed}
+use Rattle.pc_semantics.specs.Parts.{push_slot, take_slot}
 use Rattle.pc_rules.specs.Parts.{all_fields, full, constructs, reachable}
 use Rattle.pc_valid.specs.Words.{Ty, before}
 use Rattle.pc_rules.specs.Fields.{is_this}

@@ -8,8 +8,8 @@ use Rattle.pc_core.specs.CoreData.{CoreData}
 use Rattle.pc_masks.specs.declared.mask.Mask.{Mask}
 use Rattle.pc_ann.specs.declared.annotation.Ann.{Ann}
 use Rattle.pc_semantics.specs.declared.frames.Frame.{Frame}
-use Rattle.pc_semantics.specs.Around.{Around, Move, Goes, with_stack, pushed, with_top}
-use Rattle.pc_semantics.specs.Step.{at_node}
+use Rattle.pc_semantics.specs.Configurations.{Around, Move, Goes, with_stack, pushed}
+use Rattle.pc_semantics.specs.Parts.{with_top, at_node}
 use Rattle.pc_rules.specs.Parts.{type_of}
 use Rattle.pc_valid.specs.Words.{Ty, before}
 use Rattle.pc_rules.specs.Fields.{is_this}

@@ -16,8 +16,7 @@ use Rattle.pc_masks.specs.declared.mask.Mask.{Mask}
 use Rattle.pc_ann.specs.declared.annotation.Ann.{Ann}
 use Rattle.pc_masks.specs.Masks.{IsInMask}
 use Rattle.pc_semantics.specs.declared.frames.Frame.{Frame}
-use Rattle.pc_semantics.specs.Configurations.{own_address}
-use Rattle.pc_semantics.specs.Around.{value_entity}
+use Rattle.pc_semantics.specs.Configurations.{own_address, value_entity}
 use Rattle.pc_rules.specs.Parts.{constructs}
 use Rattle.pc_valid.specs.Words.{Ty}
 use Rattle.pc_types.proofs.Types.{sees, Finished, OfKind, OfType, held_in, Lower, Want, wanted, StackOk}

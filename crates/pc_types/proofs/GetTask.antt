@@ -23,8 +23,9 @@ use Rattle.pc_ann.specs.declared.annotation.Rule.TheVariants as rule
 use Rattle.pc_masks.specs.Masks.{has}
 use Rattle.pc_semantics.specs.declared.frames.Frame.{Frame}
 use Rattle.pc_semantics.specs.declared.frames.Task.TheVariants as task
-use Rattle.pc_semantics.specs.Around.{Around, Move, Goes, with_stack, pushed}
-use Rattle.pc_semantics.specs.Calls.{get_value, get_field, get_of, get_from, get_task}
+use Rattle.pc_semantics.specs.Configurations.{Around, Move, Goes, with_stack, pushed}
+use Rattle.pc_semantics.specs.Parts.{get_value, get_field, get_of, get_from}
+use Rattle.pc_semantics.specs.Calls.{get_task}
 use Rattle.pc_rules.specs.Parts.{says_of, through, type_of, one_child, last_child, constructs}
 use Rattle.pc_valid.specs.Words.{Ty, Masks, before}
 use Rattle.pc_rules.specs.Fields.{is_this, field_of, own_field, field_type}

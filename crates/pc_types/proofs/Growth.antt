@@ -3,7 +3,8 @@ use Rattle.std.specs.Prelude.{◌≡◌, ℕ, ◌<◌, List, [], ◌∷◌, leng
 use Rattle.std.proofs.Common.{inl, inr, ap, subst, ◌∙◌}
 use Rattle.std.proofs.lemmas.Option.{same_Some, none-some}
 use Rattle.std.specs.FinMap.{get}
-use Rattle.pc_heap.specs.Objects.{ObjectMap, class_in, class_at, Object}
+use Rattle.pc_heap.specs.Objects.{ObjectMap, class_at, Object}
+use Rattle.pc_heap.specs.Parts.{class_in}
 use Rattle.pc_heap.specs.declared.value.Address.{Address}
 use Rattle.pc_heap.specs.declared.value.Value.{Value}
 use Rattle.pc_heap.specs.declared.value.Value.TheVariants.{Num, Truth, Text, Prim, At}
@@ -17,8 +18,7 @@ use Rattle.pc_ann.specs.declared.annotation.Ann.{Ann}
 use Rattle.pc_semantics.specs.declared.actors.Actor.{Actor}
 use Rattle.pc_semantics.specs.declared.frames.Frame.{Frame}
 use Rattle.pc_semantics.specs.declared.mailbox.Message.{Message}
-use Rattle.pc_semantics.specs.Configurations.{own_address}
-use Rattle.pc_semantics.specs.Around.{value_entity}
+use Rattle.pc_semantics.specs.Configurations.{own_address, value_entity}
 use Rattle.pc_valid.specs.Words.{Ty}
 use Rattle.pc_types.proofs.Types.{Finished, OfType, OfSome, ArgumentsOk, param_type, held_in, Want, wanted, StackOk}
 use Rattle.pc_types.proofs.Frames.{HasFields, ThisOk, SlotsOk, Held, FrameOk, LastOk, WaitOk, FramesOk}

@@ -7,7 +7,8 @@ use Rattle.std.proofs.lemmas.Bool.Decides.{eqb_tells}
 use Rattle.std.specs.Ordering.{eq_by_cmp}
 use Rattle.std.specs.FinMap.{get, insert, get-insert}
 use Rattle.std.proofs.lemmas.Map.Views.{tells_apart}
-use Rattle.pc_heap.specs.Objects.{address_cmp, ObjectMap, made_by, next_address, with_field, with_value, object_in, Object}
+use Rattle.pc_heap.specs.Objects.{address_cmp, ObjectMap, made_by, next_address, with_field, with_value, Object}
+use Rattle.pc_heap.specs.Parts.{object_in}
 use Rattle.pc_heap.proofs.Maps.{addresses_total, exact_addresses, get_own}
 use Rattle.pc_heap.proofs.Counts.{made_more}
 use Rattle.pc_lists.specs.Counts.{one_if}

@@ -14,7 +14,8 @@ use Rattle.pc_core.specs.declared.declarations.Method.{Method}
 use Rattle.pc_core.specs.declared.declarations.MethodKind.TheVariants as method
 use Rattle.pc_core.specs.declared.nodes.NodeKind.{NodeKind}
 use Rattle.pc_core.specs.declared.nodes.NodeKind.TheVariants as nodes
-use Rattle.pc_core.specs.CoreData.{CoreData, own_methods, method_name, method_named}
+use Rattle.pc_core.specs.CoreData.{CoreData, own_methods, method_named}
+use Rattle.pc_core.specs.Parts.{method_name}
 use Rattle.pc_tree.specs.Kinds.{may_have_fields}
 use Rattle.pc_lists.specs.Lists.{place_of}
 use Rattle.pc_lists.proofs.Options.{bind_some}
@@ -23,9 +24,9 @@ use Rattle.pc_lists.proofs.Gets.{get_range}
 use Rattle.pc_ann.specs.declared.annotation.Ann.{Ann}
 use Rattle.pc_semantics.specs.declared.frames.Frame.{Frame}
 use Rattle.pc_semantics.specs.declared.frames.Task.TheVariants as task
-use Rattle.pc_semantics.specs.Configurations.{own_address}
-use Rattle.pc_semantics.specs.Around.{Around, none, value_entity}
-use Rattle.pc_semantics.specs.Calls.{invoke_task, truth_text}
+use Rattle.pc_semantics.specs.Configurations.{own_address, Around, none, value_entity}
+use Rattle.pc_semantics.specs.Calls.{invoke_task}
+use Rattle.pc_semantics.specs.Parts.{truth_text}
 use Rattle.pc_rules.specs.Parts.{through, constructs}
 use Rattle.pc_valid.specs.Words.{Ty, before}
 use Rattle.pc_rules.proofs.ByNumber.{arguments}

@@ -24,9 +24,9 @@ use Rattle.pc_semantics.specs.declared.mailbox.Message.{Message}
 use Rattle.pc_semantics.specs.declared.outcome.Lack.{Lack}
 use Rattle.pc_semantics.specs.declared.outcome.Outcome.{Outcome}
 use Rattle.pc_semantics.specs.declared.outcome.Outcome.TheVariants.{Lacks}
-use Rattle.pc_semantics.specs.Configurations.{Configuration, with_objects, with_actor, with_frames, own_address, blank_object, number_of_fields}
-use Rattle.pc_semantics.specs.Around.{Move, Stuck, Overflows, Goes, Writes, Makes, Spawns, Enters, Sends, Leaves}
-use Rattle.pc_semantics.specs.Step.{delivered, left, made, around}
+use Rattle.pc_semantics.specs.Configurations.{Configuration, with_actor, with_frames, own_address, blank_object, Move, Stuck, Overflows, Goes, Writes, Makes, Spawns, Enters, Sends, Leaves}
+use Rattle.pc_semantics.specs.Parts.{with_objects, number_of_fields, delivered}
+use Rattle.pc_semantics.specs.Step.{left, made, around}
 use Rattle.pc_types.proofs.Types.{OfType}
 use Rattle.pc_types.proofs.Frames.{FramesOk}
 use Rattle.pc_types.proofs.Typed.{field_type, ObjectOk, PlaceOk, ObjectsOk, MessageOk, MailOk, FirstMailOk, ActorOk, WellTyped}

@@ -25,8 +25,7 @@ use Rattle.pc_ann.specs.declared.annotation.Note.{Note}
 use Rattle.pc_ann.specs.declared.annotation.Ann.{Ann}
 use Rattle.pc_semantics.specs.declared.frames.Frame.{Frame}
 use Rattle.pc_semantics.specs.declared.frames.Task.TheVariants as task
-use Rattle.pc_semantics.specs.Configurations.{blank_object}
-use Rattle.pc_semantics.specs.Around.{Around, Move, Makes, first_frame, with_stack}
+use Rattle.pc_semantics.specs.Configurations.{blank_object, Around, Move, Makes, first_frame, with_stack}
 use Rattle.pc_semantics.specs.Calls.{make_task}
 use Rattle.pc_rules.specs.Parts.{constructs, through}
 use Rattle.pc_valid.specs.Words.{before}

@@ -13,9 +13,8 @@ use Rattle.pc_core.specs.CoreData.{CoreData}
 use Rattle.pc_ann.specs.declared.annotation.Ann.{Ann}
 use Rattle.pc_semantics.specs.declared.frames.Frame.{Frame}
 use Rattle.pc_semantics.specs.declared.mailbox.Message.{Message}
-use Rattle.pc_semantics.specs.Configurations.{own_address, blank_object}
+use Rattle.pc_semantics.specs.Configurations.{own_address, blank_object, Around, Move, Stuck, Overflows, Goes, Writes, Makes, Spawns, Enters, Sends, Leaves}
 use Rattle.pc_semantics.specs.Step.{left}
-use Rattle.pc_semantics.specs.Around.{Around, Move, Stuck, Overflows, Goes, Writes, Makes, Spawns, Enters, Sends, Leaves}
 use Rattle.pc_types.proofs.Types.{OfType}
 use Rattle.pc_types.proofs.Frames.{Held, WaitOk, FramesOk}
 use Rattle.pc_types.proofs.Typed.{field_type, ObjectsOk, MessageOk}

@@ -14,7 +14,7 @@ use Rattle.pc_core.specs.Nodes.{NamesSlot}
 use Rattle.pc_core.specs.Formed.{Formed}
 use Rattle.pc_ann.specs.declared.annotation.Ann.{Ann}
 use Rattle.pc_sub.specs.Declarations.{Sub}
-use Rattle.pc_core.specs.Conforms.{StandsFor}
+use Rattle.pc_core.specs.Entities.{StandsFor}
 use Rattle.pc_rules.proofs.ByNumber.{slot_of}
 use Rattle.pc_rules.specs.Checks.{Checks}
 use Rattle.pc_types.proofs.Under.{Under}

@@ -20,7 +20,7 @@ use Rattle.pc_lists.proofs.Options.{bind_some, kept}
 use Rattle.pc_masks.specs.declared.mask.Mask.{Mask}
 use Rattle.pc_ann.specs.declared.annotation.Ann.{Ann}
 use Rattle.pc_masks.specs.Masks.{IsInMask}
-use Rattle.pc_semantics.specs.Around.{value_entity}
+use Rattle.pc_semantics.specs.Configurations.{value_entity}
 use Rattle.pc_rules.specs.Parts.{constructs, last_child}
 use Rattle.pc_valid.specs.Words.{Ty}
 use Rattle.pc_rules.specs.Fields.{field_of, is_this, lacks_fields}

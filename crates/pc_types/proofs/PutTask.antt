@@ -30,8 +30,9 @@ use Rattle.pc_masks.specs.Masks.{IsInMask, has, with_number}
 use Rattle.pc_masks.specs.MaskLaws.{with_number_bits}
 use Rattle.pc_semantics.specs.declared.frames.Frame.{Frame}
 use Rattle.pc_semantics.specs.declared.frames.Task.TheVariants as task
-use Rattle.pc_semantics.specs.Around.{Around, Move, Writes, with_stack, pushed, value_or_none}
-use Rattle.pc_semantics.specs.Calls.{put_value, put_field, put_of, put_into, put_task}
+use Rattle.pc_semantics.specs.Configurations.{Around, Move, Writes, with_stack, pushed}
+use Rattle.pc_semantics.specs.Parts.{value_or_none, put_value, put_field, put_of, put_into}
+use Rattle.pc_semantics.specs.Calls.{put_task}
 use Rattle.pc_rules.specs.Parts.{says_of, goes_to, through, type_of, last_child, constructs}
 use Rattle.pc_valid.specs.Words.{Ty, Masks, before, place}
 use Rattle.pc_rules.specs.Fields.{is_this, field_of, own_field, writes, written_field, old_type, own_old, own_writes}

@@ -13,8 +13,7 @@ use Rattle.pc_core.specs.Methods.{ResultFits}
 use Rattle.pc_ann.specs.declared.annotation.Ann.{Ann}
 use Rattle.pc_semantics.specs.declared.frames.Frame.{Frame}
 use Rattle.pc_semantics.specs.declared.frames.Task.TheVariants as task
-use Rattle.pc_semantics.specs.Configurations.{own_address}
-use Rattle.pc_semantics.specs.Around.{Around, value_entity}
+use Rattle.pc_semantics.specs.Configurations.{own_address, Around, value_entity}
 use Rattle.pc_semantics.specs.Step.{left}
 use Rattle.pc_semantics.specs.Calls.{leave}
 use Rattle.pc_rules.specs.Parts.{constructs}

@@ -12,7 +12,7 @@ use Rattle.pc_ann.specs.declared.annotation.Note.{Note}
 use Rattle.pc_ann.specs.declared.annotation.Ann.{Ann}
 use Rattle.pc_semantics.specs.declared.frames.Frame.{Frame}
 use Rattle.pc_semantics.specs.declared.frames.Task.{Task}
-use Rattle.pc_semantics.specs.Around.{Around, with_stack, pushed}
+use Rattle.pc_semantics.specs.Configurations.{Around, with_stack, pushed}
 use Rattle.pc_rules.specs.Fields.{is_this}
 use Rattle.pc_types.proofs.Types.{OfSome, Want, StackOk}
 use Rattle.pc_types.proofs.Tasks.{Within, Follows, TasksOk}

@@ -23,8 +23,7 @@ use Rattle.pc_ann.specs.declared.annotation.Note.{Note}
 use Rattle.pc_ann.specs.declared.annotation.Ann.{Ann}
 use Rattle.pc_semantics.specs.declared.frames.Frame.{Frame}
 use Rattle.pc_semantics.specs.declared.frames.Task.TheVariants as task
-use Rattle.pc_semantics.specs.Configurations.{own_address, blank_object}
-use Rattle.pc_semantics.specs.Around.{Around, Move, Spawns, with_stack, pushed}
+use Rattle.pc_semantics.specs.Configurations.{own_address, blank_object, Around, Move, Spawns, with_stack, pushed}
 use Rattle.pc_semantics.specs.Calls.{spawn_task}
 use Rattle.pc_rules.specs.Parts.{through}
 use Rattle.pc_valid.specs.Words.{Ty, before}

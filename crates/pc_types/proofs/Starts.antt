@@ -28,7 +28,8 @@ use Rattle.pc_ann.specs.declared.annotation.Ann.{Ann}
 use Rattle.pc_lists.proofs.Bools.{false_true}
 use Rattle.pc_rules.specs.Checks.{Checks}
 use Rattle.pc_semantics.specs.declared.actors.Actor.{Actor}
-use Rattle.pc_semantics.specs.Configurations.{own_address, number_of_entity, main_create, number_of_fields, blank_object, environment, environment_address, start_of, start}
+use Rattle.pc_semantics.specs.Configurations.{own_address, main_create, blank_object, environment, environment_address, start_of, start}
+use Rattle.pc_semantics.specs.Parts.{number_of_entity, number_of_fields}
 use Rattle.pc_types.proofs.Types.{Finished, OfType, ArgumentsOk}
 use Rattle.pc_types.proofs.Typed.{field_type, ObjectOk, PlaceOk, ObjectsOk, ActorOk, WellTyped}
 use Rattle.pc_types.proofs.Needs.{Needs}

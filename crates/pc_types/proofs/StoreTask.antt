@@ -25,8 +25,9 @@ use Rattle.pc_masks.specs.Masks.{IsInMask, has, with_number}
 use Rattle.pc_masks.specs.MaskLaws.{with_number_bits}
 use Rattle.pc_semantics.specs.declared.frames.Frame.{Frame}
 use Rattle.pc_semantics.specs.declared.frames.Task.TheVariants as task
-use Rattle.pc_semantics.specs.Around.{Around, with_stack, value_or_none}
-use Rattle.pc_semantics.specs.Calls.{held, store, store_task}
+use Rattle.pc_semantics.specs.Configurations.{Around, with_stack}
+use Rattle.pc_semantics.specs.Parts.{value_or_none, held}
+use Rattle.pc_semantics.specs.Calls.{store, store_task}
 use Rattle.pc_rules.specs.Parts.{goes_to, reachable, through, type_of, one_child}
 use Rattle.pc_valid.specs.Words.{Ty, Masks, before}
 use Rattle.pc_rules.specs.Fields.{is_this}

@@ -12,9 +12,9 @@ use Rattle.pc_core.specs.CoreData.{CoreData}
 use Rattle.pc_core.specs.Entities.{print_method}
 use Rattle.pc_ann.specs.declared.annotation.Ann.{Ann}
 use Rattle.pc_semantics.specs.declared.mailbox.Message.{Message}
-use Rattle.pc_semantics.specs.Configurations.{Configuration, with_actor, own_address}
-use Rattle.pc_semantics.specs.Around.{first_frame}
-use Rattle.pc_semantics.specs.Step.{printed_text, begin_method}
+use Rattle.pc_semantics.specs.Configurations.{Configuration, with_actor, own_address, first_frame}
+use Rattle.pc_semantics.specs.Step.{printed_text}
+use Rattle.pc_semantics.specs.Parts.{begin_method}
 use Rattle.pc_rules.specs.Parts.{constructs}
 use Rattle.pc_rules.specs.Control.{start_set}
 use Rattle.pc_lists.proofs.Bools.{false_true}

@@ -14,7 +14,7 @@ use Rattle.pc_core.specs.declared.declarations.ParamInfo.{ParamInfo}
 use Rattle.pc_core.specs.CoreData.{CoreData}
 use Rattle.pc_tree.specs.Kinds.{may_have_fields}
 use Rattle.pc_core.specs.Nodes.{NamesPrimitive}
-use Rattle.pc_semantics.specs.Around.{value_entity}
+use Rattle.pc_semantics.specs.Configurations.{value_entity}
 use Rattle.pc_valid.specs.Words.{Ty}
 use Rattle.pc_types.proofs.Under.{Under}
 

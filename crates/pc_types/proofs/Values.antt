@@ -15,7 +15,7 @@ use Rattle.pc_core.specs.declared.declarations.EntityDef.{EntityDef}
 use Rattle.pc_core.specs.CoreData.{CoreData}
 use Rattle.pc_core.specs.Nodes.{NamesPrimitive}
 use Rattle.pc_ann.specs.declared.annotation.Ann.{Ann}
-use Rattle.pc_semantics.specs.Around.{value_entity}
+use Rattle.pc_semantics.specs.Configurations.{value_entity}
 use Rattle.pc_lists.proofs.Bools.{false_true}
 use Rattle.pc_types.proofs.Types.{OfKind, OfType, Want, Answers, StackOk}
 use Rattle.pc_types.proofs.Needs.{Needs}

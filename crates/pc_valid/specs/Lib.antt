@@ -1,4 +1,3 @@
 pub mod Words
-pub mod Rules
 pub mod Valid
 pub mod NoRule

@@ -6,7 +6,7 @@ use Rattle.pc_core.specs.{declared.declarations.Method.Method, declared.nodes.Sl
 use Rattle.pc_lists.specs.Lists.{Each}
 use Rattle.pc_masks.specs.{declared.mask.Mask.Mask, Masks.first}
 use Rattle.pc_ann.specs.{declared.annotation.Note.Note, declared.annotation.Ann.Ann}
-use Rattle.pc_valid.specs.{Words.Slots, Words.Masks, Words.before, Words.masks_after, Words.IsConstructor, Words.AllSet, Words.StartsSet, Rules.Means, Valid.KeepsWritten, Valid.Meets, Valid.SetsFields}
+use Rattle.pc_valid.specs.{Words.Slots, Words.Masks, Words.before, Words.masks_after, Words.IsConstructor, Words.AllSet, Words.StartsSet, Valid.Means, Valid.KeepsWritten, Valid.Meets, Valid.SetsFields}
 use Rattle.pc_core.specs.declared.nodes.NodeKind.TheVariants as node_kind
 
 -- This note of the node with this number satisfies its rule, by the types of the slots and by the notes of the node's

@@ -155,8 +155,6 @@ Sendable (note ∷ notes) (param ∷ params) =
     ((value : Ty) × (note.ty ≡ Some value) × ((sendable_form value.1 ≡ true) ⊎ (sendable param.cap ≡ true))) × Sendable notes params
 Sendable notes params = ⊥
 
--- ---- constructors before all fields are set
-
 -- The last element of a list.
 abbrev pub last : {A : Type 0} → List A → Option A
 last elements = slice_get elements (length elements - 1)

@@ -4,8 +4,8 @@
 //!
 //! - `specs/Words.antt`: types, places and masks; slots, fields and methods by their names; when a value may go where another
 //!   is wanted.
-//! - `specs/Rules.antt`: the rules.
-//! - `specs/Valid.antt`: valid annotations, and what shows that a core has none.
+//! - `specs/Valid.antt`: the rules, and valid annotations.
+//! - `specs/NoRule.antt`: what shows that a core has none.
 //!
 //! How the code is to be read is in `CONTRIBUTING.md` (How to read the code).
 #![tactic(auto)]

@@ -5,13 +5,15 @@ use Rattle.std.specs.Str.{bytes_eq}
 use Rattle.std.proofs.lemmas.Option.{none-some, same_Some}
 use Rattle.pc_body_spec.specs.Faults.{BodyNameFault, double, long_text, unknown}
 use Rattle.pc_body_spec.specs.Methods.{MethodFault, MethodOutcome, in_body, nodes_full, slots_full}
-use Rattle.pc_body_spec.specs.Scopes.{Context}
+use Rattle.pc_body_spec.specs.Bodies.{Context}
 use Rattle.pc_file_spec.specs.Cores.{Owned, Parts, and_member, and_members, body_fault, if_ok, name_fault, outcome, with_outcome, context_of}
 use Rattle.pc_lists.specs.Lists.{Text}
 use Rattle.pc_members.specs.Members.{built_in_names, entity_names, field_texts}
 use Rattle.pc_members.specs.MemberLists.{trait_names}
-use Rattle.pc_names.specs.Faults.{count_faults, method_count, cycle_faults, IsNotMemory, name_faults, main_faults}
+use Rattle.pc_names.specs.Faults.{count_faults, cycle_faults, IsNotMemory, name_faults, main_faults}
+use Rattle.pc_names.specs.Parts.{method_count}
 use Rattle.pc_names.specs.Faults as spec
+use Rattle.pc_names.specs.Parts as parts
 use Rattle.pc_names.specs.Mains.{is_main}
 use Rattle.pc_names.specs.declared.fault.NameFault.{NameFault}
 use Rattle.pc_names.specs.declared.fault.NameFault.TheVariants as fault
@@ -35,7 +37,7 @@ of_both (x ∷ xs) ys a b = a
 of_one : (g : NameFault) → IsNotMemory g → OfFirst (g ∷ [])
 of_one g is f h = subst IsNotMemory (same_Some g f h) is
 
-of_where : (b : Bool) (g : NameFault) → IsNotMemory g → OfFirst (spec.where_ b g)
+of_where : (b : Bool) (g : NameFault) → IsNotMemory g → OfFirst (parts.where_ b g)
 of_where true g is = of_one g is
 of_where false g is = of_none
 
@@ -55,7 +57,7 @@ module _ (entities traits : List Text) where
   of_type : (ty : TypeRef) → OfFirst (spec.type_faults entities ty)
   of_type ty = of_where _ _ (λ is. cc is)
 
-  of_result : (o : Option TypeRef) → OfFirst (spec.result_faults entities o)
+  of_result : (o : Option TypeRef) → OfFirst (parts.result_faults entities o)
   of_result None = of_none
   of_result (Some ty) = of_type ty
 
@@ -73,12 +75,12 @@ module _ (entities traits : List Text) where
   of_params : (fields known : List Text) (ps : List ParamDef) → OfFirst (spec.param_faults entities fields known ps)
   of_params fields known [] = of_none
   of_params fields known (p ∷ ps) =
-      of_both (spec.where_ _ _) _ (of_where _ _ (λ is. cc is)) (of_both (spec.type_faults entities p.ty) _ (of_type p.ty) (of_params fields (known ++ p.name.text ∷ []) ps))
+      of_both (parts.where_ _ _) _ (of_where _ _ (λ is. cc is)) (of_both (spec.type_faults entities p.ty) _ (of_type p.ty) (of_params fields (known ++ p.name.text ∷ []) ps))
 
   of_methods : (fields known : List Text) (ms : List t.Method) → OfFirst (spec.method_faults entities fields known ms)
   of_methods fields known [] = of_none
   of_methods fields known (m ∷ ms) =
-      of_both (spec.where_ _ _) _ (of_where _ _ (λ is. cc is))
+      of_both (parts.where_ _ _) _ (of_where _ _ (λ is. cc is))
       (of_both (spec.signature_faults entities fields m) _ (of_both (spec.param_faults entities fields [] m.params) _ (of_params fields [] m.params) (of_result m.result)) (of_methods fields (known ++ m.name.text ∷ []) ms))
 
   of_entity : (e : t.Entity) → OfFirst (spec.entity_faults entities traits e)
@@ -86,7 +88,7 @@ module _ (entities traits : List Text) where
       of_both (spec.added_faults e) _ (of_where _ _ (λ is. cc is))
       (of_both (spec.provided_faults traits [] e.provides) _ (of_provided [] e.provides) (of_both (spec.field_faults entities [] e.fields) _ (of_fields [] e.fields) (of_methods (field_texts e.fields) [] e.methods)))
 
-  of_entities : (es : List t.Entity) → OfFirst (spec.entities_faults entities traits es)
+  of_entities : (es : List t.Entity) → OfFirst (parts.entities_faults entities traits es)
   of_entities [] = of_none
   of_entities (e ∷ es) = of_both (spec.entity_faults entities traits e) _ (of_entity e) (of_entities es)
 
@@ -95,11 +97,11 @@ module _ (entities traits : List Text) where
 of_cycles : (a : ℕ) (es : List t.Entity) (ls : List (List ℕ)) → OfFirst (cycle_faults a es ls)
 of_cycles a [] ls = of_none
 of_cycles a (e ∷ es) [] = of_none
-of_cycles a (e ∷ es) (l ∷ ls) = of_both (spec.where_ _ _) _ (of_where _ _ (λ is. cc is)) (of_cycles (a + 1) es ls)
+of_cycles a (e ∷ es) (l ∷ ls) = of_both (parts.where_ _ _) _ (of_where _ _ (λ is. cc is)) (of_cycles (a + 1) es ls)
 
 of_counts : (all : List t.Entity) (n : ℕ) (es : List t.Entity) → OfFirst (count_faults all n es)
 of_counts all n [] = of_none
-of_counts all n (e ∷ es) = of_both (spec.where_ _ _) _ (of_where _ _ (λ is. cc is)) (of_counts all (n + method_count all e) es)
+of_counts all n (e ∷ es) = of_both (parts.where_ _ _) _ (of_where _ _ (λ is. cc is)) (of_counts all (n + method_count all e) es)
 
 of_mains : (es : List t.Entity) → OfFirst (main_faults es)
 of_mains [] = of_one fault.NoMain (λ is. cc is)

@@ -8,7 +8,7 @@ use Rattle.pc_lists.specs.Lists.{Has, IsIn}
 use Rattle.pc_members.proofs.Reached.{Within, led_listed, listed_led}
 use Rattle.pc_members.proofs.Reaches.{get_in, in_get}
 use Rattle.pc_members.specs.Edges.{EdgePath, Edges, ascending, link, links, edges_from as after, reached}
-use Rattle.pc_members.specs.Members.{or_nil}
+use Rattle.pc_members.specs.Parts.{or_nil}
 use Rattle.pc_sends.proofs.Filtered.{Filtered}
 use Rattle.pc_verdicts.proofs.Deciding.{filtered, has_told, turned}
 use Rattle.pc_verdicts.proofs.Same.{Told}

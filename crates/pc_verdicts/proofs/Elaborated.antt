@@ -1,9 +1,11 @@
 -- The stages of a source have an end.
 use Rattle.std.proofs.Common.{◌≡◌, ◌<◌, ◌≤◌, ◌+◌, ◌^◌, List, [], ◌∷◌, length, Some, Ok, Err, inl, inr, refl, ap, subst, arith}
 use Rattle.std.specs.Prelude.{Result, codes, slice_get}
+use Rattle.pc_core_relation.proofs.Files.{made_cores_stand}
+use Rattle.pc_core_relation.proofs.MemberFaults.{is_first}
 use Rattle.pc_file_spec.specs.Cores.{core_with, texts_of_file, members_from, Parts, built_in_parts, if_ok, parts_of}
 use Rattle.pc_grammar.specs.FileAnswers.{FileAnswer, IsFileAnswer, spelled, too_deep, unexpected}
-use Rattle.pc_grammar.specs.SpellsFile.{SpellsFile}
+use Rattle.pc_grammar.specs.Spells.{SpellsFile}
 use Rattle.pc_grammar_total.proofs.Answered.{file_has_one}
 use Rattle.pc_lex.proofs.Together.{told}
 use Rattle.pc_lex.specs.Pieces.{token_limit}
@@ -70,11 +72,11 @@ module _ (name bytes : Text) (file : t.File) where
   by_parts : name_faults file (above_all (edges_of file)) ≡ [] → length (texts_of_file file) < 2 ^ 32 → (r : Result Parts NameFault) → parts_of file ≡ r → HasEnd (Elaborating name bytes file)
   by_parts clear few (Ok p) e =
       let core = core_with file (above_all (edges_of file)) p in
-      (Ok core, elaborated (record { entities = entity_names file; texts = []; above = above_all (edges_of file) }, collected clear, ap (λ r. if_ok r (λ q. Ok (core_with file (above_all (edges_of file)) q))) e, few))
+      (Ok core, elaborated (made_cores_stand file core (record { entities = entity_names file; texts = []; above = above_all (edges_of file) }, collected clear, ap (λ r. if_ok r (λ q. Ok (core_with file (above_all (edges_of file)) q))) e, few)))
   by_parts clear few (Err f) e =
       let n : NamesData = record { entities = entity_names file; texts = []; above = above_all (edges_of file) } in (
         Err (refused (name_status f) (name_line name bytes f)),
-        misused f (of_members file built_in_parts (members_from file.entities first_own file.entities) f (ap failed e)) (n, collected clear, ap (λ r. if_ok r (λ q. Ok (core_with file (above_all (edges_of file)) q))) e),
+        misused f (of_members file built_in_parts (members_from file.entities first_own file.entities) f (ap failed e)) (is_first file f (n, collected clear, ap (λ r. if_ok r (λ q. Ok (core_with file (above_all (edges_of file)) q))) e)),
       )
 
   by_faults : length (texts_of_file file) < 2 ^ 32 → (fs : List NameFault) → name_faults file (above_all (edges_of file)) ≡ fs → HasEnd (Elaborating name bytes file)

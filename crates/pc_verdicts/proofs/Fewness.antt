@@ -7,12 +7,13 @@ use Rattle.pc_tree.specs.declared.kinds.EntityKind.{EntityKind}
 use Rattle.pc_token.specs.declared.kinds.Token.{Token}
 use Rattle.pc_token.specs.declared.words.Word.{Word}
 use Rattle.pc_token.specs.declared.words.Word.TheVariants as w
-use Rattle.pc_grammar.specs.Spells.{Spells, SpellsTerms, SpellsMoreTerms, SpellsSuffixes, SpellsArgs, SpellsMoreArgs, SpellsArm, SpellsArms, SpellsMoreArms, SpellsOther, SpellsSeq, SpellsItems, SpellsMoreItems, SpellsItem}
-use Rattle.pc_grammar.specs.SpellsFile.{SpellsValue, SpellsFields, SpellsBody, SpellsMethod, SpellsMethods, SpellsEntity, SpellsMoreEntities, SpellsEntities, SpellsFile}
+use Rattle.pc_grammar.specs.Spells.{Spells, SpellsTerms, SpellsMoreTerms, SpellsSuffixes, SpellsArgs, SpellsMoreArgs, SpellsArm, SpellsArms, SpellsMoreArms, SpellsOther, SpellsSeq, SpellsItems, SpellsMoreItems, SpellsItem, SpellsValue, SpellsBody, SpellsMethod, SpellsEntity, SpellsEntities, SpellsFile}
+use Rattle.pc_grammar.specs.Parts.{SpellsFields, SpellsMethods, SpellsMoreEntities}
 use Rattle.pc_members.specs.Members.{field_texts, method_texts}
 use Rattle.pc_members.specs.MemberLists.{is_among, with_name, with_names}
 use Rattle.pc_names.specs.Faults.{built_in_texts, with_members}
-use Rattle.pc_body_spec.specs.Texts.{expr_texts, exprs_texts, suffixes_texts, arm_texts, arms_texts, other_texts, seq_texts, items_texts, item_texts, value_texts, body_texts, values_texts, bodies_texts, entities_texts}
+use Rattle.pc_body_spec.specs.Slots.{expr_texts, exprs_texts, suffixes_texts, arm_texts, arms_texts, other_texts, seq_texts, items_texts, item_texts, entities_texts}
+use Rattle.pc_body_spec.specs.Parts.{value_texts, body_texts, values_texts, bodies_texts}
 use Rattle.pc_file_spec.specs.Cores.{texts_of_file}
 
 -- There are no more texts than tokens.

@@ -25,7 +25,8 @@ use Rattle.pc_rules.specs.Rules.{IsSaid, said_by, says}
 use Rattle.pc_rules.proofs.Derivations.{rule_to, to_rule}
 use Rattle.pc_sub.specs.Declarations.{DeclOk}
 use Rattle.pc_sub.specs.DeclarationFaults.{first_fault}
-use Rattle.pc_sub.specs.Faults.{fits_without_fault}
+use Rattle.pc_sub.specs.Faults.{none_iff_fits}
+use Rattle.pc_sub.proofs.FirstFaults.{first_is}
 use Rattle.pc_sub.specs.declared.faults.DeclFault.{DeclFault}
 use Rattle.pc_refusals.specs.Derivation.{Judging, judge_line}
 use Rattle.pc_refusals.specs.Derivation.Judging.{fails, holds}
@@ -86,7 +87,7 @@ module _ (core : CoreData) (ann : Ann) (formed : Formed core) where
       let y = get_within core.slots k (omega (arith, count)) in
       elim (keeps k y.0 y.0.written refl) [
         | inl right ↦ slots_told rest (k + 1) (omega (arith, count)) (kept_more k y.0 y.1 kept right)
-        | inr d ↦ inr (k, ((y.0, y.1, d), kept))
+        | inr d ↦ inr (k, (y.0, (y.1, d, kept)))
       ]
 
   -- ---- all of it
@@ -108,8 +109,8 @@ module _ (core : CoreData) (ann : Ann) (formed : Formed core) where
   by_shape ok (inr d) = inr (fault.Shape, (ok, d))
 
   by_declarations : (o : Option DeclFault) → first_fault core ≡ o → Judged
-  by_declarations (Some f) e = inr (fault.Decl f, e)
-  by_declarations None e = by_shape ((fits_without_fault core formed).0 e) shape_told
+  by_declarations (Some f) e = inr (fault.Decl f, first_is core formed f e)
+  by_declarations None e = by_shape ((none_iff_fits core formed).0 e) shape_told
 
   pub judged : Valid core ann ⊎ ((f : JudgeFault) × spec.FirstAnnotationFault core ann f)
   judged = by_declarations (first_fault core) refl

@@ -8,10 +8,12 @@ use Rattle.pc_lists.specs.Lists.{Text}
 use Rattle.pc_refusals.specs.Source.{AcceptedStage, FromFile, SourceStage, source_limit}
 use Rattle.pc_refusals.specs.Derivation.{in_parts}
 use Rattle.pc_refusals.specs.Source.FromFile.{goes_on, refuses}
-use Rattle.pc_refusals.specs.Verdict.{FailedAt, Files, Named, NoneFailed, Reading, IsReading, longer, named, whole, EndsWith, Verdict}
+use Rattle.pc_refusals.specs.Verdict.{FailedAt, Files, Named, Reading, IsReading, longer, named, whole, EndsWith, Verdict}
+use Rattle.pc_refusals.specs.Knowing.{NoneFailed}
 use Rattle.pc_ann.specs.declared.annotation.Ann.{Ann}
 use Rattle.pc_sched.specs.Schedules.{schedule_limit}
-use Rattle.pc_top.specs.Commands.{FailedOf, IsVerdictOf, files_of}
+use Rattle.pc_top.specs.Commands.{FailedOf, IsVerdictOf}
+use Rattle.pc_top.specs.Words.{files_of}
 use Rattle.pc_core_commands.specs.Events.{EventsTelling}
 use Rattle.pc_core_commands.specs.Outcomes.{IsCount}
 use Rattle.pc_core_commands.specs.Run.{Ran}

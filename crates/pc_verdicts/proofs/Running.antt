@@ -8,7 +8,7 @@ use Rattle.pc_choose.proofs.Listing.{lists_are_one, lists_are_short}
 use Rattle.pc_choose.specs.Laws.{IsTurn}
 use Rattle.pc_choose.specs.Lists.{Chosen}
 use Rattle.pc_core.specs.CoreData.{CoreData}
-use Rattle.pc_gen.specs.Program.{schedule as own_schedule}
+use Rattle.pc_gen.specs.Generated.{generated_text, schedule as own_schedule}
 use Rattle.pc_lists.specs.Lists.{Text}
 use Rattle.pc_run.specs.Ends.{NeverLacks}
 use Rattle.pc_run.specs.Spreading.{spread}
@@ -19,7 +19,7 @@ use Rattle.pc_refusal_lines.specs.Lines.{usage_line}
 use Rattle.pc_refusals.specs.Verdict.{Named, Reading, text_as, done, headed, refused}
 use Rattle.pc_refusals.specs.declared.typing.Accepted.{Accepted}
 use Rattle.pc_core_commands.specs.Make.{made_line, made_name}
-use Rattle.pc_top.specs.Commands.Make.{IsMade, IsMake, MadeRun, made_text}
+use Rattle.pc_top.specs.Commands.Make.{IsMade, IsMake, MadeRun}
 use Rattle.pc_top.specs.Commands.Make.IsMake.{made, no_numbers}
 use Rattle.pc_top.specs.Commands.Play.{IsPlay, Played}
 use Rattle.pc_core_commands.specs.Run.{Ran}
@@ -73,7 +73,7 @@ module _ (law : CoresAreFormed) (never : AcceptedNeverLacks) where
 
   is_made : (seed size : ℕ) → Answers (IsMade seed size)
   is_made seed size =
-      accepted_answers law (MadeRun seed size) (text_as made_name (made_text seed size)) (made_on made_name (made_text seed size)) refl (λ r a h. made_run seed size a (lacks_nothing h))
+      accepted_answers law (MadeRun seed size) (text_as made_name (generated_text seed size)) (made_on made_name (generated_text seed size)) refl (λ r a h. made_run seed size a (lacks_nothing h))
 
   by_numbers : (seed size : Text) → Read (IsSeed seed) → Read (IsSize size) → Answers (IsMake seed size)
   by_numbers seed size (inl a) (inl b) = let v = is_made a.0 b.0 in (v.0, made a.0 b.0 a.1 b.1 v.1)

@@ -24,7 +24,7 @@ use Rattle.pc_sends.specs.Tables.Reach.{first as begins, next as goes_on}
 use Rattle.pc_sends.specs.Reached.{AreSent}
 use Rattle.pc_sends.specs.declared.table.Row.{Row}
 use Rattle.pc_sends.specs.declared.table.Table.{Table}
-use Rattle.pc_core.specs.Conforms.{Conforms}
+use Rattle.pc_core.specs.Entities.{Conforms}
 use Rattle.pc_sub.specs.DeclarationFaults.{conform_faults}
 use Rattle.pc_sub.specs.Faults.{conformed, conforms}
 use Rattle.pc_sub.specs.declared.faults.DeclFault.{DeclFault}

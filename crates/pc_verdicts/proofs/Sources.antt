@@ -2,7 +2,6 @@
 use Rattle.std.proofs.Common.{◌≤◌, List, length, Ok, Err, inl, inr, refl, sym, subst}
 use Rattle.std.specs.Prelude.{IsSome, Result}
 use Rattle.pc_core.specs.CoreData.{CoreData}
-use Rattle.pc_core_relation.proofs.Files.{made_cores_stand}
 use Rattle.pc_explain.specs.Explanation.IsExplanation.{declared, no_rule, unset}
 use Rattle.pc_grammar.specs.FileAnswers.{IsFileAnswer, spelled}
 use Rattle.pc_lex.specs.Pieces.{TokenList}
@@ -60,8 +59,7 @@ module _ (law : CoresAreFormed) where
 
   tree_told : (name bytes : Text) (tokens : List Token) (file : t.File) (end : Result CoreData Verdict) → length bytes ≤ source_limit → TokenList bytes tokens → IsFileAnswer tokens (spelled file)
       → Elaborating name bytes file end → HasEnd (Explaining name bytes file)
-  tree_told name bytes tokens file _ short l p (elaborated {core = core} made) =
-      let stands = made_cores_stand file core made in
+  tree_told name bytes tokens file _ short l p (elaborated {core = core} stands) =
       let formed = (law bytes core (record { short = short; tokens = tokens; file = file; lexed = l; parsed = p; stands = stands })).0 in
       let text = core_told name bytes tokens core (checked core formed) in
       (Ok text.0, core_explained l stands text.1)

@@ -36,7 +36,9 @@ use Rattle.pc_rules.specs.Checks.{StartsFrom, is_else}
 use Rattle.pc_rules.specs.Checks.StartsFrom.{body, else_branch, first_child, next_child}
 use Rattle.pc_sub.specs.Declarations.{DeclOk}
 use Rattle.pc_sub.specs.DeclarationFaults.{first_fault}
-use Rattle.pc_sub.specs.Faults.{fits_without_fault}
+use Rattle.pc_sub.specs.Faults.{none_iff_fits}
+use Rattle.pc_sub.specs.FirstFault.{IsFirstDeclarationFault}
+use Rattle.pc_sub.proofs.FirstFaults.{first_is}
 use Rattle.pc_sub.specs.declared.faults.DeclFault.{DeclFault}
 use Rattle.pc_refusals.specs.Source.{Typing}
 use Rattle.pc_refusals.specs.Source.Typing.{declared, no_rule, typed, unset}
@@ -50,7 +52,7 @@ use Rattle.pc_verdicts.proofs.Stages.{HasEnd}
 -- What the checker finds.
 pub data Checked (core : CoreData) : Type 0 where
   is_valid : (ann : Ann) → Valid core ann → SlotsAreSmall ann.slots → NotesFit ann.notes → Checked core
-  fails : (f : DeclFault) → first_fault core ≡ Some f → Checked core
+  fails : (f : DeclFault) → IsFirstDeclarationFault core f → Checked core
   stopped : (ann : Ann) (n : ℕ) (m : Masks) → StopsAt core n m ann → Checked core
   left : (ann : Ann) (m : ℕ) → InferenceLeavesUnset core m ann → Checked core
 
@@ -161,9 +163,9 @@ module _ (core : CoreData) (formed : Formed core) where
   }
 
   by_declarations : (o : Option DeclFault) → first_fault core ≡ o → Checked core
-  by_declarations (Some f) e = fails f e
+  by_declarations (Some f) e = fails f (first_is core formed f e)
   by_declarations None e =
-      walk ((fits_without_fault core formed).0 e) (length core.nodes) 0 (record { slots = first_types core; notes = [] }) (omega arith) first_walked (first_slots core formed) tt
+      walk ((none_iff_fits core formed).0 e) (length core.nodes) 0 (record { slots = first_types core; notes = [] }) (omega arith) first_walked (first_slots core formed) tt
 
   pub checked : Checked core
   checked = by_declarations (first_fault core) refl

@@ -6,11 +6,11 @@ use Rattle.pc_feed.specs.declared.parts.DerivationFault.{DerivationFault}
 use Rattle.pc_lex.specs.declared.fault.LexFault.{LexFault}
 use Rattle.pc_names.specs.declared.fault.NameFault.{NameFault}
 use Rattle.pc_lists.specs.Lists.{Text}
-use Rattle.pc_refusals.specs.{FaultLines.decl_offset, FaultLines.decl_text, FaultLines.method_start, FaultLines.node_start, FaultLines.fault_line, FaultLines.fault_status, FaultLines.name_line, FaultLines.name_status, Derivation.judge_line, Derivation.text_line, Derivation.text_status, declared.source.Source.Source, declared.stop.Stop.Stop}
+use Rattle.pc_refusals.specs.{FaultLines.decl_offset, FaultLines.decl_text, Parts.method_start, Parts.node_start, FaultLines.fault_line, FaultLines.fault_status, FaultLines.name_line, FaultLines.name_status, Derivation.judge_line, Derivation.text_line, Derivation.text_status, declared.source.Source.Source, declared.stop.Stop.Stop}
 use Rattle.pc_refusal_lines.specs.Lines.{longer_line, offset_line}
 use Rattle.pc_check.specs.declared.fault.CheckFault.TheVariants as check
 use Rattle.pc_deriv.specs.declared.fault.DerivFault.TheVariants as deriv
-use Rattle.pc_feed.specs.declared.parts.DerivationFault.TheVariants as parts
+use Rattle.pc_feed.specs.declared.parts.DerivationFault.TheVariants as spec
 use Rattle.pc_lex.specs.declared.fault.LexFault.TheVariants as lex
 use Rattle.pc_names.specs.declared.fault.NameFault.TheVariants as names
 use Rattle.pc_refusals.specs.declared.stop.Stop.TheVariants as stop
@@ -54,8 +54,8 @@ IsTextStop name f s = IsRefusal (text_status f) (text_line name f) s
 
 -- A fault of a derivation's file that is judged while it is read.
 abbrev pub IsDerivationStop : Text → Text → Source → DerivationFault → Stop → Type 0
-IsDerivationStop source_name name source parts.Failed s = IsUnread name s
-IsDerivationStop source_name name source parts.TooLong s = IsRefusal 8 (longer_line name derivation_limit) s
-IsDerivationStop source_name name source (parts.Text f) s = IsRefusal (text_status (as_read f)) (text_line name (as_read f)) s
-IsDerivationStop source_name name source (parts.Invalid f) s = IsRefusal 6 (judge_line source_name name source f) s
-IsDerivationStop source_name name source parts.Memory s = s ≡ stop.Memory
+IsDerivationStop source_name name source spec.Failed s = IsUnread name s
+IsDerivationStop source_name name source spec.TooLong s = IsRefusal 8 (longer_line name derivation_limit) s
+IsDerivationStop source_name name source (spec.Text f) s = IsRefusal (text_status (as_read f)) (text_line name (as_read f)) s
+IsDerivationStop source_name name source (spec.Invalid f) s = IsRefusal 6 (judge_line source_name name source f) s
+IsDerivationStop source_name name source spec.Memory s = s ≡ stop.Memory

@@ -6,7 +6,7 @@ use Rattle.pc_lists.specs.Lists.{Text}
 use Rattle.pc_args.specs.Asked.{make}
 use Rattle.pc_core.specs.CoreData.{CoreData}
 use Rattle.pc_args.specs.Line.{IsSeed, IsSize}
-use Rattle.pc_gen.specs.Program.{schedule}
+use Rattle.pc_gen.specs.Generated.{generated_text, schedule}
 use Rattle.pc_io.specs.Sink.{Change}
 use Rattle.pc_run.specs.Spreading.{spread}
 use Rattle.pc_semantics.specs.Text.{run_text}
@@ -17,7 +17,7 @@ use Rattle.pc_refusals.proofs.OneSource.{SourceLaws}
 use Rattle.pc_refusals.proofs.Statuses.{IsLate, IsOwn}
 use Rattle.pc_top.specs.Asked.{OfMade}
 use Rattle.pc_core_commands.specs.Make.{made_line, made_name}
-use Rattle.pc_top.specs.Commands.Make.{IsMade, IsMake, MadeRun, WritesMade, made_text}
+use Rattle.pc_top.specs.Commands.Make.{IsMade, IsMake, MadeRun, WritesMade}
 use Rattle.pc_top.specs.Commands.Make.IsMake.{made, no_numbers}
 use Rattle.pc_top.specs.CoreOf.{CoreOf, IsDerivable, IsUnderivable}
 use Rattle.pc_top.proofs.Begins.{Begins, begins, begins_accepts, begins_exact, begins_own, begins_refuses}
@@ -33,8 +33,8 @@ never_failed name text n f = let rose : 0 < 0 = f.1 in omega (arith, rose)
 made_late : (seed size : ℕ) (a : Accepted) (v : Verdict) → MadeRun seed size a v → IsLate v.status
 made_late seed size a v (w, r, is) = subst IsLate (sym (ap (λ (x : Verdict). x.status) is)) (ran_late made_name a.source.core (spread (schedule size)) w r)
 
-made_begins : (a b : ℕ) (v : Verdict) → IsMade a b v → Begins (text_as made_name (made_text a b)) v
-made_begins a b = begins (MadeRun a b) (text_as made_name (made_text a b)) (made_late a b)
+made_begins : (a b : ℕ) (v : Verdict) → IsMade a b v → Begins (text_as made_name (generated_text a b)) v
+made_begins a b = begins (MadeRun a b) (text_as made_name (generated_text a b)) (made_late a b)
 
 -- ---- one verdict
 
@@ -44,7 +44,7 @@ module _ (laws : Laws) where
       is ∙ (ap (headed (made_line seed size a.source.core)) (one_ran made_name a.source.core (spread (schedule size)) x y r s) ∙ sym was)
 
   one_made : (a b : ℕ) (v w : Verdict) → IsMade a b v → IsMade a b w → v ≡ w
-  one_made a b = accepted_one (MadeRun a b) (text_as made_name (made_text a b)) laws refl refl (one_made_run a b)
+  one_made a b = accepted_one (MadeRun a b) (text_as made_name (generated_text a b)) laws refl refl (one_made_run a b)
 
   one_make : (seed size : Text) (v w : Verdict) → IsMake seed size v → IsMake seed size w → v ≡ w
   one_make seed size v w (made a b s t is) (made c d u z was) =
@@ -69,16 +69,16 @@ make_refuses laws seed size v (made a b s t is) e = (a, b, s, t, begins_refuses 
 make_refuses laws seed size v (no_numbers n is) e = absurd (two_not_one v.status (ap (λ (x : Verdict). x.status) is) e)
 
 -- the program of these numbers
-pub make_exact : SourceLaws → Refusing → (seed size : Text) (a b : ℕ) (v : Verdict) → IsSeed seed a → IsSize size b → IsMake seed size v → IsUnderivable (made_text a b) → v.status ≡ 1
+pub make_exact : SourceLaws → Refusing → (seed size : Text) (a b : ℕ) (v : Verdict) → IsSeed seed a → IsSize size b → IsMake seed size v → IsUnderivable (generated_text a b) → v.status ≡ 1
 make_exact sources laws seed size a b v s t (made c d u z is) under =
     let same : IsMade c d v ≡ IsMade a b v = ap₂ (λ (m n : ℕ). IsMade m n v) (u.0.2 ∙ sym s.0.2) (z.0.2 ∙ sym t.0.2) in
-    begins_exact sources laws (text_as made_name (made_text a b)) (made_text a b) refl refl v (made_begins a b v (subst (λ (X : Type 0). X) same is)) under
+    begins_exact sources laws (text_as made_name (generated_text a b)) (generated_text a b) refl refl v (made_begins a b v (subst (λ (X : Type 0). X) same is)) under
 make_exact sources laws seed size a b v s t (no_numbers none is) under = absurd (none a b s t)
 
-pub make_underived : Refusing → (seed size : Text) (a b : ℕ) (v : Verdict) → IsSeed seed a → IsSize size b → IsMake seed size v → v.status ≡ 1 → IsUnderivable (made_text a b)
+pub make_underived : Refusing → (seed size : Text) (a b : ℕ) (v : Verdict) → IsSeed seed a → IsSize size b → IsMake seed size v → v.status ≡ 1 → IsUnderivable (generated_text a b)
 make_underived laws seed size a b v s t is e =
     let m = make_refuses laws seed size v is e in
-    let same : IsUnderivable (made_text m.0 m.1) ≡ IsUnderivable (made_text a b) = ap₂ (λ (x y : ℕ). IsUnderivable (made_text x y)) (m.2.0.2 ∙ sym s.0.2) (m.3.0.2 ∙ sym t.0.2) in
+    let same : IsUnderivable (generated_text m.0 m.1) ≡ IsUnderivable (generated_text a b) = ap₂ (λ (x y : ℕ). IsUnderivable (generated_text x y)) (m.2.0.2 ∙ sym s.0.2) (m.3.0.2 ∙ sym t.0.2) in
     subst (λ (X : Type 0). X) same m.4
 
 -- ---- what is on out
@@ -86,7 +86,7 @@ make_underived laws seed size a b v s t is e =
 made_on_out : (a b : ℕ) (v : Verdict) (out : Change) → IsMade a b v → IsAccepting v.status → Appends out.before out.now v.out → WritesMade out a b
 made_on_out a b v out is e o =
     let Holds : Text → Type 0 = λ text. (core : CoreData) × CoreOf text core × Appends out.before out.now (counts_line a b (length core.nodes) ++ run_text core (spread (schedule b))) in
-    accepted_says (MadeRun a b) (text_as made_name (made_text a b)) Holds v e
+    accepted_says (MadeRun a b) (text_as made_name (generated_text a b)) Holds v e
     (λ x of_bytes valid m.
     let grew : Appends out.before out.now (made_line a b x.source.core ++ m.0.out) = subst (λ (w : Verdict). Appends out.before out.now w.out) m.2 o in
     (x.source.core, of_bytes, subst (λ (t : Text). Appends out.before out.now (made_line a b x.source.core ++ t)) (ran_says m.1) grew)) is

@@ -4,8 +4,7 @@ use Rattle.std.specs.Io.KnownBytes.{Appends}
 use Rattle.pc_io.specs.Sink.{Change}
 use Rattle.pc_core.specs.CoreData.{CoreData}
 use Rattle.pc_args.specs.Line.{IsSeed, IsSize}
-use Rattle.pc_gen.specs.Program.{program, schedule}
-use Rattle.pc_print.specs.Printing.{printed}
+use Rattle.pc_gen.specs.Generated.{generated_text, schedule}
 use Rattle.pc_run.specs.Spreading.{spread}
 use Rattle.pc_semantics.specs.Text.{run_text}
 use Rattle.pc_lists.specs.Lists.{Text}
@@ -14,17 +13,13 @@ use Rattle.pc_refusals.specs.{Verdict.text_as, Verdict.Verdict, Verdict.refused,
 use Rattle.pc_core_commands.specs.Make.{RanMade, SpellsNone, made_name}
 use Rattle.pc_top.specs.{CoreOf.CoreOf, Shapes.OfAccepted}
 
--- the printed text of the program that is generated from this seed and this size
-abbrev pub made_text : (seed size : ℕ) → Text
-made_text seed size = printed (program seed size)
-
 -- The run of its core by its own schedule, after the line of its numbers.
 abbrev pub MadeRun : (seed size : ℕ) → Accepted → Verdict → Type 0
 MadeRun seed size accepted = RanMade seed size accepted.source.core
 
--- The printed text passes every stage of a source that is accepted, and then the program is run.
+-- The generated text passes every stage of a source that is accepted, and then the program is run.
 abbrev pub IsMade : (seed size : ℕ) → Verdict → Type 0
-IsMade seed size = OfAccepted (MadeRun seed size) (text_as made_name (made_text seed size))
+IsMade seed size = OfAccepted (MadeRun seed size) (text_as made_name (generated_text seed size))
 
 -- The verdict of `make` on these words: the one for the seed and the size that they denote, or 2 if they do not denote
 -- both.
@@ -35,5 +30,5 @@ pub data IsMake (seed size : Text) (v : Verdict) : Type 0 where
 -- Out grew by the line of the generated program's numbers and the text of its run.
 abbrev pub WritesMade : Change → (seed size : ℕ) → Type 0
 WritesMade out seed size =
-    (core : CoreData) × CoreOf (made_text seed size) core
+    (core : CoreData) × CoreOf (generated_text seed size) core
     × Appends out.before out.now (counts_line seed size (length core.nodes) ++ run_text core (spread (schedule size)))

@@ -20,15 +20,6 @@ Sent accepted v = (text : Text) × IsSendsText accepted.source.core accepted.ann
 abbrev pub IsSends : Named → Verdict → Type 0
 IsSends = OfAccepted Sent
 
--- ---- what holds of its table
-
--- What the table of a source names exists, and it is right about every run, if it is made with a valid annotation of the
--- source's core.
-abbrev pub TablesTell : Type 0
-TablesTell =
-    (bytes : Text) (core : CoreData) (ann : Ann) (table : Table) → CoreOf bytes core → Valid core ann → IsTable core (noted_entities ann) table
-    → NamesAreThere core table × TellsEveryRun core table
-
 -- Out grew by the lines of the table of who sends what, made with a valid annotation of the source's core. Everything
 -- that it names exists, and it is right about every run.
 abbrev pub WritesSends : Change → Text → Type 0

@@ -6,7 +6,8 @@ ghost use Rattle.pc_refusals.specs.Inner.Answering.{EndsCommand};
 ghost use Rattle.pc_refusals.specs.Inner.Stages.{PartEnds};
 ghost use Rattle.pc_refusals.specs.Verdict.{text_as};
 ghost use Rattle.pc_core_commands.specs.Make.{made_name};
-ghost use Rattle.pc_top.specs.Commands.Make.{IsMade, IsMake, made_text};
+ghost use Rattle.pc_gen.specs.Generated.{generated_text};
+ghost use Rattle.pc_top.specs.Commands.Make.{IsMade, IsMake};
 
 use crate::accepting::accept_text;
 use crate::laws::cores_of_sources_are_formed;
@@ -25,7 +26,7 @@ const NAME: &str = "make";
 fn accept_made(alloc: Global, seed: u64, size: u32) -> Result<Accepted, Stop>
     requires some { 1 ≤ size }
     requires few { size ≤ 900 }
-    ensures { PartEnds source_limit (AcceptedStage made_name) (text_as made_name (made_text seed size)) result }
+    ensures { PartEnds source_limit (AcceptedStage made_name) (text_as made_name (generated_text seed size)) result }
 {
     let file = make(alloc, seed, size)?;
     let text = print(alloc, &file)?;

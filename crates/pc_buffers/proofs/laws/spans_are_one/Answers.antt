@@ -18,6 +18,7 @@ returns c =
       ascend = c.tokens_are_in_order.ensures.ascend;
       formed = c.cores_are_formed.ensures;
       fits = c.no_fault_where_declarations_fit.ensures;
+      one_declared = c.one_declaration_fails_first.ensures;
       ruleless = c.nothing_is_derivable_without_a_rule.ensures;
       setless = c.nothing_is_derivable_with_a_field_unset.ensures;
       failing = c.nothing_is_derivable_with_a_declaration_that_fails.ensures;

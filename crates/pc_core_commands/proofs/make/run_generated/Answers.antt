@@ -2,7 +2,7 @@ use Rattle.std.proofs.Common.{◌≡◌, ◌∙◌, List, ap, length, subst}
 use Rattle.std.specs.Io.KnownBytes.{Appends}
 use Rattle.std.proofs.lemmas.Result.{err_from_is_err_and}
 use Rattle.pc_core.specs.declared.nodes.Node.{Node}
-use Rattle.pc_gen.specs.Program.{schedule}
+use Rattle.pc_gen.specs.Generated.{schedule}
 use Rattle.pc_io.specs.Sink.{change}
 use Rattle.pc_run.specs.Spreading.{spread}
 use Rattle.pc_sched.specs.declared.turns.Turn.{Turn}

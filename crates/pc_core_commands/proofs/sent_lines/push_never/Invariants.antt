@@ -1,5 +1,5 @@
 use Rattle.std.proofs.Common.{◌≡◌, ◌++◌, drop}
-use Rattle.pc_core_commands.specs.Sends.{never_text}
+use Rattle.pc_core_commands.specs.SendsLines.{never_text}
 use Rattle.pc_core_commands.proofs.sent_lines.push_never.Given as goal
 
 abbrev pub invariant-loop-method : goal.invariant-loop-method

@@ -1,5 +1,5 @@
 use Rattle.std.proofs.Common.{◌≡◌, ◌++◌, drop}
-use Rattle.pc_core_commands.specs.Sends.{rows_text}
+use Rattle.pc_core_commands.specs.SendsLines.{rows_text}
 use Rattle.pc_core_commands.proofs.sent_lines.push_rows.Given as goal
 
 abbrev pub invariant-loop-row : goal.invariant-loop-row

@@ -1,6 +1,6 @@
 use Rattle.std.proofs.Common.{◌<◌, ◌^◌, ◌++◌, ◌∙◌, List, sym, ap, subst, length, map}
 use Rattle.pc_tree.specs.View.{entity_view, file_view}
-use Rattle.pc_body_spec.specs.Scopes.{Context, KnownEntity}
+use Rattle.pc_body_spec.specs.Bodies.{Context, KnownEntity}
 use Rattle.pc_file_spec.specs.Cores.{built_in_known, known_of}
 use Rattle.pc_elab.specs.Rows.{known_rows}
 use Rattle.pc_members.specs.Views.{table_view}

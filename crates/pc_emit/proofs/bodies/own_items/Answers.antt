@@ -3,9 +3,8 @@ use Rattle.std.proofs.lemmas.Result.{err_from_is_err_and}
 use Rattle.pc_tree.specs.declared.expression.Item.{Item}
 use Rattle.pc_tree.specs.View.{items_view}
 use Rattle.pc_body_spec.specs.Bodies as spec
-use Rattle.pc_body_spec.specs.Bodies.{roses_of_items}
+use Rattle.pc_body_spec.specs.Bodies.{roses_of_items, Scope, params_scope}
 use Rattle.pc_body_spec.specs.Fold.{puts}
-use Rattle.pc_body_spec.specs.Scopes.{Scope, params_scope}
 use Rattle.pc_emit.specs.Giving.{GivesNodes}
 use Rattle.pc_emit.specs.Closing.{ends_with}
 use Rattle.pc_emit.proofs.Walks.{inner_stops, inner_gives}

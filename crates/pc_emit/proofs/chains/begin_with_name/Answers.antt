@@ -1,6 +1,6 @@
 use Rattle.std.proofs.Common.{◌≡◌, sym, ap, ◌∙◌}
 use Rattle.pc_resolve.specs.Meanings.{meaning_view}
-use Rattle.pc_body_spec.specs.Scopes.{field, local, number_of_text, resolve}
+use Rattle.pc_body_spec.specs.Bodies.{field, local, number_of_text, resolve}
 use Rattle.pc_emit.proofs.Suffixes.{reads_field, reads_local}
 use Rattle.pc_emit.proofs.chains.begin_with_name.Goals as goal
 

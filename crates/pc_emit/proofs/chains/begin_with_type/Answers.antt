@@ -1,8 +1,7 @@
 use Rattle.std.proofs.Common.{◌≡◌, map, sym, ap, ◌∙◌, subst}
 use Rattle.pc_tree.specs.View.{suffix_view}
 use Rattle.pc_resolve.specs.Meanings.{type_view}
-use Rattle.pc_body_spec.specs.Scopes.{no_value, primitive, type_meaning}
-use Rattle.pc_body_spec.specs.Bodies.{with_type}
+use Rattle.pc_body_spec.specs.Bodies.{no_value, primitive, type_meaning, with_type}
 use Rattle.pc_emit.specs.declared.chains.Beginning.TheVariants as begins
 use Rattle.pc_emit.specs.Closing.{BeginsChain}
 use Rattle.pc_emit.proofs.Suffixes.{begins_with_nothing, reads_primitive}

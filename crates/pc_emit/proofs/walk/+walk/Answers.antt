@@ -9,9 +9,8 @@ use Rattle.pc_tree.specs.Tree as tree
 use Rattle.pc_tree.specs.declared.expression.Item.{Item}
 use Rattle.pc_tree.specs.View.{expr_view, suffix_view, seq_view, exprs_view, arms_view, item_view, items_view, other_view}
 use Rattle.pc_resolve.specs.Meanings.{meaning_view}
-use Rattle.pc_body_spec.specs.Scopes.{Visible, resolve, scope_after}
+use Rattle.pc_body_spec.specs.Bodies.{Visible, resolve, scope_after, leaf, rose, two, three}
 use Rattle.pc_body_spec.specs.Bodies as spec
-use Rattle.pc_body_spec.specs.Bodies.{leaf, rose, two, three}
 use Rattle.pc_body_spec.specs.Fold.{put, puts, push, and_then}
 use Rattle.pc_core.specs.declared.nodes.NodeKind.{NodeKind}
 use Rattle.pc_core.specs.declared.nodes.NodeKind.TheVariants as kinds

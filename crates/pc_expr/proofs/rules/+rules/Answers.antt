@@ -5,13 +5,14 @@ use Rattle.pc_tree.specs.View.{expr_view, item_view, suffix_view, arm_view, seq_
 use Rattle.pc_tree.specs.Tree as tree
 use Rattle.pc_tree.proofs.Views.{view_arm}
 use Rattle.pc_token.specs.declared.signs.Sign.TheVariants as sign
-use Rattle.pc_token.specs.Asking.{is_sign}
+use Rattle.pc_token.specs.Words.{is_sign}
 use Rattle.pc_grammar.specs.Spells as spells
 use Rattle.pc_grammar.specs.Reading as reading
 use Rattle.pc_expr.specs.Onto.{some_args}
 use Rattle.pc_expr.proofs.Parts.{seq_spans, arm_made, stops_first, reads_becomes, gives_made, args_by_parts, not_closed}
 use Rattle.pc_expr.proofs.Loops.{loop_starts, loop_goes_on, loop_ends, stops_here, turn_reads, turn_stops}
 use Rattle.pc_expr.proofs.rules.+rules.Goals as goal
+use Rattle.pc_tree.specs.Parts.{exprs_of, seq_span}
 
 pub some_args-more-init : goal.some_args-more-init
 unfolding some_args
@@ -188,7 +189,7 @@ more_terms-returns-clause-gives t c =
 
 pub arg_list-returns-clause-gives : goal.arg_list-returns-clause-gives
 arg_list-returns-clause-gives t c =
-    let made = gives_made (map expr_view) tree.exprs_of c.args.tokens.now c.some_args.result _ c.some_args.ensures.gives in
+    let made = gives_made (map expr_view) exprs_of c.args.tokens.now c.some_args.result _ c.some_args.ensures.gives in
     let other : is_sign sign.CloseParen c.look.result.now ≡ false = sym c.is_sign.ensures.value ∙ c.if-is_sign.false in
     let read = args_by_parts (reading.expr_in c.args.left (reading.inner c.args.left)) (drop c.args.at c.args.tokens.now) in
     let none = not_closed (reading.expr_in c.args.left (reading.inner c.args.left)) c.look.result.now _ _ c.look.ensures.here other in
@@ -213,7 +214,7 @@ expr-returns-in-Err-clause-gives t c =
 pub arm-returns-in-Ok-clause-gives : goal.arm-returns-in-Ok-clause-gives
 arm-returns-in-Ok-clause-gives t c =
     let made = arm_made c.args.word (reading.seq_in c.args.left (reading.inner c.args.left)) _ _ _ _ _ _ _ c.in_ok-opener.ensures.gives c.in_ok-cond.ensures.gives c.in-Ok.ensures.gives in
-    let spans : spells.span_from_to c.in_ok-opener.opener.now.span (tree.seq_span (seq_view c.in-Ok.body)) ≡ c.join-span.result = ap (spells.span_from_to c.in_ok-opener.opener.now.span) (seq_spans c.in-Ok.body) ∙ sym c.join-span.ensures in
+    let spans : spells.span_from_to c.in_ok-opener.opener.now.span (seq_span (seq_view c.in-Ok.body)) ≡ c.join-span.result = ap (spells.span_from_to c.in_ok-opener.opener.now.span) (seq_spans c.in-Ok.body) ∙ sym c.join-span.ensures in
     made
     ∙ ap (λ s. Ok (tree.arm_of (seq_view c.in_ok-cond.cond) (seq_view c.in-Ok.body) s, drop c.in-Ok.to c.args.tokens.now)) spans
     ∙ ap (λ a. Ok (a, drop c.in-Ok.to c.args.tokens.now)) (sym (view_arm c.in_ok-cond.cond c.in-Ok.body c.join-span.result))

@@ -2,7 +2,7 @@ use Rattle.std.proofs.Common.{◌+◌, ◌-◌, ◌*◌, ◌≤◌, [], ◌∷�
 use Rattle.pc_tree.specs.View.{expr_view, item_view, suffix_view, arm_view}
 use Rattle.pc_token.specs.declared.words.Word.TheVariants as w
 use Rattle.pc_token.specs.declared.signs.Sign.TheVariants as s
-use Rattle.pc_token.specs.Asking.{is_sign, is_word}
+use Rattle.pc_token.specs.Words.{is_sign, is_word}
 use Rattle.pc_grammar.specs.Reading as r
 use Rattle.pc_expr.specs.Gives.{StandsAtToken}
 use Rattle.pc_expr.specs.Onto as onto

@@ -1,7 +1,7 @@
 use Rattle.std.proofs.Common.{rules, ◌≡◌, ◌≤◌, ◌∙◌, List, sym, subst}
-use Rattle.pc_gen.specs.Program as spec
 use Rattle.pc_sched.specs.Schedules.{turn_limit, total}
 use Rattle.pc_sched.specs.declared.turns.Turn.{Turn}
+use Rattle.pc_gen.specs.Generated.{schedule}
 use Rattle.pc_gen.proofs.Turns.{few, one_more}
 use Rattle.pc_gen.proofs.schedule.schedule_of.Goals as goal
 
@@ -10,5 +10,5 @@ loop-i-preserved c = c.in_ok-push.ensures.ok ∙ one_more c.loop-i.i c.loop-i.tu
 
 pub returns-clause-few : goal.returns-clause-few
 returns-clause-few c =
-    let is : c.push-2.new.self ≡ spec.schedule c.args.size = search rules in
+    let is : c.push-2.new.self ≡ schedule c.args.size = search rules in
     subst (λ (turns : List Turn). total turns ≤ turn_limit) (sym is) (few c.args.size c.requires)

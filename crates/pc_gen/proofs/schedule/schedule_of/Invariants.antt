@@ -1,6 +1,6 @@
 use Rattle.std.proofs.Common.{◌≡◌, map}
 use Rattle.std.specs.List.{range_with_len}
-use Rattle.pc_gen.specs.Program.{own_turns}
+use Rattle.pc_gen.proofs.Turns.{own_turns}
 use Rattle.pc_gen.proofs.schedule.schedule_of.Given as goal
 
 abbrev pub invariant-loop-i : goal.invariant-loop-i

@@ -1,5 +1,5 @@
 use Rattle.std.proofs.Common.{length, ◌-◌, ◌≤◌, take}
-use Rattle.pc_lex.specs.Texts.{Written}
+use Rattle.pc_lex.specs.Pieces.{Written}
 use Rattle.pc_lex.proofs.texts.unescape.Given as goal
 
 abbrev pub invariant-loop-at : goal.invariant-loop-at

@@ -1,6 +1,6 @@
 use Rattle.std.proofs.Common.{arith, map}
 use Rattle.std.proofs.lemmas.List.{at_drop_all}
-use Rattle.pc_tree.specs.Depths.{entities_depth}
+use Rattle.pc_tree.specs.Levels.{entities_depth}
 use Rattle.pc_tree.specs.View.{entity_view}
 use Rattle.pc_measure.proofs.level.of_entities.Goals as goal
 

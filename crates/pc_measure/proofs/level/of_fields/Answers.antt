@@ -1,6 +1,6 @@
 use Rattle.std.proofs.Common.{arith, map}
 use Rattle.std.proofs.lemmas.List.{at_drop_all}
-use Rattle.pc_tree.specs.Depths.{fields_depth}
+use Rattle.pc_tree.specs.Levels.{fields_depth}
 use Rattle.pc_tree.specs.View.{field_view}
 use Rattle.pc_measure.proofs.level.of_fields.Goals as goal
 

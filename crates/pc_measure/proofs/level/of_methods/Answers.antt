@@ -1,6 +1,6 @@
 use Rattle.std.proofs.Common.{arith, map}
 use Rattle.std.proofs.lemmas.List.{at_drop_all}
-use Rattle.pc_tree.specs.Depths.{methods_depth}
+use Rattle.pc_tree.specs.Levels.{methods_depth}
 use Rattle.pc_tree.specs.View.{method_view}
 use Rattle.pc_measure.proofs.level.of_methods.Goals as goal
 

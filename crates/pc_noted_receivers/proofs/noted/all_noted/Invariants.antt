@@ -1,5 +1,5 @@
 use Rattle.std.proofs.Common.{◌≡◌, map, take}
-use Rattle.pc_noted_receivers.specs.Noted.{noted_in}
+use Rattle.pc_noted_receivers.specs.Parts.{noted_in}
 use Rattle.pc_noted_receivers.proofs.noted.all_noted.Given as goal
 
 abbrev pub invariant-loop-note : goal.invariant-loop-note

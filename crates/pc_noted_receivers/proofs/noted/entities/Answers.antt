@@ -3,7 +3,7 @@ use Rattle.std.proofs.lemmas.List.{length-map}
 use Rattle.std.proofs.lemmas.Result.{IfOk-weaker}
 use Rattle.pc_ann.specs.declared.annotation.Note.{Note}
 use Rattle.pc_sends.specs.Held.{Held}
-use Rattle.pc_noted_receivers.specs.Noted.{noted_in}
+use Rattle.pc_noted_receivers.specs.Parts.{noted_in}
 use Rattle.pc_noted_receivers.proofs.noted.entities.Goals as goal
 
 pub returns-clause-held : goal.returns-clause-held

@@ -1,6 +1,6 @@
 use Rattle.std.proofs.Common.{◌-◌, ◌≤◌, length, drop}
 use Rattle.pc_token.specs.declared.signs.Sign.TheVariants as s
-use Rattle.pc_token.specs.Asking.{is_sign}
+use Rattle.pc_token.specs.Words.{is_sign}
 use Rattle.pc_grammar.specs.Reading as r
 use Rattle.pc_expr.specs.Gives.{StandsAtToken}
 use Rattle.pc_expr.proofs.Loops.{Loop}

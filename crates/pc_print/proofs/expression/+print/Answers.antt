@@ -1,9 +1,10 @@
-use Rattle.std.proofs.Common.{◌≡◌, ◌++◌, ◌∷◌, [], ◌+◌, cond, codes, drop, subst, sym, ap, ◌∙◌, append_assoc}
+use Rattle.std.proofs.Common.{◌≡◌, ◌++◌, ◌+◌, cond, codes, drop, subst, sym, ap, ◌∙◌}
 use Rattle.std.proofs.lemmas.List.{drop_all}
 use Rattle.pc_lists.proofs.Cuts.{item_first}
 use Rattle.pc_tree.specs.View.{item_view, items_view, expr_view, exprs_view, seq_view, suffix_view, suffixes_view, arm_view, arms_view, other_view}
 use Rattle.pc_token.specs.Words.{word_text}
 use Rattle.pc_grammar.specs.Spells.{local_word}
+use Rattle.pc_print.specs.Parts as parts
 use Rattle.pc_print.specs.Printing as text
 use Rattle.pc_print.proofs.Turns.{turn, turn_between, turn_headed, nothing_left, nothing_left_between, ok_after, ok_told, ok_pushed, ok_bare}
 use Rattle.pc_print.proofs.Told.{told_recover, told_while, told_assign, told_not, told_if, told_chain, told_local, told_dot, told_args, told_arm, told_seq}
@@ -13,52 +14,51 @@ pub push_items-loop-x-preserved : goal.push_items-loop-x-preserved
 push_items-loop-x-preserved t c =
     let l = c.loop-x in
     let xs = c.args.xs.now in
-    let e = subst (λ ys. l.out.items ++ cond l.first (text.printed_items (items_view ys)) (text.more_items (items_view ys)) ≡ c.args.out.now.items ++ text.printed_items (items_view c.args.xs.now)) (item_first xs l.x-index c.x-item.result c.loop-x-test.true c.x-item.is) l.invariant in
-    turn_between l.first _ _ _ (codes "; ") (text.printed_item (item_view c.x-item.result)) (text.more_items (items_view (drop (l.x-index + 1) xs))) _ c.in_ok-push_between.ensures c.in_ok-push_item.ensures e
+    let e = subst (λ ys. l.out.items ++ cond l.first (parts.all_items (items_view ys)) (parts.more_items (items_view ys)) ≡ c.args.out.now.items ++ parts.all_items (items_view c.args.xs.now)) (item_first xs l.x-index c.x-item.result c.loop-x-test.true c.x-item.is) l.invariant in
+    turn_between l.first _ _ _ (codes "; ") (text.printed_item (item_view c.x-item.result)) (parts.more_items (items_view (drop (l.x-index + 1) xs))) _ c.in_ok-push_between.ensures c.in_ok-push_item.ensures e
 
 pub push_items-returns : goal.push_items-returns
 push_items-returns t c =
     let l = c.loop-x in
-    nothing_left_between l.first _ _ (subst (λ ys. l.out.items ++ cond l.first (text.printed_items (items_view ys)) (text.more_items (items_view ys)) ≡ c.args.out.now.items ++ text.printed_items (items_view c.args.xs.now)) (drop_all l.x-index c.args.xs.now c.loop-x-test.false) l.invariant)
+    nothing_left_between l.first _ _ (subst (λ ys. l.out.items ++ cond l.first (parts.all_items (items_view ys)) (parts.more_items (items_view ys)) ≡ c.args.out.now.items ++ parts.all_items (items_view c.args.xs.now)) (drop_all l.x-index c.args.xs.now c.loop-x-test.false) l.invariant)
 
 pub push_args-loop-x-preserved : goal.push_args-loop-x-preserved
 push_args-loop-x-preserved t c =
     let l = c.loop-x in
     let xs = c.args.xs.now in
-    let e = subst (λ ys. l.out.items ++ cond l.first (text.printed_args (exprs_view ys)) (text.more_args (exprs_view ys)) ≡ c.args.out.now.items ++ text.printed_args (exprs_view c.args.xs.now)) (item_first xs l.x-index c.x-item.result c.loop-x-test.true c.x-item.is) l.invariant in
-    turn_between l.first _ _ _ (codes ", ") (text.printed_expr (expr_view c.x-item.result)) (text.more_args (exprs_view (drop (l.x-index + 1) xs))) _ c.in_ok-push_between.ensures c.in_ok-push_expr.ensures e
+    let e = subst (λ ys. l.out.items ++ cond l.first (parts.printed_args (exprs_view ys)) (parts.more_args (exprs_view ys)) ≡ c.args.out.now.items ++ parts.printed_args (exprs_view c.args.xs.now)) (item_first xs l.x-index c.x-item.result c.loop-x-test.true c.x-item.is) l.invariant in
+    turn_between l.first _ _ _ (codes ", ") (text.printed_expr (expr_view c.x-item.result)) (parts.more_args (exprs_view (drop (l.x-index + 1) xs))) _ c.in_ok-push_between.ensures c.in_ok-push_expr.ensures e
 
 pub push_args-returns : goal.push_args-returns
 push_args-returns t c =
     let l = c.loop-x in
-    nothing_left_between l.first _ _ (subst (λ ys. l.out.items ++ cond l.first (text.printed_args (exprs_view ys)) (text.more_args (exprs_view ys)) ≡ c.args.out.now.items ++ text.printed_args (exprs_view c.args.xs.now)) (drop_all l.x-index c.args.xs.now c.loop-x-test.false) l.invariant)
+    nothing_left_between l.first _ _ (subst (λ ys. l.out.items ++ cond l.first (parts.printed_args (exprs_view ys)) (parts.more_args (exprs_view ys)) ≡ c.args.out.now.items ++ parts.printed_args (exprs_view c.args.xs.now)) (drop_all l.x-index c.args.xs.now c.loop-x-test.false) l.invariant)
 
 pub push_terms-loop-x-preserved : goal.push_terms-loop-x-preserved
 push_terms-loop-x-preserved t c =
     let l = c.loop-x in
     let xs = c.args.xs.now in
-    let e = subst (λ ys. l.out.items ++ cond l.first (text.printed_terms (exprs_view ys) c.args.op) (text.more_terms (exprs_view ys) c.args.op) ≡ c.args.out.now.items ++ text.printed_terms (exprs_view c.args.xs.now) c.args.op) (item_first xs l.x-index c.x-item.result c.loop-x-test.true c.x-item.is) l.invariant in
+    let e = subst (λ ys. l.out.items ++ cond l.first (parts.printed_terms (exprs_view ys) c.args.op) (parts.more_terms (exprs_view ys) c.args.op) ≡ c.args.out.now.items ++ parts.printed_terms (exprs_view c.args.xs.now) c.args.op) (item_first xs l.x-index c.x-item.result c.loop-x-test.true c.x-item.is) l.invariant in
     let one = text.printed_expr (expr_view c.x-item.result) in
-    let rest = text.more_terms (exprs_view (drop (l.x-index + 1) xs)) c.args.op in
-    turn_between l.first _ _ _ (32 ∷ (text.op_text c.args.op ++ 32 ∷ [])) one rest _ c.in_ok-push_op.ensures c.in_ok-push_expr.ensures
-    (ap (λ m. l.out.items ++ cond l.first (one ++ rest) (32 ∷ m)) (append_assoc (text.op_text c.args.op) (32 ∷ []) (one ++ rest)) ∙ e)
+    let rest = parts.more_terms (exprs_view (drop (l.x-index + 1) xs)) c.args.op in
+    turn_between l.first _ _ _ (parts.between_terms c.args.op) one rest _ c.in_ok-push_op.ensures c.in_ok-push_expr.ensures e
 
 pub push_terms-returns : goal.push_terms-returns
 push_terms-returns t c =
     let l = c.loop-x in
-    nothing_left_between l.first _ _ (subst (λ ys. l.out.items ++ cond l.first (text.printed_terms (exprs_view ys) c.args.op) (text.more_terms (exprs_view ys) c.args.op) ≡ c.args.out.now.items ++ text.printed_terms (exprs_view c.args.xs.now) c.args.op) (drop_all l.x-index c.args.xs.now c.loop-x-test.false) l.invariant)
+    nothing_left_between l.first _ _ (subst (λ ys. l.out.items ++ cond l.first (parts.printed_terms (exprs_view ys) c.args.op) (parts.more_terms (exprs_view ys) c.args.op) ≡ c.args.out.now.items ++ parts.printed_terms (exprs_view c.args.xs.now) c.args.op) (drop_all l.x-index c.args.xs.now c.loop-x-test.false) l.invariant)
 
 pub push_arms-loop-x-preserved : goal.push_arms-loop-x-preserved
 push_arms-loop-x-preserved t c =
     let l = c.loop-x in
     let xs = c.args.xs.now in
-    let e = subst (λ ys. l.out.items ++ cond l.first (text.printed_arms (arms_view ys)) (text.more_arms (arms_view ys)) ≡ c.args.out.now.items ++ text.printed_arms (arms_view c.args.xs.now)) (item_first xs l.x-index c.x-item.result c.loop-x-test.true c.x-item.is) l.invariant in
-    turn_headed l.first _ _ _ (codes "if ") (codes " elseif ") (text.printed_arm (arm_view c.x-item.result)) (text.more_arms (arms_view (drop (l.x-index + 1) xs))) _ c.in_ok-push_head.ensures c.in_ok-push_arm.ensures e
+    let e = subst (λ ys. l.out.items ++ cond l.first (parts.all_arms (arms_view ys)) (parts.more_arms (arms_view ys)) ≡ c.args.out.now.items ++ parts.all_arms (arms_view c.args.xs.now)) (item_first xs l.x-index c.x-item.result c.loop-x-test.true c.x-item.is) l.invariant in
+    turn_headed l.first _ _ _ (codes "if ") (codes " elseif ") (text.printed_arm (arm_view c.x-item.result)) (parts.more_arms (arms_view (drop (l.x-index + 1) xs))) _ c.in_ok-push_head.ensures c.in_ok-push_arm.ensures e
 
 pub push_arms-returns : goal.push_arms-returns
 push_arms-returns t c =
     let l = c.loop-x in
-    nothing_left_between l.first _ _ (subst (λ ys. l.out.items ++ cond l.first (text.printed_arms (arms_view ys)) (text.more_arms (arms_view ys)) ≡ c.args.out.now.items ++ text.printed_arms (arms_view c.args.xs.now)) (drop_all l.x-index c.args.xs.now c.loop-x-test.false) l.invariant)
+    nothing_left_between l.first _ _ (subst (λ ys. l.out.items ++ cond l.first (parts.all_arms (arms_view ys)) (parts.more_arms (arms_view ys)) ≡ c.args.out.now.items ++ parts.all_arms (arms_view c.args.xs.now)) (drop_all l.x-index c.args.xs.now c.loop-x-test.false) l.invariant)
 
 pub push_suffixes-loop-x-preserved : goal.push_suffixes-loop-x-preserved
 push_suffixes-loop-x-preserved t c =
@@ -77,8 +77,8 @@ pub push_enclosed-returns : goal.push_enclosed-returns
 push_enclosed-returns t c =
     let r = c.extend_from_slice-2.result in
     let items = c.as_slice.result.now in
-    let told = ap (λ xs. c.args.before.now ++ (xs ++ c.args.behind.now)) (told_seq c.args.seq.now ∙ ap (λ xs. text.printed_items (items_view xs)) (sym c.as_slice.ensures)) in
-    ok_told r c.args.out.now.items c.extend_from_slice-2.new.self.items (c.args.before.now ++ (text.printed_seq (seq_view c.args.seq.now) ++ c.args.behind.now)) (c.args.before.now ++ ((text.printed_items (items_view items)) ++ c.args.behind.now)) told (ok_after r c.args.out.now.items c.extend_from_slice.new.self.items c.extend_from_slice-2.new.self.items c.args.before.now ((text.printed_items (items_view items)) ++ c.args.behind.now) c.in_ok-extend_from_slice.ensures.items (ok_after r c.extend_from_slice.new.self.items c.push_items.new.out.items c.extend_from_slice-2.new.self.items (text.printed_items (items_view items)) c.args.behind.now c.in_ok-push_items.ensures (ok_pushed r c.push_items.new.out.items c.extend_from_slice-2.new.self.items c.args.behind.now c.extend_from_slice-2.ensures.items)))
+    let told = ap (λ xs. c.args.before.now ++ (xs ++ c.args.behind.now)) (told_seq c.args.seq.now ∙ ap (λ xs. parts.all_items (items_view xs)) (sym c.as_slice.ensures)) in
+    ok_told r c.args.out.now.items c.extend_from_slice-2.new.self.items (c.args.before.now ++ (text.printed_seq (seq_view c.args.seq.now) ++ c.args.behind.now)) (c.args.before.now ++ ((parts.all_items (items_view items)) ++ c.args.behind.now)) told (ok_after r c.args.out.now.items c.extend_from_slice.new.self.items c.extend_from_slice-2.new.self.items c.args.before.now ((parts.all_items (items_view items)) ++ c.args.behind.now) c.in_ok-extend_from_slice.ensures.items (ok_after r c.extend_from_slice.new.self.items c.push_items.new.out.items c.extend_from_slice-2.new.self.items (parts.all_items (items_view items)) c.args.behind.now c.in_ok-push_items.ensures (ok_pushed r c.push_items.new.out.items c.extend_from_slice-2.new.self.items c.args.behind.now c.extend_from_slice-2.ensures.items)))
 
 pub push_arm-returns : goal.push_arm-returns
 push_arm-returns t c =
@@ -99,8 +99,8 @@ pub push_suffix-returns-in_ok-push_args-in-Args : goal.push_suffix-returns-in_ok
 push_suffix-returns-in_ok-push_args-in-Args t c =
     let r = c.extend_from_slice-in-Args-2.result in
     let args = c.as_slice-in-Args.result.now in
-    let told = told_args c.args.suffix.now c.in-Args.args c.in-Args.span c.in-Args.is ∙ ap (λ xs. codes "(" ++ (text.printed_args (exprs_view xs) ++ codes ")")) (sym c.as_slice-in-Args.ensures) in
-    ok_told r c.args.out.now.items c.extend_from_slice-in-Args-2.new.self.items (text.printed_suffix (suffix_view c.args.suffix.now)) ((codes "(") ++ ((text.printed_args (exprs_view args)) ++ (codes ")"))) told (ok_after r c.args.out.now.items c.extend_from_slice-in-Args.new.self.items c.extend_from_slice-in-Args-2.new.self.items (codes "(") ((text.printed_args (exprs_view args)) ++ (codes ")")) c.in_ok-extend_from_slice-in-Args.ensures.items (ok_after r c.extend_from_slice-in-Args.new.self.items c.push_args.new.out.items c.extend_from_slice-in-Args-2.new.self.items (text.printed_args (exprs_view args)) (codes ")") c.in_ok-push_args-in-Args.ensures (ok_pushed r c.push_args.new.out.items c.extend_from_slice-in-Args-2.new.self.items (codes ")") c.extend_from_slice-in-Args-2.ensures.items)))
+    let told = told_args c.args.suffix.now c.in-Args.args c.in-Args.span c.in-Args.is ∙ ap (λ xs. codes "(" ++ (parts.printed_args (exprs_view xs) ++ codes ")")) (sym c.as_slice-in-Args.ensures) in
+    ok_told r c.args.out.now.items c.extend_from_slice-in-Args-2.new.self.items (text.printed_suffix (suffix_view c.args.suffix.now)) ((codes "(") ++ ((parts.printed_args (exprs_view args)) ++ (codes ")"))) told (ok_after r c.args.out.now.items c.extend_from_slice-in-Args.new.self.items c.extend_from_slice-in-Args-2.new.self.items (codes "(") ((parts.printed_args (exprs_view args)) ++ (codes ")")) c.in_ok-extend_from_slice-in-Args.ensures.items (ok_after r c.extend_from_slice-in-Args.new.self.items c.push_args.new.out.items c.extend_from_slice-in-Args-2.new.self.items (parts.printed_args (exprs_view args)) (codes ")") c.in_ok-push_args-in-Args.ensures (ok_pushed r c.push_args.new.out.items c.extend_from_slice-in-Args-2.new.self.items (codes ")") c.extend_from_slice-in-Args-2.ensures.items)))
 
 pub push_expr-returns-in_ok-extend_from_slice-in-Not : goal.push_expr-returns-in_ok-extend_from_slice-in-Not
 push_expr-returns-in_ok-extend_from_slice-in-Not t c =
@@ -124,8 +124,8 @@ push_expr-returns-in_ok-push_arms-in-If t c =
     let r = c.push_other.result in
     let arms = c.as_slice-in-If.result.now in
     let other = c.in-If.other in
-    let told = told_if c.args.expression.now c.in-If.arms other c.in-If.span c.in-If.is ∙ ap (λ xs. text.printed_arms (arms_view xs) ++ (text.printed_other (other_view other) ++ codes " end")) (sym c.as_slice-in-If.ensures) in
-    ok_told r c.args.out.now.items c.push_other.new.out.items (text.printed_expr (expr_view c.args.expression.now)) ((text.printed_arms (arms_view arms)) ++ (text.printed_other (other_view other) ++ codes " end")) told (ok_after r c.args.out.now.items c.push_arms.new.out.items c.push_other.new.out.items (text.printed_arms (arms_view arms)) (text.printed_other (other_view other) ++ codes " end") c.in_ok-push_arms-in-If.ensures c.push_other.ensures)
+    let told = told_if c.args.expression.now c.in-If.arms other c.in-If.span c.in-If.is ∙ ap (λ xs. parts.all_arms (arms_view xs) ++ (text.printed_other (other_view other) ++ codes " end")) (sym c.as_slice-in-If.ensures) in
+    ok_told r c.args.out.now.items c.push_other.new.out.items (text.printed_expr (expr_view c.args.expression.now)) ((parts.all_arms (arms_view arms)) ++ (text.printed_other (other_view other) ++ codes " end")) told (ok_after r c.args.out.now.items c.push_arms.new.out.items c.push_other.new.out.items (parts.all_arms (arms_view arms)) (text.printed_other (other_view other) ++ codes " end") c.in_ok-push_arms-in-If.ensures c.push_other.ensures)
 
 pub push_expr-returns-in_ok-push_enclosed-in-While : goal.push_expr-returns-in_ok-push_enclosed-in-While
 push_expr-returns-in_ok-push_enclosed-in-While t c =

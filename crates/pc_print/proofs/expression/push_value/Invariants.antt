@@ -1,5 +1,5 @@
 use Rattle.std.proofs.Common.{◌≡◌, ◌++◌, drop}
-use Rattle.pc_print.specs.Printing.{all_escaped}
+use Rattle.pc_print.specs.Parts.{all_escaped}
 use Rattle.pc_print.proofs.expression.push_value.Given as goal
 
 abbrev pub invariant-loop-b : goal.invariant-loop-b

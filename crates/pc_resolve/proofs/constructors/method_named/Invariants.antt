@@ -1,5 +1,5 @@
 use Rattle.std.proofs.Common.{◌≡◌, drop}
-use Rattle.pc_body_spec.specs.Scopes as spec
+use Rattle.pc_body_spec.specs.Bodies as spec
 use Rattle.pc_resolve.proofs.constructors.method_named.Given as goal
 
 abbrev pub invariant-loop-constructor : goal.invariant-loop-constructor

@@ -1,5 +1,5 @@
 use Rattle.std.proofs.Common.{◌≡◌, drop}
-use Rattle.pc_body_spec.specs.Scopes as spec
+use Rattle.pc_body_spec.specs.Bodies as spec
 use Rattle.pc_resolve.proofs.name_row.is_among.Given as goal
 
 abbrev pub invariant-loop-known : goal.invariant-loop-known

@@ -1,5 +1,5 @@
 use Rattle.std.proofs.Common.{◌≡◌, ◌++◌, drop}
-use Rattle.pc_body_spec.specs.Scopes as spec
+use Rattle.pc_body_spec.specs.Bodies as spec
 use Rattle.pc_resolve.proofs.params.add_params.Given as goal
 
 abbrev pub invariant-loop-param : goal.invariant-loop-param

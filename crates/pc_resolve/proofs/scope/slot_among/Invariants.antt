@@ -1,5 +1,5 @@
 use Rattle.std.proofs.Common.{◌≡◌, drop, map}
-use Rattle.pc_body_spec.specs.Scopes as spec
+use Rattle.pc_body_spec.specs.Bodies as spec
 use Rattle.pc_resolve.proofs.scope.slot_among.Given as goal
 
 abbrev pub invariant-loop-entered : goal.invariant-loop-entered

@@ -1,5 +1,5 @@
 use Rattle.std.proofs.Common.{◌≡◌, drop}
-use Rattle.pc_body_spec.specs.Scopes as spec
+use Rattle.pc_body_spec.specs.Bodies as spec
 use Rattle.pc_resolve.proofs.scope.slot_of.Given as goal
 
 abbrev pub invariant-loop-visible : goal.invariant-loop-visible

@@ -1,5 +1,5 @@
 use Rattle.std.proofs.Common.{◌≡◌, ◌++◌, drop}
-use Rattle.pc_run_events.specs.Lines.{events_text}
+use Rattle.pc_run_events.specs.Parts.{events_text}
 use Rattle.pc_run_events.proofs.lines.push_events.Given as goal
 
 abbrev pub invariant-loop-event : goal.invariant-loop-event

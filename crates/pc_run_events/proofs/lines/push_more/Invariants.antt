@@ -1,5 +1,5 @@
 use Rattle.std.proofs.Common.{◌≡◌, ◌++◌, drop}
-use Rattle.pc_run_events.specs.Lines.{more_text}
+use Rattle.pc_run_events.specs.Parts.{more_text}
 use Rattle.pc_run_events.proofs.lines.push_more.Given as goal
 
 abbrev pub invariant-loop-number : goal.invariant-loop-number

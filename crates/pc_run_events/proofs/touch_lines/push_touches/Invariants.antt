@@ -1,5 +1,5 @@
 use Rattle.std.proofs.Common.{◌≡◌, ◌++◌, drop}
-use Rattle.pc_run_events.specs.Lines.{touches_text}
+use Rattle.pc_run_events.specs.Parts.{touches_text}
 use Rattle.pc_run_events.proofs.touch_lines.push_touches.Given as goal
 
 abbrev pub invariant-loop-touch : goal.invariant-loop-touch

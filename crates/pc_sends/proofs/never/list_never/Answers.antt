@@ -1,6 +1,6 @@
 use Rattle.std.proofs.Common.{◌+◌, length, ap, sym, subst, ◌∙◌, arith}
 use Rattle.pc_lists.proofs.Bools.{no_both}
-use Rattle.pc_sends.specs.Tables.{IsUnsent}
+use Rattle.pc_sends.specs.Unsent.{IsUnsent}
 use Rattle.pc_sends.proofs.Filtered.{Filtered, filtered_none, filtered_push, filtered_skip, filtered_all}
 use Rattle.pc_sends.proofs.Tabled.{unsent_to, unsent_from, unsent_below}
 use Rattle.pc_sends.proofs.never.list_never.Goals as goal

@@ -1,4 +1,4 @@
-use Rattle.pc_sends.specs.Tables.{IsUnsent}
+use Rattle.pc_sends.specs.Unsent.{IsUnsent}
 use Rattle.pc_sends.proofs.Filtered.{Filtered}
 use Rattle.pc_sends.proofs.never.list_never.Given as goal
 

@@ -1,7 +1,7 @@
 use Rattle.std.proofs.Common.{◌↔◌, ℕ, List, subst}
 use Rattle.pc_lists.specs.Lists.{Has}
 use Rattle.pc_sends.specs.declared.table.Row.{Row}
-use Rattle.pc_sends.specs.Tables.{IsUnsent}
+use Rattle.pc_sends.specs.Unsent.{IsUnsent}
 use Rattle.pc_sends.proofs.Tabled.{table_made}
 use Rattle.pc_sends.proofs.sending.table_of.Goals as goal
 

@@ -1,5 +1,5 @@
 use Rattle.std.proofs.Common.{subst}
-use Rattle.pc_grammar.specs.SpellsFile.{SpellsFile}
+use Rattle.pc_grammar.specs.Spells.{SpellsFile}
 use Rattle.pc_tree.specs.View.{file_view}
 use Rattle.pc_test_inputs.proofs.texts.tree_of.Goals as goal
 

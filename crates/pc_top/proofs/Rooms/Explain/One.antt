@@ -4,16 +4,17 @@ use Rattle.std.specs.Prelude.{Result}
 use Rattle.pc_core.specs.CoreData.{CoreData}
 use Rattle.pc_core.specs.Formed.{Formed}
 use Rattle.pc_core_relation.specs.Files.{IsCoreOf}
-use Rattle.pc_core_relation.proofs.Ones.{standing_cores_are_made, standing_cores_are_one}
+use Rattle.pc_core_relation.proofs.Ones.{standing_cores_are_one}
 use Rattle.pc_lex.specs.Pieces.{TokenList}
 use Rattle.pc_lists.specs.Lists.{Text}
 use Rattle.pc_names.specs.Faults.{IsNotMemory}
 use Rattle.pc_names.specs.declared.fault.NameFault.{NameFault}
 use Rattle.pc_token.specs.declared.kinds.Token.{Token}
 use Rattle.pc_tree.specs.Tree as t
-use Rattle.pc_refusals.specs.Source.{HasOneEnd, FileStage}
+use Rattle.pc_refusals.specs.Source.{FileStage}
+use Rattle.pc_refusals.specs.Ends.{HasOneEnd}
 use Rattle.pc_refusals.specs.Verdict.{Reading, whole, Verdict}
-use Rattle.pc_refusals.proofs.OneSource.{differ, ok_same, one_file}
+use Rattle.pc_refusals.proofs.OneSource.{differ, never_misnamed, never_misused, not_both_faults, ok_same, one_file, one_member_fault}
 use Rattle.pc_core_commands.specs.Explain.{CoreText, Explaining, IsFileFault, fault_end}
 use Rattle.pc_top.specs.Commands.Explain.{ExplainedStage}
 use Rattle.pc_core_commands.specs.Explain.CoreText.{accepted, explained}
@@ -44,14 +45,14 @@ module _ (laws : Laws) (name : Text) where
         (laws.refusing.formed says.0 core (record { short = says.2; tokens = says.3; file = file; lexed = says.4; parsed = says.5; stands = stands })).0
 
     no_fault : {C : Type 0} (core : CoreData) (f : NameFault) → IsCoreOf file core → IsNotMemory f → IsFileFault file f → C
-    no_fault core f s o (inl h) = let made = standing_cores_are_made file core s in absurd (laws.source.misnamed file f made.0 o h made.1)
-    no_fault core f s o (inr h) = absurd (laws.source.misused file core f (standing_cores_are_made file core s) h)
+    no_fault core f s o (inl h) = absurd (never_misnamed laws.source file core f s o h)
+    no_fault core f s o (inr h) = absurd (never_misused laws.source file core f s h)
 
     one_fault : (f g : NameFault) → IsNotMemory f → IsNotMemory g → IsFileFault file f → IsFileFault file g → f ≡ g
     one_fault f g o p (inl h) (inl i) = laws.source.name_fault file f g o p h i
-    one_fault f g o p (inl h) (inr i) = absurd (laws.source.misnamed file f i.0 o h i.1)
-    one_fault f g o p (inr h) (inl i) = absurd (laws.source.misnamed file g h.0 p i h.1)
-    one_fault f g o p (inr h) (inr i) = laws.source.body_fault file f g h i
+    one_fault f g o p (inl h) (inr i) = absurd (not_both_faults laws.source file f g o h i)
+    one_fault f g o p (inr h) (inl i) = absurd (not_both_faults laws.source file g f p i h)
+    one_fault f g o p (inr h) (inr i) = one_member_fault laws.source file f g h i
 
     one_text : (ts us : List Token) (c d : CoreData) (x y : Text) → TokenList bytes ts → TokenList bytes us → IsCoreOf file c → IsCoreOf file d
         → CoreText name bytes ts c x → CoreText name bytes us d y → x ≡ y

@@ -6,7 +6,7 @@ use Rattle.pc_sends.specs.Covering.{HeldCovers}
 use Rattle.pc_sends.proofs.Tabled.{table_tells}
 use Rattle.pc_core_commands.proofs.Tables.{names_there}
 use Rattle.pc_top.specs.CoresFormed.{CoresAreFormed}
-use Rattle.pc_top.specs.Commands.Sends.{TablesTell}
+use Rattle.pc_top.specs.Laws.{TablesTell}
 
 -- What is noted is held, and so the table tells the truth of every run.
 pub tables_tell : CoresAreFormed → AcceptedHeld → HeldCovers → TablesTell

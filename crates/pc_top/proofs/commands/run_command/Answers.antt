@@ -1,5 +1,6 @@
 use Rattle.std.proofs.Common.{ap}
-use Rattle.pc_args.specs.Asked.{asked_by, check, events, explain, judge, make, outcomes, places, play, run, schedule_of, sends, show, swap, trace, upgrade}
+use Rattle.pc_args.specs.Asked.{check, events, explain, judge, make, outcomes, places, play, run, schedule_of, sends, show, swap, trace, upgrade}
+use Rattle.pc_args.specs.Commands.{asked_by}
 use Rattle.pc_io.specs.Sink.{change}
 use Rattle.pc_refusals.specs.Verdict.{files_change}
 use Rattle.pc_top.proofs.Asking.{asks_judge, asks_other}

@@ -22,6 +22,7 @@ returns c =
         failing = c.nothing_is_derivable_with_a_declaration_that_fails.ensures;
       };
       fits = c.no_fault_where_declarations_fit.ensures;
+      one_declared = c.one_declaration_fails_first.ensures;
       valid = c.one_annotation_is_valid.ensures;
       node = c.faults_are_one.ensures.node;
       constructor = c.faults_are_one.ensures.constructor;

@@ -1,5 +1,6 @@
 use Rattle.std.proofs.Common.{Err, inl, refl}
-use Rattle.pc_args.specs.Asked.{asked_by, command_of, texts}
+use Rattle.pc_args.specs.Asked.{command_of, texts}
+use Rattle.pc_args.specs.Commands.{asked_by}
 use Rattle.pc_args.proofs.Refusals.{asks_nothing}
 use Rattle.pc_io.specs.Sink.{change}
 use Rattle.pc_refusals.specs.Verdict.{files_change}

@@ -5,6 +5,7 @@ use Rattle.pc_core.specs.declared.declarations.EntityDef.{EntityDef}
 use Rattle.pc_core.specs.declared.declarations.FieldInfo.{FieldInfo}
 use Rattle.pc_lists.specs.Lists.{◌>>=◌, place_of}
 use Rattle.pc_core.specs.CoreData as spec
+use Rattle.pc_core.specs.Parts as parts
 use Rattle.pc_core.specs.Members.{field_exact}
 use Rattle.pc_core.proofs.cores.Core.field.Goals as goal
 
@@ -17,8 +18,8 @@ place_of_field-requires c = subst (λ (fs : List FieldInfo). length fs ≤ 64) (
 value : (c : goal.After-place_of_field) → c.place_of_field.result ≡ spec.field_named c.args.self.now c.args.entity c.args.name
 value c =
     c.place_of_field.ensures
-    ∙ ap (λ (fs : List FieldInfo). place_of spec.field_name c.args.name fs 0) c.as_slice.ensures
-    ∙ sym (ap (λ (o : Option EntityDef). o >>= λ x. place_of spec.field_name c.args.name x.fields 0) (sym c.entity_at.ensures ∙ ap option_copied (c.in_ok-found.was)))
+    ∙ ap (λ (fs : List FieldInfo). place_of parts.field_name c.args.name fs 0) c.as_slice.ensures
+    ∙ sym (ap (λ (o : Option EntityDef). o >>= λ x. place_of parts.field_name c.args.name x.fields 0) (sym c.entity_at.ensures ∙ ap option_copied (c.in_ok-found.was)))
 
 pub returns-clause-value : goal.returns-clause-value
 returns-clause-value c = value c

@@ -5,6 +5,7 @@ use Rattle.pc_core.specs.declared.declarations.EntityDef.{EntityDef}
 use Rattle.pc_core.specs.declared.declarations.Method.{Method}
 use Rattle.pc_lists.specs.Lists.{◌>>=◌, place_of}
 use Rattle.pc_core.specs.CoreData as spec
+use Rattle.pc_core.specs.Parts as parts
 use Rattle.pc_core.specs.Members.{methods_within, own_methods_within}
 use Rattle.pc_core.proofs.cores.Core.method_among.Goals as goal
 
@@ -31,5 +32,5 @@ returns c =
     let same : c.part-methods.result.now ≡ spec.own_methods c.args.self.now found =
     c.part-methods.ensures ∙ ap (λ (ms : List Method). slice_range ms found.first_method (found.first_method + found.methods)) c.methods.ensures in
     c.place_of_method.ensures
-    ∙ ap (λ (ms : List Method). place_of spec.method_name c.args.name ms found.first_method) same
-    ∙ sym (ap (λ (o : Option EntityDef). o >>= λ x. place_of spec.method_name c.args.name (spec.own_methods c.args.self.now x) x.first_method) (sym c.entity_at.ensures ∙ ap option_copied c.in_ok-found.was))
+    ∙ ap (λ (ms : List Method). place_of parts.method_name c.args.name ms found.first_method) same
+    ∙ sym (ap (λ (o : Option EntityDef). o >>= λ x. place_of parts.method_name c.args.name (spec.own_methods c.args.self.now x) x.first_method) (sym c.entity_at.ensures ∙ ap option_copied c.in_ok-found.was))

@@ -1,5 +1,5 @@
 use Rattle.std.proofs.Common.{◌≡◌, Some, None, take, sym, ap, ◌∙◌}
-use Rattle.pc_body_spec.specs.Scopes as spec
+use Rattle.pc_body_spec.specs.Bodies as spec
 use Rattle.pc_resolve.specs.Near.{near_count}
 use Rattle.pc_resolve.proofs.Found.{constructor_far, constructor_near}
 use Rattle.pc_resolve.proofs.constructors.Constructors.find.Goals as goal

@@ -1,5 +1,5 @@
 use Rattle.std.proofs.Common.{take, ap, ◌∙◌}
-use Rattle.pc_body_spec.specs.Scopes.{is_among_names}
+use Rattle.pc_body_spec.specs.Bodies.{is_among_names}
 use Rattle.pc_resolve.specs.Near.{near_count}
 use Rattle.pc_resolve.proofs.Found.{found_near, found_far}
 use Rattle.pc_resolve.proofs.name_row.NameRow.has.Goals as goal

@@ -1,5 +1,5 @@
 use Rattle.std.proofs.Common.{◌≡◌, Some, None, map, take, sym, ap, ◌∙◌}
-use Rattle.pc_body_spec.specs.Scopes as spec
+use Rattle.pc_body_spec.specs.Bodies as spec
 use Rattle.pc_resolve.specs.Near.{near_count}
 use Rattle.pc_resolve.proofs.Visibles.{found_far, found_near}
 use Rattle.pc_resolve.proofs.scope.Scope.find.Goals as goal

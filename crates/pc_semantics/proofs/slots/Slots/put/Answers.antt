@@ -1,6 +1,6 @@
 use Rattle.std.proofs.Common.{None, Some, ◌++◌, ◌∙◌, replicate, set, ap}
 use Rattle.std.specs.Prelude.{slice_get}
-use Rattle.pc_semantics.specs.Calls.{held}
+use Rattle.pc_semantics.specs.Parts.{held}
 use Rattle.pc_semantics.proofs.Held.{got_front, put_front}
 use Rattle.pc_semantics.proofs.slots.Slots.put.Goals as goal
 

@@ -3,12 +3,13 @@ use Rattle.pc_print.specs.Printing.{printed}
 use Rattle.pc_lists.specs.Lists.{Text}
 use Rattle.pc_refusals.specs.Source.{AcceptedStage, source_limit}
 use Rattle.pc_core_commands.specs.Make.{made_name}
-use Rattle.pc_top.specs.Commands.Make.{made_text}
+use Rattle.pc_gen.specs.Generated.{generated_text}
+use Rattle.pc_gen.proofs.Printed.{program_printed}
 use Rattle.pc_refusals.specs.Verdict.{text_as}
 use Rattle.pc_refusals.specs.Inner.Stages.{PartEnds}
 use Rattle.pc_top.proofs.commands.make.accept_made.Goals as goal
 
 pub returns : goal.returns
 returns c =
-    let same : c.from_vec.result ≡ made_text c.args.seed c.args.size = c.from_vec.ensures ∙ (c.into_vec.ensures ∙ (c.in_ok-text.ensures ∙ ap printed c.in_ok-file.ensures)) in
+    let same : c.from_vec.result ≡ generated_text c.args.seed c.args.size = c.from_vec.ensures ∙ (c.into_vec.ensures ∙ (c.in_ok-text.ensures ∙ (ap printed c.in_ok-file.ensures ∙ program_printed c.args.seed c.args.size))) in
     subst (λ (text : Text). PartEnds source_limit (AcceptedStage made_name) (text_as made_name text) c.accept_text.result) same c.accept_text.ensures
