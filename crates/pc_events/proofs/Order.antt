@@ -180,6 +180,50 @@ idle_touches core c i a is e x s =
     (sym (ap (λ (o : Option Actor). o >>= (λ a. slice_get a.frames 0 >>= (λ f. slice_get f.tasks 0 >>= (λ t. touched_name core t >>= (λ n. access_of core c f n))))) is
     ∙ ap (λ (gs : List Frame). slice_get gs 0 >>= (λ f. slice_get f.tasks 0 >>= (λ t. touched_name core t >>= (λ n. access_of core c f n)))) e) ∙ s)
 
+-- ---- accesses that clash
+
+-- Two different actors are about to touch the same object, at fields that are so related, and one of them writes.
+pub record Clash (Related : ℕ → ℕ → Type 0) (core : CoreData) (c : Configuration) : Type 0 where
+  pub i : ℕ
+  pub j : ℕ
+  pub differ : i ≢ j
+  pub one : Access
+  pub other : Access
+  pub accesses : access core c i ≡ Some one
+  pub accesses_too : access core c j ≡ Some other
+  pub address : one.address ≡ other.address
+  pub field : Related one.field other.field
+  pub writes : (one.write ≡ true) ⊎ (other.write ≡ true)
+
+-- Two events of different actors touch the same object, at fields that are so related, and one of them writes.
+pub record Meet (Related : ℕ → ℕ → Type 0) (core : CoreData) (list : List ℕ) (p q : ℕ) : Type 0 where
+  pub i : ℕ
+  pub j : ℕ
+  pub first : Event core list p i
+  pub second : Event core list q j
+  pub differ : i ≢ j
+  pub one : Access
+  pub other : Access
+  pub accesses : access core (at_place core list p) i ≡ Some one
+  pub accesses_too : access core (at_place core list q) j ≡ Some other
+  pub address : one.address ≡ other.address
+  pub field : Related one.field other.field
+  pub writes : (one.write ≡ true) ⊎ (other.write ≡ true)
+
+clash_races : (core : CoreData) (c : Configuration) → Clash (λ x y. x ≡ y) core c → Race core c
+clash_races core c x = record {
+  i = x.i;
+  j = x.j;
+  differ = x.differ;
+  one = x.one;
+  other = x.other;
+  accesses = x.accesses;
+  accesses_too = x.accesses_too;
+  address = x.address;
+  field = x.field;
+  writes = x.writes;
+}
+
 -- ---- configurations that runs lead to
 
 pub record Reached (core : CoreData) (d : Configuration) : Type 0 where
@@ -491,15 +535,12 @@ module _ (core : CoreData) (safe : Safe core) (list : List ℕ) (q : ℕ) (ih : 
 
   -- ---- at q
 
-  module _ (differ : i ≢ j) (address : one.address ≡ other.address) (field : one.field ≡ other.field) (writes : (one.write ≡ true) ⊎ (other.write ≡ true)) (b : Beside q) where
+  module _ (Related : ℕ → ℕ → Type 0) (differ : i ≢ j) (address : one.address ≡ other.address) (field : Related one.field other.field) (writes : (one.write ≡ true) ⊎ (other.write ≡ true)) (b : Beside q) (clash_here : Clash Related core b.beside → ⊥) where
     abbrev last : Configuration
     last = at_place core list q
 
     lacks_here : LacksNothing core b.beside
     lacks_here = subst (LacksNothing core) (reached_is core b.beside b.reached) (safe b.reached.list).lacks_nothing
-
-    race_here : Race core b.beside → ⊥
-    race_here = subst (λ (d : Configuration). Race core d → ⊥) (reached_is core b.beside b.reached) (safe b.reached.list).no_race
 
     -- Both are about to touch the field, beside.
     raced : (a : Actor) → Clean (marks q) (taken_before core list q) last b.beside b.names j a → slice_get last.actors j ≡ Some a → (x : Change) → Running core last j x → ⊥
@@ -526,7 +567,7 @@ module _ (core : CoreData) (safe : Safe core) (list : List ℕ) (q : ℕ) (ih : 
         same_Some _ other (sym (touch_like core b.names last.objects d.objects b.sim.classes r.task r.frame.stack s.0.stack s.3.stack z.0 z.1 q2 m) ∙ touched)
         in
         let back : one.address ≡ q2 = address ∙ sym (ap (λ (y : Access). y.address) same_access) in
-        race_here (record {
+        clash_here (record {
           i = i;
           j = clean.other;
           differ = λ y. differ (same_Some i j (sym b.name ∙ ap (slice_get b.names) y ∙ clean.name));
@@ -535,7 +576,7 @@ module _ (core : CoreData) (safe : Safe core) (list : List ℕ) (q : ℕ) (ih : 
           accesses = b.waits;
           accesses_too = access_is core d clean.other clean.actor s.0 s.1 r.task r.rest clean.is s.2 tasks ∙ z.1;
           address = second_address b.names b.sim.inject one.address one.address z.0.address b.address (subst (λ (y : Address). AddressLike b.names y z.0.address) (sym back) m);
-          field = field ∙ sym (ap (λ (y : Access). y.field) same_access);
+          field = subst (Related one.field) (sym (ap (λ (y : Access). y.field) same_access)) field;
           writes = elim writes [ inl y ↦ inl y | inr y ↦ inr (ap (λ (u : Access). u.write) same_access ∙ y) ];
         })
 
@@ -572,10 +613,30 @@ module _ (core : CoreData) (safe : Safe core) (list : List ℕ) (q : ℕ) (ih : 
 
 -- ---- the law
 
+-- If no two actors clash in any configuration, an event comes before a later one that it meets.
+meets_before : (Related : ℕ → ℕ → Type 0) (core : CoreData) (safe : Safe core) → ((more : List ℕ) → Clash Related core (after core more) → ⊥) → (list : List ℕ) (q : ℕ) → ((k : ℕ) → k < q → (e : ℕ) → e < k → Conflict core list e k → Before core list e k)
+    → (p : ℕ) → p < q → Meet Related core list p q → Before core list p q
+meets_before Related core safe calm list q ih p less f =
+    let b = beside_q core safe list q ih p less f.i f.j f.first f.second f.one f.other f.accesses f.accesses_too in
+    ordered_at core safe list q ih p less f.i f.j f.first f.second f.one f.other f.accesses f.accesses_too Related f.differ f.address f.field f.writes b
+    (subst (λ (d : Configuration). Clash Related core d → ⊥) (reached_is core b.beside b.reached) (calm b.reached.list))
+
 before_of : (core : CoreData) → Safe core → (list : List ℕ) (q : ℕ) → ((k : ℕ) → k < q → (e : ℕ) → e < k → Conflict core list e k → Before core list e k) → (p : ℕ) → p < q → Conflict core list p q → Before core list p q
 before_of core safe list q ih p less f =
-    ordered_at core safe list q ih p less f.i f.j f.first f.second f.one f.other f.accesses f.accesses_too f.differ f.address f.field f.writes
-    (beside_q core safe list q ih p less f.i f.j f.first f.second f.one f.other f.accesses f.accesses_too)
+    meets_before (λ x y. x ≡ y) core safe (λ more x. (safe more).no_race (clash_races core (after core more) x)) list q ih p less (record {
+      i = f.i;
+      j = f.j;
+      first = f.first;
+      second = f.second;
+      differ = f.differ;
+      one = f.one;
+      other = f.other;
+      accesses = f.accesses;
+      accesses_too = f.accesses_too;
+      address = f.address;
+      field = f.field;
+      writes = f.writes;
+    })
 
 all_below : (core : CoreData) → Safe core → (list : List ℕ) (n k : ℕ) → k < n → (e : ℕ) → e < k → Conflict core list e k → Before core list e k
 all_below core safe list zero k b e l f = absurd (omega (arith, b))
@@ -624,3 +685,7 @@ before_is_earlier core list p q (chain r s t a b) = less_less p s q (before_is_e
 
 pub earlier_comes_before : EarlierComesBefore
 earlier_comes_before core safe list p q l f = all_below core safe list (suc q) q (below_next q) p l f
+
+-- The same of objects, if no two actors are ever about to touch one of which one writes.
+pub objects_ordered : (core : CoreData) → Safe core → ((more : List ℕ) → Clash (λ x y. Unit {0}) core (after core more) → ⊥) → (list : List ℕ) (p q : ℕ) → p < q → Meet (λ x y. Unit {0}) core list p q → Before core list p q
+objects_ordered core safe calm list p q less f = meets_before (λ x y. Unit {0}) core safe calm list q (λ k b e l g. all_below core safe list q k b e l g) p less f

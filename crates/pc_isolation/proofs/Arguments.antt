@@ -53,7 +53,7 @@ module _ (core : CoreData) (ann : Ann) (c : Configuration) (w : World) (g : InRe
   pub one_place : (j i k l : ℕ) → j ≡ i → ticket j k ≡ ticket i l → k ≡ l
   one_place j i k l is e = cancel (first j).0 (first i).0 k l (ap (λ (x : ℕ). (first x).0) is) e
 
-  waits_fits : (j k n : ℕ) (q : Cap) (a : Address) → Waits core c j k n q a → FitsIn w (InMail j (ticket j k) n) (unalias q) (w.region a)
+  pub waits_fits : (j k n : ℕ) (q : Cap) (a : Address) → Waits core c j k n q a → FitsIn w (InMail j (ticket j k) n) (unalias q) (w.region a)
   waits_fits j k n q a x =
       let actor = bind_some (slice_get c.actors j) _ x.message x.waits in
       let method = bind_some (slice_get core.methods x.message.method) _ q x.declared in

@@ -71,7 +71,7 @@ value_there (Some o) v e = ap Some e
 
 module _ (core : CoreData) (w : World) (objects : ObjectMap) (fields : FieldsFit core w objects) where
   -- What a field leads to fits there.
-  led : (q : Cap) (a b : Address) (l : FieldLeads core objects q a b) → FitsIn w (InField a l.place) (unalias q) (w.region b)
+  pub led : (q : Cap) (a b : Address) (l : FieldLeads core objects q a b) → FitsIn w (InField a l.place) (unalias q) (w.region b)
   led q a b l =
       let number = bind_some (class_at objects a) _ q l.declared in
       let entity = bind_some (slice_get core.entities number.0) _ q number.2 in
@@ -83,7 +83,7 @@ module _ (core : CoreData) (w : World) (objects : ObjectMap) (fields : FieldsFit
       (fields a object.0 entity.0 l.place field.0 (At b) object.1 here field.1 value)
 
   -- If no field of an allowed capability leads out of these regions, nothing that is reached from one is in another.
-  reached : (P : ℕ → Type 0) (allowed : Cap → Bool)
+  pub reached : (P : ℕ → Type 0) (allowed : Cap → Bool)
       → ((o : Address) (n r : ℕ) (q : Cap) → allowed q ≡ true → FitsIn w (InField o n) (unalias q) r → P (w.region o) → P r)
       → (a b : Address) → P (w.region a) → FieldsReach core objects allowed a b → P (w.region b)
   reached P allowed next a b p (itself e) = subst (λ (x : Address). P (w.region x)) (sym e) p
@@ -98,3 +98,7 @@ module _ (core : CoreData) (w : World) (objects : ObjectMap) (fields : FieldsFit
   pub leads_from_mailed : (j t k : ℕ) (a b : Address) → Mailed w j t k (w.region b) → FieldsReach core objects shows a b → Mailed w j t k (w.region a)
   leads_from_mailed j t k a b m (itself e) = subst (λ (x : Address). Mailed w j t k (w.region x)) e m
   leads_from_mailed j t k a b m (further o q x e l) = leads_from_mailed j t k a o (shown_behind w o l.place (w.region b) j t k q e (led q o b l) m) x
+
+  -- Fields lead from what is frozen to what is frozen.
+  pub cold_from : (a b : Address) → Frozen w (w.region a) → FieldsReach core objects shows a b → Frozen w (w.region b)
+  cold_from = reached (Frozen w) shows (λ o n r q. field_cold w o n r q)

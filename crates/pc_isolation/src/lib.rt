@@ -21,4 +21,4 @@
 
 mod laws;
 
-pub use laws::{valid_is_isolated, valid_is_passed_whole, waiting_is_seen};
+pub use laws::{valid_is_isolated, valid_is_passed_whole, valid_keeps_val, waiting_is_seen};

@@ -19,7 +19,7 @@ use Rattle.pc_rules.specs.Parts.{through}
 use Rattle.pc_valid.specs.Words.{Ty, Masks, before}
 use Rattle.pc_types.proofs.Tasks.{Within}
 use Rattle.pc_regions.proofs.World.{Place, InSlot, OnStack, InField, InMail, World, FitsSome, WorldOk}
-use Rattle.pc_regions.proofs.StackForms.{Entry, Shallow, TasksRise, FinishRises, Rises}
+use Rattle.pc_regions.proofs.StackForms.{Entry, Shallow, TasksRise, FinishRises, Rises, SlotsShallow}
 use Rattle.pc_regions.proofs.Fitting.{ThisFits, SlotsFit, StackFits, Entered, OpenedTo, GoesTo, Awaits, WaitFits, FieldsFit}
 use Rattle.pc_regions.proofs.MoveFits.{elsewhere, Others, Situated}
 use Rattle.pc_regions.proofs.Changes.{Shifts}
@@ -53,6 +53,7 @@ pub record Rests (core : CoreData) (ann : Ann) (w : World) (i m base d : ℕ) (l
   pub this_fits : ThisFits core w i (length fs) m base slots
   pub slots_fit : SlotsFit core ann w i (length fs) m base live slots
   pub stack_fit : StackFits w i (length fs) base below vs
+  pub deep : SlotsShallow core m live d
   pub wait : WaitFits core ann w i base m fs
 
 -- A value may be pushed in it if the last level is that of its node.
@@ -121,6 +122,7 @@ module _ (core : CoreData) (ann : Ann) (around : Around) (f : Frame) (fs : List 
       this_fits = λ y v is at. x.fits (InSlot around.actor (length fs) 0 s.active.holds.base) (unalias y.receiver) v refl (s.active.holds.this_fits y v is at);
       slots_fit = λ t up live v at y is. x.fits (InSlot around.actor (length fs) t (s.active.holds.base + y.0.depth)) (unalias y.1.1) v refl (s.active.holds.slots_fit t up live v at y is);
       stack_fit = stack_on s.active.holds.base e.below rest few fit;
+      deep = s.active.not_deeper;
       wait = wait_on;
     }
 
@@ -161,6 +163,7 @@ module _ (core : CoreData) (ann : Ann) (around : Around) (f : Frame) (fs : List 
           (λ d l g v under low k. x.fits (OnStack around.actor (length fs) d l) g v (left.under d l under low) k) core ann f.method s.active.holds.base s.active.depth s.active.holds.live f.slots low_all s.active.not_deeper s.active.holds.slots_fit;
       stack_fit = stack_low w w' around.actor (length fs) (w.top around.actor) (λ t l g v low k. x.fits (InSlot around.actor (length fs) t l) g v (left.slots (length fs) t l low) k) m
           (λ d l g v under low k. x.fits (OnStack around.actor (length fs) d l) g v (left.under d l under low) k) s.active.holds.base s.active.depth e.below rest low_all few flat fit;
+      deep = s.active.not_deeper;
       wait = below_under w w' around.objects around.actors around.actor s.active.holds.base gone x core ann (length fs) (λ h t l under low. left.slots h t l (low_than l low)) (λ h d l under low. left.lower h d l under (low_than l low)) s.active.holds.base f.method fs (omega arith) (omega arith) s.wait;
     }
 
@@ -171,10 +174,10 @@ module _ (core : CoreData) (ann : Ann) (w : World) (i m base d : ℕ) (live : Ma
   waits after t ts less o b x entered result = record {
     holds = record {
       base = base;
-      live = o.live;
+      live = after;
       entries = below;
       this_fits = p.this_fits;
-      slots_fit = λ s up is v at y k. p.slots_fit s up (less s (o.left s is)) v at y k;
+      slots_fit = λ s up is v at y k. p.slots_fit s up (less s is) v at y k;
       stack_fit = p.stack_fit;
     };
     call = record { ty = t; depth = d };
@@ -184,6 +187,9 @@ module _ (core : CoreData) (ann : Ann) (w : World) (i m base d : ℕ) (live : Ma
     way = o.way;
     climbs = o.climbs;
     shallow = o.shallow;
+    deep = λ s x y bit a e. p.deep s x y (less s bit) a e;
+    low = o.live;
+    less = o.left;
     not_deeper = o.slots;
     next = o.next;
   }

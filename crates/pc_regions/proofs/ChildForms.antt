@@ -64,7 +64,7 @@ module _ (core : CoreData) (ann : Ann) (flat : LiveShallow core ann) (m d : ℕ)
   pub whole_rises : (c : ℕ) (t : Note) (l : Mask) (g : List Entry) (go : ℕ → Mask → List Entry → Type 0) → IsAt core m d c → slice_get ann.notes c ≡ Some t → Within t.live_before l → Shallow g d
       → go d t.live_after (at_depth d (type_of ann c) ∷ g) → EvalRises core ann m d l g c go
   whole_rises c t l g go child at wl low next =
-      let here : SlotsShallow core child.0.method t.live_after child.0.depth = (flat c child.0 t child.1 at).1 in
+      let here : SlotsShallow core child.0.method t.live_after child.0.depth = (flat c child.0 t child.1 at).1 child.4 in
       let slots : SlotsShallow core m t.live_after d = subst (λ (k : ℕ). SlotsShallow core k t.live_after d) child.2 (subst (SlotsShallow core child.0.method t.live_after) child.3 here) in
       child_rises c t l g go child at wl t.live_after [] (within_same t.live_after) tt low slots
       (subst (λ (o : Option Ty). go d t.live_after (at_depth d o ∷ g)) (type_is ann c t at) next)

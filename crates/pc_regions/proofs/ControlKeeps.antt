@@ -335,7 +335,7 @@ module _ (core : CoreData) (ann : Ann) (needs : Needs core ann) (flat : LiveShal
         result = λ fun.
             let r = result_below core ann needs q.own.kind q.own.result q.note.ty fun q.result in
             let ty : type_of ann q.child ≡ Some r.0 = type_is ann q.child q.note q.is_note ∙ r.1 in
-            (r.0, ap (λ (k : ℕ). at_depth k (type_of ann q.child) ∷ g) b.outer ∙ ap (λ (o : Option Ty). at_depth 0 o ∷ g) ty ∙ ap (λ (es : List Entry). at_depth 0 (Some r.0) ∷ es) b.empty, r.2);
+            (r.0, g, ap (λ (k : ℕ). at_depth k (type_of ann q.child) ∷ g) b.outer ∙ ap (λ (o : Option Ty). at_depth 0 o ∷ g) ty, r.2);
       } in
       first_goes b.node q.child [] (task.Return ∷ []) q.children
       (whole_rises core ann flat f.method d q.child u.note s.active.holds.live g (λ d l g. TasksRise core ann f.method (task.Return ∷ f.tasks) d l g) child u.is_note

@@ -25,7 +25,8 @@ use Rattle.pc_semantics.specs.Configurations.{Configuration}
 use Rattle.pc_sub.specs.Declarations.{isolates}
 use Rattle.pc_valid.specs.Words.{Ty}
 use Rattle.pc_rules.proofs.ByNumber.{slot_of}
-use Rattle.pc_regions.proofs.World.{World, Opened, InSlot, OnStack, InField, InMail, Fits, FitsSome, AliasSome, Over, WorldOk}
+use Rattle.pc_types.proofs.Tasks.{Within}
+use Rattle.pc_regions.proofs.World.{World, Frozen, Opened, InSlot, OnStack, InField, InMail, Fits, FitsSome, AliasSome, Over, WorldOk}
 use Rattle.pc_regions.proofs.StackForms.{Entry, Shallow, Below, Ascent, Climbs, top_of, SlotsShallow, TasksRise, uses_top}
 
 -- ---- one frame, of actor i, with h frames below it
@@ -88,8 +89,11 @@ pub record Awaits (core : CoreData) (ann : Ann) (w : World) (i h b : ℕ) (x : M
   pub way : List Ascent
   pub climbs : Climbs core way call
   pub shallow : Shallow holds.entries (top_of way call).depth
-  pub not_deeper : SlotsShallow core f.method holds.live (top_of way call).depth
-  pub next : TasksRise core ann f.method f.tasks (top_of way call).depth holds.live (top_of way call ∷ holds.entries)
+  pub deep : SlotsShallow core f.method holds.live call.depth
+  pub low : Mask
+  pub less : Within low holds.live
+  pub not_deeper : SlotsShallow core f.method low (top_of way call).depth
+  pub next : TasksRise core ann f.method f.tasks (top_of way call).depth low (top_of way call ∷ holds.entries)
 
 abbrev pub WaitFits : CoreData → Ann → World → ℕ → ℕ → ℕ → List Frame → Type 0
 WaitFits core ann w i b m [] = b ≡ 0
@@ -149,3 +153,11 @@ pub record InRegions (core : CoreData) (ann : Ann) (w : World) (c : Configuratio
 
 abbrev pub HasRegions : CoreData → Ann → Configuration → Type 0
 HasRegions core ann c = (w : World) × InRegions core ann w c
+
+-- What was frozen in world w is frozen in w'.
+abbrev pub StaysFrozen : World → World → Type 0
+StaysFrozen w w' = (a : Address) → Frozen w (w.region a) → Frozen w' (w'.region a)
+
+-- Some world fits the configuration, and what was frozen in world w is frozen there.
+abbrev pub LeadsOn : CoreData → Ann → World → Configuration → Type 0
+LeadsOn core ann w c = (w' : World) × InRegions core ann w' c × StaysFrozen w w'

@@ -72,6 +72,7 @@ module _ (w w' : World) (objects : ObjectMap) (count : ℕ) (x : Grows w w' obje
         this_fits = λ y v is at. x.fits (InSlot i (length fs) 0 base) (unalias y.receiver) v here (p.this_fits y v is at);
         slots_fit = λ s up l v at y is. x.fits (InSlot i (length fs) s (base + y.0.depth)) (unalias y.1.1) v here (p.slots_fit s up l v at y is);
         stack_fit = stack_fits core ann w w' i (suc (length fs)) in_slot on_stack base ajar over (length fs) base below vs (omega arith) p.stack_fit;
+        deep = p.deep;
         wait = wait_kept core ann w w' i (suc (length fs)) in_slot on_stack base ajar over base m fs (omega arith) (omega arith) p.wait;
       }
 

@@ -10,7 +10,7 @@ mod Taken
 mod ContextLaws
 mod Safe
 pub mod OneHolder
-mod Waiting
+pub mod Waiting
 mod OthersKept
 mod MoveMade
 pub mod Schedules

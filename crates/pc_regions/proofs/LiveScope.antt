@@ -254,4 +254,5 @@ live_shallow core ann needs n x t at is =
     let all = tree_scope core ann needs h.number h.method h.is_method other h.method.first_node h.body (body_tree core h.number h.method h.body h.fits) (b.0, b.1, b.2) u.0 u.1
     (λ s live. outer_scope core ann needs h.number h.method h.is_method other h.method.first_node s (begins core ann b.0 u.0 said h.method (ap (slice_get core.methods) b.2 ∙ h.is_method) s live))
     in
-    all.0 n h.from h.to x t at is
+    let here = all.0 n h.from h.to x t at is in
+    (here.0, λ inner. here.1)

@@ -14,8 +14,10 @@ use Rattle.pc_semantics.specs.declared.mailbox.Message.{Message}
 use Rattle.pc_semantics.specs.Configurations.{Configuration, with_actor, with_frames, own_address, Move, Stuck, Overflows, Goes, Writes, Makes, Spawns, Enters, Sends, Leaves}
 use Rattle.pc_semantics.specs.Parts.{with_objects, delivered}
 use Rattle.pc_semantics.specs.Step.{around, left, made}
-use Rattle.pc_regions.proofs.World.{World, WorldOk}
-use Rattle.pc_regions.proofs.Fitting.{FramesFit, MessageFits, MailFits, ActorFits, InRegions, HasRegions}
+use Rattle.pc_heap.specs.declared.value.Value.TheVariants.{At}
+use Rattle.pc_caps.specs.declared.capability.Form.TheVariants as form
+use Rattle.pc_regions.proofs.World.{InMail, World, WorldOk}
+use Rattle.pc_regions.proofs.Fitting.{FramesFit, MessageFits, MailFits, ActorFits, InRegions, StaysFrozen, LeadsOn}
 use Rattle.pc_regions.proofs.MoveFits.{one_more, Others, Turned, RegionMoveOk}
 use Rattle.pc_regions.proofs.OthersKept.{frames_kept, mail_kept, mail_more}
 
@@ -112,12 +114,16 @@ module _ (core : CoreData) (ann : Ann) (c : Configuration) (i : ℕ) (a : Actor)
             ];
       }
 
-  pub made_regions : (fs : List Frame) (m : Move) → RegionMoveOk core ann w (around c i) fs m → HasRegions core ann (made c i a fs m).1
-  made_regions fs (Stuck l) k = (w, g)
-  made_regions fs Overflows k = (w, g)
-  made_regions fs (Goes f) k = (k.0, goes_on k.0 c.objects (f ∷ fs) k.1)
-  made_regions fs (Writes at n v f) k = (k.0, goes_on k.0 (with_value c.objects at n v) (f ∷ fs) k.1)
-  made_regions fs (Makes at o h f) k = (k.0, goes_on k.0 (insert c.objects at o) (h ∷ f ∷ fs) k.1)
+  -- What is frozen would fit a waiting `val` argument, and what fits one still does.
+  stays_frozen : (w' : World) (to : Option ℕ) → Others w w' i (length c.actors) to → StaysFrozen w w'
+  stays_frozen w' to o b f = o.fits (InMail 0 0 0) form.Val (At b) refl refl f
+
+  pub made_regions : (fs : List Frame) (m : Move) → RegionMoveOk core ann w (around c i) fs m → LeadsOn core ann w (made c i a fs m).1
+  made_regions fs (Stuck l) k = (w, g, λ b f. f)
+  made_regions fs Overflows k = (w, g, λ b f. f)
+  made_regions fs (Goes f) k = (k.0, goes_on k.0 c.objects (f ∷ fs) k.1, stays_frozen k.0 None k.1.others)
+  made_regions fs (Writes at n v f) k = (k.0, goes_on k.0 (with_value c.objects at n v) (f ∷ fs) k.1, stays_frozen k.0 None k.1.others)
+  made_regions fs (Makes at o h f) k = (k.0, goes_on k.0 (insert c.objects at o) (h ∷ f ∷ fs) k.1, stays_frozen k.0 None k.1.others)
   made_regions fs (Spawns o m f) k =
       let n : ℕ = length (slice_set c.actors i (gone_on (f ∷ fs))) in
       let at : n ≡ length c.actors = length-set c.actors i (gone_on (f ∷ fs)) in (
@@ -125,7 +131,8 @@ module _ (core : CoreData) (ann : Ann) (c : Configuration) (i : ℕ) (a : Actor)
         comes k.0 n o m (f ∷ fs) at
             (subst (λ (q : ℕ). Turned core ann w k.0 i (length c.actors) None (insert c.objects (own_address q) o) (q + 1) (f ∷ fs)) (sym at) k.1)
             (subst (λ (q : ℕ). MessageFits core k.0 q 0 m) (sym at) k.2) (ap k.0.sent at ∙ k.3) (ap k.0.top at ∙ k.4),
+        stays_frozen k.0 None k.1.others,
       )
-  made_regions fs (Enters h f) k = (k.0, goes_on k.0 c.objects (h ∷ f ∷ fs) k.1)
-  made_regions fs (Sends j m f) k = (k.1, delivers k.1 (f ∷ fs) j m (slice_get (slice_set c.actors i (gone_on (f ∷ fs))) j) refl k.0 k.2 k.3)
-  made_regions fs (Leaves v) k = (k.0, goes_on k.0 c.objects (left v fs) k.1)
+  made_regions fs (Enters h f) k = (k.0, goes_on k.0 c.objects (h ∷ f ∷ fs) k.1, stays_frozen k.0 None k.1.others)
+  made_regions fs (Sends j m f) k = (k.1, delivers k.1 (f ∷ fs) j m (slice_get (slice_set c.actors i (gone_on (f ∷ fs))) j) refl k.0 k.2 k.3, stays_frozen k.1 (Some j) k.2.others)
+  made_regions fs (Leaves v) k = (k.0, goes_on k.0 c.objects (left v fs) k.1, stays_frozen k.0 None k.1.others)

@@ -4,6 +4,10 @@ use Rattle.std.proofs.Common.{inl, inr, ap, sym, subst, ◌∙◌}
 use Rattle.std.proofs.lemmas.Option.{same_Some, none-some}
 use Rattle.pc_heap.specs.Objects.{ObjectMap, class_at}
 use Rattle.pc_caps.specs.declared.capability.Form.{Form}
+use Rattle.pc_caps.specs.declared.capability.Form.TheVariants as form
+use Rattle.pc_core.specs.declared.nodes.Node.{Node}
+use Rattle.pc_rules.specs.Parts.{type_of}
+use Rattle.pc_valid.specs.Words.{Ty}
 use Rattle.pc_core.specs.declared.declarations.MethodKind.{MethodKind}
 use Rattle.pc_core.specs.declared.declarations.MethodKind.TheVariants as method
 use Rattle.pc_core.specs.declared.declarations.ParamInfo.{ParamInfo}
@@ -22,18 +26,18 @@ use Rattle.pc_semantics.specs.declared.frames.Frame.{Frame}
 use Rattle.pc_semantics.specs.declared.frames.Task.{Task}
 use Rattle.pc_semantics.specs.declared.frames.Task.TheVariants as task
 use Rattle.pc_semantics.specs.Configurations.{Configuration, address_of}
-use Rattle.pc_semantics.specs.Safety.{name_read, touched_name, access_of, Race, Quiet}
+use Rattle.pc_semantics.specs.Safety.{name_read, touched_name, access_of, access, Race, Quiet}
 use Rattle.pc_semantics.specs.Step.{around}
 use Rattle.pc_types.proofs.Tasks.{TasksOk}
 use Rattle.pc_types.proofs.Frames.{FramesOk}
 use Rattle.pc_types.proofs.Typed.{MessageOk, MailOk, FirstMailOk, WellTyped, ActorOk}
-use Rattle.pc_regions.proofs.World.{World}
-use Rattle.pc_regions.proofs.StackForms.{TasksRise, uses_top}
+use Rattle.pc_regions.proofs.World.{OnStack, World, Frozen, FitsIn}
+use Rattle.pc_regions.proofs.StackForms.{piled, TasksRise, uses_top}
 use Rattle.pc_regions.proofs.Fitting.{TopAlias, FramesFit, MessageFits, MailFits, InRegions}
 use Rattle.pc_regions.proofs.MoveFits.{Situated}
 use Rattle.pc_types.proofs.Needs.{Needs}
 use Rattle.pc_regions.proofs.OneHolder.{AccessOk, AccessesOk, address_is, no_race, let_alone}
-use Rattle.pc_regions.proofs.Accesses.{get_access, put_access}
+use Rattle.pc_regions.proofs.Accesses.{top_fits, get_access, put_access}
 use Rattle.pc_types.proofs.Steps.{some_frames}
 
 -- A list with a first value.
@@ -90,6 +94,34 @@ module _ (core : CoreData) (ann : Ann) (needs : Needs core ann) (c : Configurati
         inl (put_access core ann needs (around c i) f fs (record { objects = typed.objects; here = get_below c.actors i a is; held = ok.0.0; wait = ok.1 }) w n x.address t.rest t.at ts
         (subst (λ (us : List Task). TasksOk core ann f.method us ok.0.0.live ok.0.0.set ok.0.0.wants) at ok.0.1) (situated (task.Put n ∷ ts) at))
     task_access t ts at p e x h = absurd (none-some p e)
+
+    -- What is read through an expression that is noted `val` is frozen.
+    val_read : (n : ℕ) (ts : List Task) → f.tasks ≡ task.Get n ∷ ts → (y : Node) → slice_get core.nodes n ≡ Some y → (child : ℕ) → y.children ≡ child ∷ [] → (t : Ty) → type_of ann child ≡ Some t → t.1 ≡ form.Val
+        → (p : ℕ × Bool) (x : Access) → access_of core c f p ≡ Some x → Frozen w (w.region x.address)
+    val_read n ts at y is_y child children t noted val p x h =
+        let s : Situated core ann w (around c i) f (task.Get n ∷ ts) fs = situated (task.Get n ∷ ts) at in
+        let same : s.tasks.node ≡ y = same_Some s.tasks.node y (sym s.tasks.is_node ∙ is_y) in
+        let v = touches core c f p x h in
+        let entries : s.active.holds.entries ≡ record { ty = type_of ann child; depth = s.active.depth } ∷ s.tasks.below = s.tasks.stack ∙ ap (λ (cs : List ℕ). piled ann s.active.depth cs s.tasks.below) (ap (λ (z : Node). z.children) same ∙ children) in
+        let k = top_fits core ann needs (around c i) f (task.Get n ∷ ts) fs (record { objects = typed.objects; here = get_below c.actors i a is; held = ok.0.0; wait = ok.1 }) w s refl child s.tasks.below entries (At x.address) v.rest v.at t noted in
+        subst (λ (q : Form). FitsIn w (OnStack i (length fs) (length v.rest) (w.top i)) q (w.region x.address)) val k.0
+
+  val_by : (f : Frame) (fs : List Frame) → a.frames ≡ f ∷ fs → ActorOk core ann c.objects i a → FramesFit core ann w i a.frames → (n : ℕ) (ts : List Task) → f.tasks ≡ task.Get n ∷ ts → (y : Node) → slice_get core.nodes n ≡ Some y → (child : ℕ) → y.children ≡ child ∷ []
+      → (t : Ty) → type_of ann child ≡ Some t → t.1 ≡ form.Val → (p : ℕ × Bool) (x : Access) → access_of core c f p ≡ Some x → Frozen w (w.region x.address)
+  val_by f fs at (inl ok) k n ts tasks y is_y child children t noted val p x h = absurd (some_frames f fs (sym at ∙ ok.0))
+  val_by f fs at (inr ok) k n ts tasks y is_y child children t noted val p x h =
+      val_read f fs (subst (FramesOk core ann c.objects i) at ok.0) (subst (FramesFit core ann w i) at k) n ts tasks y is_y child children t noted val p x h
+
+  pub val_reads : (f : Frame) (fs : List Frame) → a.frames ≡ f ∷ fs → (n : ℕ) (ts : List Task) → f.tasks ≡ task.Get n ∷ ts → (y : Node) → slice_get core.nodes n ≡ Some y → (child : ℕ) → y.children ≡ child ∷ []
+      → (t : Ty) → type_of ann child ≡ Some t → t.1 ≡ form.Val → (x : Access) → access core c i ≡ Some x → Frozen w (w.region x.address)
+  val_reads f fs at n ts tasks y is_y child children t noted val x e =
+      let b = bind_some (slice_get c.actors i) _ x e in
+      let g1 = bind_some (slice_get b.0.frames 0) _ x b.2 in
+      let u = bind_some (slice_get g1.0.tasks 0) _ x g1.2 in
+      let p = bind_some (touched_name core u.0) _ x u.2 in
+      let same_actor : b.0 ≡ a = same_Some b.0 a (sym b.1 ∙ is) in
+      let same_frame : g1.0 ≡ f = same_Some g1.0 f (sym g1.1 ∙ ap (λ (z : Actor). slice_get z.frames 0) same_actor ∙ ap (λ (l : List Frame). slice_get l 0) at) in
+      val_by f fs at (typed.actors i a is) (g.actors i a is).1 n ts tasks y is_y child children t noted val p.0 x (subst (λ (z : Frame). access_of core c z p.0 ≡ Some x) same_frame p.2)
 
   frame_access : (f : Frame) (fs : List Frame) → a.frames ≡ f ∷ fs → ActorOk core ann c.objects i a → FramesFit core ann w i a.frames → (t : Task) → slice_get f.tasks 0 ≡ Some t → (n : ℕ × Bool) → touched_name core t ≡ Some n → (x : Access) → access_of core c f n ≡ Some x → AccessOk w i x
   frame_access f fs at (inl ok) k t e n p x h = absurd (some_frames f fs (sym at ∙ ok.0))

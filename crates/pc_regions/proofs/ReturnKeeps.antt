@@ -116,7 +116,7 @@ module _
         top = top;
         opened = λ l up to. s.opened i l (inr to) (k.opened l up to);
         this_fits = this_low w w' i (length gs) at (λ n l f v low e. in_slot (length gs) n l f v (omega arith) low e) (length g.stack) (λ n l f v few low e. on_stack (length gs) n l f v (omega arith) low e) core g.method k.holds.base g.slots base_under k.holds.this_fits;
-        slots_fit = slots_low w w' i (length gs) at (λ n l f v low e. in_slot (length gs) n l f v (omega arith) low e) (length g.stack) (λ n l f v few low e. on_stack (length gs) n l f v (omega arith) low e) core ann g.method k.holds.base (top_of k.way k.call).depth k.holds.live g.slots goal_under k.not_deeper k.holds.slots_fit;
+        slots_fit = slots_low w w' i (length gs) at (λ n l f v low e. in_slot (length gs) n l f v (omega arith) low e) (length g.stack) (λ n l f v few low e. on_stack (length gs) n l f v (omega arith) low e) core ann g.method k.holds.base k.call.depth k.holds.live g.slots (omega arith) k.deep k.holds.slots_fit;
         stack_fit = stack_low w w' i (length gs) at (λ n l f v low e. in_slot (length gs) n l f v (omega arith) low e) (length g.stack) (λ n l f v few low e. on_stack (length gs) n l f v (omega arith) low e) k.holds.base (top_of k.way k.call).depth k.holds.entries g.stack goal_under (omega arith) k.shallow k.holds.stack_fit;
         wait = wait_low core ann w w' i (length gs) at (λ h n l f v low under e. in_slot h n l f v (omega (arith, low)) under e) (λ h n l f v low under e. on_stack h n l f v (omega (arith, low)) under e)
             (λ l n e. s.opened i l (inr n) e) (λ n l up down o. s.low n l up down o) k.holds.base g.method gs (omega arith) base_under rest;
@@ -126,7 +126,7 @@ module _
           → (u : World) × Turned core ann w u i count None objects count (left (Some v) (g ∷ gs))
       comes_back v typed fits alias =
           let up = rise core ann climb objects count i g.method k.holds.base k.call.depth k.holds.live k.holds.entries g.slots g.stack gs w' waits_on k.holds.live k.call.ty v g.tasks (λ n bit. bit) typed fits alias
-          (record { live = k.holds.live; left = λ n bit. bit; way = k.way; climbs = k.climbs; shallow = k.shallow; slots = k.not_deeper; next = k.next }) in (
+          (record { live = k.low; left = k.less; way = k.way; climbs = k.climbs; shallow = k.shallow; slots = k.not_deeper; next = k.next }) in (
             up.0,
             record {
               world = up.1.world;
@@ -457,12 +457,12 @@ module _
           let same : s.tasks.own ≡ x = same_Some s.tasks.own x (sym s.tasks.is_own ∙ s.wait.1) in
           let kind : x.kind ≡ method.Fun = ap (λ (z : Method). z.kind) (sym is_x) ∙ is in
           let res = s.tasks.result (ap (λ (z : Method). z.kind) same ∙ kind) in
-          let es : List Entry = record { ty = Some res.0; depth = 0 } ∷ [] in
+          let es : List Entry = record { ty = Some res.0; depth = 0 } ∷ res.1 in
           let stack : StackFits w around.actor (suc (length gs)) s.active.holds.base es (top.top ∷ top.below) =
-          subst (StackFits w around.actor (suc (length gs)) s.active.holds.base es) top.is (subst (λ (q : List Entry). StackFits w around.actor (suc (length gs)) s.active.holds.base q f.stack) res.1 s.active.holds.stack_fit) in
+          subst (StackFits w around.actor (suc (length gs)) s.active.holds.base es) top.is (subst (λ (q : List Entry). StackFits w around.actor (suc (length gs)) s.active.holds.base q f.stack) res.2 s.active.holds.stack_fit) in
           let alias : TopAlias w around.actor s.active.holds.base es (top.top ∷ top.below) =
-          subst (TopAlias w around.actor s.active.holds.base es) top.is (subst (λ (q : List Entry). TopAlias w around.actor s.active.holds.base q f.stack) res.1 (s.fresh refl)) in
-          let below : is_below res.0.1 x.result.1 ≡ true = subst (λ (z : Method). is_below res.0.1 z.result.1 ≡ true) same res.2.1 in
+          subst (TopAlias w around.actor s.active.holds.base es) top.is (subst (λ (q : List Entry). TopAlias w around.actor s.active.holds.base q f.stack) res.2 (s.fresh refl)) in
+          let below : is_below res.0.1 x.result.1 ≡ true = subst (λ (z : Method). is_below res.0.1 z.result.1 ≡ true) same res.3.1 in
           rw top.is (fun_back x.kind refl kind top.top (length top.below) res.0 below typed
           (subst (λ (l : ℕ). Fits w (OnStack around.actor (suc (length gs)) (length top.below) l) res.0.1 top.top) (base_zero s.active.holds.base) stack.0) alias s.wait.2.entered)
       leave_in method.New is =

@@ -83,10 +83,10 @@ Climbs core (a ∷ way) e = MayAscend core a e × Climbs core way (ascend a e)
 abbrev pub SlotsShallow : CoreData → ℕ → Mask → ℕ → Type 0
 SlotsShallow core m live d = (s : ℕ) (x : Method) (y : Slot) → IsInMask live s → slice_get core.methods m ≡ Some x → slice_get core.slots (x.first_slot + s) ≡ Some y → y.depth ≤ d
 
--- The live slots before and after a node are no deeper than the node.
+-- The live slots before and after a node are no deeper than the node; after a body there is nothing to say.
 abbrev pub LiveShallow : CoreData → Ann → Type 0
 LiveShallow core ann =
-    (n : ℕ) (x : Node) (t : Note) → slice_get core.nodes n ≡ Some x → slice_get ann.notes n ≡ Some t → SlotsShallow core x.method t.live_before x.depth × SlotsShallow core x.method t.live_after x.depth
+    (n : ℕ) (x : Node) (t : Note) → slice_get core.nodes n ≡ Some x → slice_get ann.notes n ≡ Some t → SlotsShallow core x.method t.live_before x.depth × ((x.kind ≡ nodes.Body → ⊥) → SlotsShallow core x.method t.live_after x.depth)
 
 -- What follows value e, which goes its way up, relies on no more than these live slots. When a recover ends, nothing is
 -- left of what was in it.
@@ -219,7 +219,7 @@ pub record ReturnRises (core : CoreData) (m d : ℕ) (g : List Entry) : Type 0 w
   pub own : Method
   pub is_own : slice_get core.methods m ≡ Some own
   pub outer : d ≡ 0
-  pub result : own.kind ≡ method.Fun → (t : Ty) × (g ≡ record { ty = Some t; depth = 0 } ∷ []) × Below core t own.result
+  pub result : own.kind ≡ method.Fun → (t : Ty) × (below : List Entry) × (g ≡ record { ty = Some t; depth = 0 } ∷ below) × Below core t own.result
 
 -- ---- the tasks of a frame of method m, the first at depth d
 

@@ -190,7 +190,7 @@ module _ (settle : SettleLaw) (take : TakeLaw) (core : CoreData) (climb : ClimbL
       let left : g.note.live_after ≡ with_number g.behind.0 z = q.says.live ∙ ap (λ (m : Masks). with_number m.0 z) same in
       let is_slot : slot_of core ann f.method z ≡ Some q.slot = subst (λ (m : ℕ). slot_of core ann m z ≡ Some q.slot) g.own q.is_slot in
       let bit : IsInMask g.note.live_after z = subst (λ (m : Mask). IsInMask m z) (sym left) ((with_number_bits g.behind.0 z z).1 (inl (refl, few z names.1.0.slots names.1.2 (needs.formed.methods g.node.method names.1.0 names.1.1).few_slots))) in
-      let outer : q.slot.0.depth ≤ s.active.depth = subst (λ (d : ℕ). q.slot.0.depth ≤ d) g.depth (slot_depth core ann g.node.method z g.node.depth g.note.live_after q.slot (flat n g.node g.note g.is_node g.is_note).1 bit q.is_slot) in
+      let outer : q.slot.0.depth ≤ s.active.depth = subst (λ (d : ℕ). q.slot.0.depth ≤ d) g.depth (slot_depth core ann g.node.method z g.node.depth g.note.live_after q.slot ((flat n g.node g.note g.is_node g.is_note).1 (λ b. false_true (sym (ap stores b) ∙ g.kind))) bit q.is_slot) in
       let close : (q.slot.0.depth ≡ s.active.depth) ⊎ (sendable q.slot.1.1 ≡ true) = elim near [ inl k ↦ inl (k ∙ g.depth) | inr k ↦ inr k ] in
       let less = (and_parts (is_sub core q.value.0 q.slot.1.0) (fits q.value.1 q.slot.1.1) q.goes).1 in
       let typed : OfSome core around.objects g.note.ty (value_or_none (held (slice_get f.slots z))) = subst (λ (o : Option Ty). OfSome core around.objects o (value_or_none (held (slice_get f.slots z)))) (sym q.says.ty) (old_ok core ann needs around f fs r n me z names q) in

@@ -12,6 +12,7 @@ use Rattle.pc_caps.specs.Tables.{unalias, sendable}
 use Rattle.pc_caps.specs.declared.capability.Cap.{Cap}
 use Rattle.pc_caps.specs.declared.capability.Cap.TheVariants as cap
 use Rattle.pc_caps.specs.declared.capability.Form.{Form}
+use Rattle.pc_caps.specs.declared.capability.Form.TheVariants as form
 use Rattle.pc_core.specs.declared.declarations.Method.{Method}
 use Rattle.pc_core.specs.declared.declarations.MethodKind.{MethodKind}
 use Rattle.pc_core.specs.declared.declarations.MethodKind.TheVariants as method
@@ -34,7 +35,7 @@ use Rattle.pc_types.proofs.Types.{ArgumentsOk}
 use Rattle.pc_types.proofs.Typed.{MessageOk, MailOk, FirstMailOk, WellTyped}
 use Rattle.pc_regions.proofs.World.{Place, InSlot, OnStack, InField, InMail, Standing, Unused, Froze, Opened, Loose, Held, Child, World, home, steady, Fits, Alias, AliasSome, Over, WorldOk}
 use Rattle.pc_regions.proofs.StackForms.{Entry}
-use Rattle.pc_regions.proofs.Fitting.{TopAlias, FramesFit, MailFits, ActorFits, InRegions, HasRegions}
+use Rattle.pc_regions.proofs.Fitting.{TopAlias, FramesFit, MailFits, ActorFits, InRegions, LeadsOn}
 use Rattle.pc_types.proofs.Needs.{Needs}
 use Rattle.pc_types.proofs.Values.{own_no_trait}
 use Rattle.pc_types.proofs.Growth.{object_of}
@@ -259,16 +260,16 @@ module _ (core : CoreData) (ann : Ann) (needs : Needs core ann) (c : Configurati
         ];
   }
 
-  prints : (vs : List Value) → i ≡ 0 → HasRegions core ann (printed_text c (record { mailbox = ms; frames = [] }) vs).1
-  prints [] first = (w, g)
+  prints : (vs : List Value) → i ≡ 0 → LeadsOn core ann w (printed_text c (record { mailbox = ms; frames = [] }) vs).1
+  prints [] first = (w, g, λ b f. f)
   prints (Text x ∷ []) first =
       let k : InRegions core ann w (with_actor c 0 (record { mailbox = ms; frames = [] })) = subst (λ (n : ℕ). InRegions core ann w (with_actor c n (record { mailbox = ms; frames = [] }))) first idle in
-      (w, record { world = k.world; fields = k.fields; actors = k.actors })
-  prints (Num n ∷ vs) first = (w, g)
-  prints (Truth b ∷ vs) first = (w, g)
-  prints (Prim n ∷ vs) first = (w, g)
-  prints (At x ∷ vs) first = (w, g)
-  prints (Text x ∷ v ∷ vs) first = (w, g)
+      (w, record { world = k.world; fields = k.fields; actors = k.actors }, λ b f. f)
+  prints (Num n ∷ vs) first = (w, g, λ b f. f)
+  prints (Truth b ∷ vs) first = (w, g, λ b f. f)
+  prints (Prim n ∷ vs) first = (w, g, λ b f. f)
+  prints (At x ∷ vs) first = (w, g, λ b f. f)
+  prints (Text x ∷ v ∷ vs) first = (w, g, λ b f. f)
 
   -- Another actor begins a method.
   module _ (k : MethodKind) (msg : MessageOk core c.objects i k m) (how : (k ≡ method.Spawn) ⊎ (k ≡ method.Be)) (more : 0 < i) where
@@ -320,7 +321,7 @@ module _ (core : CoreData) (ann : Ann) (needs : Needs core ann) (c : Configurati
           ];
     }
 
-    begins : HasRegions core ann (begin_method c i (record { mailbox = ms; frames = [] }) m (slice_get core.methods m.method)).1
+    begins : LeadsOn core ann w (begin_method c i (record { mailbox = ms; frames = [] }) m (slice_get core.methods m.method)).1
     begins =
         let own = msg.own in
         let o = object_of c.objects (own_address i) own.entity msg.home in
@@ -333,7 +334,7 @@ module _ (core : CoreData) (ann : Ann) (needs : Needs core ann) (c : Configurati
         absurd (omega (arith, more, bad))
         in
         let body = needs.has_body m.method own owner msg.is_own other is_owner (own_no_trait core ann needs c.objects own.entity owner (At (own_address i)) (owner, is_owner, ok.0.placed) msg.home is_owner) in
-        rw (msg.is_own, body.1) (received w i t, goes body.0 body.1 other)
+        rw (msg.is_own, body.1) (received w i t, goes body.0 body.1 other, λ b f. fits_on w i t (InField (own_address i) 0) form.Val (At b) refl f)
 
   -- ---- whichever message it is
 

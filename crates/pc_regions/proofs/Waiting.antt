@@ -130,7 +130,7 @@ module _
             live = k.holds.live;
             entries = k.holds.entries;
             this_fits = this_low w w' j h level slots (length f.stack) stacks core f.method k.holds.base f.slots (omega (arith, at, floor)) k.holds.this_fits;
-            slots_fit = slots_low w w' j h level slots (length f.stack) stacks core ann f.method k.holds.base (top_of k.way k.call).depth k.holds.live f.slots (omega (arith, at, floor, d)) k.not_deeper k.holds.slots_fit;
+            slots_fit = slots_low w w' j h level slots (length f.stack) stacks core ann f.method k.holds.base k.call.depth k.holds.live f.slots (omega (arith, at, floor)) k.deep k.holds.slots_fit;
             stack_fit = stack_low w w' j h level slots (length f.stack) stacks k.holds.base (top_of k.way k.call).depth k.holds.entries f.stack (omega (arith, at, floor, d)) (omega arith) k.shallow k.holds.stack_fit;
           };
           call = k.call;
@@ -140,6 +140,9 @@ module _
           way = k.way;
           climbs = k.climbs;
           shallow = k.shallow;
+          deep = k.deep;
+          low = k.low;
+          less = k.less;
           not_deeper = k.not_deeper;
           next = k.next;
         }

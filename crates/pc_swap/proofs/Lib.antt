@@ -2,3 +2,4 @@ pub mod Orders
 mod Places
 pub mod Telling
 mod Whole
+pub mod Confluence

@@ -128,7 +128,7 @@ module _ (core : CoreData) (c : Configuration) (i j : ℕ) (race : Race core c �
 
 -- ---- after a list
 
-moved_on : (r : Outcome × Configuration) (rest : Configuration → Configuration) (c : Configuration) → r.0 ≡ Moved → followed rest c c r ≡ rest r.1
+pub moved_on : (r : Outcome × Configuration) (rest : Configuration → Configuration) (c : Configuration) → r.0 ≡ Moved → followed rest c c r ≡ rest r.1
 moved_on r rest c e = ap (λ (o : Outcome). followed rest c c (o, r.1)) e
 
 two_steps : (core : CoreData) (c : Configuration) (i j : ℕ) → (step core c i).0 ≡ Moved → (step core (step core c i).1 j).0 ≡ Moved → run_from core c (i ∷ j ∷ []) ≡ (step core (step core c i).1 j).1

@@ -2,3 +2,4 @@ pub mod Apart
 pub mod Swapping
 pub mod Laws
 pub mod Ends
+pub mod Confluence

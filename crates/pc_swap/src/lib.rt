@@ -16,6 +16,6 @@ mod parts;
 mod swapping;
 
 pub use kept::{Kept, SwapFault};
-pub use laws::{kept_are_not_apart, lists_swap, steps_swap};
+pub use laws::{arrivals_decide, kept_are_not_apart, lists_swap, steps_swap};
 pub use parts::apart;
 pub use swapping::swap;

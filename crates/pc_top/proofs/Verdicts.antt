@@ -16,7 +16,10 @@ use Rattle.pc_gen.specs.Generated.{generated_text}
 use Rattle.pc_top.specs.Laws.{TablesTell}
 use Rattle.pc_top.specs.CoreOf.{IsDerivable}
 use Rattle.pc_top.specs.Laws.{DerivableIsSafe}
-use Rattle.pc_top.specs.Laws.{DerivableIsIsolated}
+use Rattle.pc_isolation.specs.ForGood.{ValidKeepsVal}
+use Rattle.pc_guarantees.specs.Laws.{SafeProgresses, ValidIsOwned, ValidReadsVal}
+use Rattle.pc_swap.specs.Confluence.{ArrivalsDecide}
+use Rattle.pc_top.specs.Laws.{DerivableIsIsolated, DerivableIsReliable}
 use Rattle.pc_top.specs.CoresFormed.{CoresAreFormed}
 use Rattle.pc_top.specs.Failures.{NoVerdictIsAFailure}
 use Rattle.pc_top.specs.OnOut.{OnOut, Swaps, Traces}
@@ -113,6 +116,14 @@ derivable_isolated formed apart whole bytes d =
     let ann = d.2.0 in
     let fits = (formed bytes core of_bytes).0 in
     (core, of_bytes, apart core ann fits d.2.1, whole core ann fits d.2.1)
+
+pub derivable_reliable : CoresAreFormed → ValidIsSafe → ValidKeepsVal → ValidReadsVal → ValidIsOwned → SafeProgresses → ArrivalsDecide → DerivableIsReliable
+derivable_reliable formed never keeps reads owned progresses decide = record {
+  frozen = λ bytes d. (d.0, d.1, keeps d.0 d.2.0 (formed bytes d.0 d.1).0 d.2.1, λ ann valid. reads d.0 ann (formed bytes d.0 d.1).0 valid);
+  owned = λ bytes d. (d.0, d.1, owned d.0 d.2.0 (formed bytes d.0 d.1).0 d.2.1);
+  progresses = λ bytes d. (d.0, d.1, progresses d.0 (never d.0 d.2.0 (formed bytes d.0 d.1).0 d.2.1));
+  decided = λ bytes d. (d.0, d.1, decide d.0 (never d.0 d.2.0 (formed bytes d.0 d.1).0 d.2.1));
+}
 
 -- what holds of each derivable source, holds of the one that is accepted
 module _ (Holds : Text → Type 0) (law : (bytes : Text) → IsDerivable bytes → Holds bytes) where

@@ -4,7 +4,7 @@ use Rattle.pc_args.specs.{Line.IsSeed, Line.IsSize, Asked.Asked, Asked.make, Ask
 use Rattle.pc_gen.specs.Generated.{generated_text}
 use Rattle.pc_lists.specs.Lists.{Text}
 use Rattle.pc_refusals.specs.Verdict.{Files, Verdict}
-use Rattle.pc_top.specs.{Commands.FailedOf, Commands.IsVerdictOf, Commands.infers, Commands.source_of, CoreOf.IsDerivable, CoreOf.IsUnderivable, CoreOf.HasSafeCore, IsolatedCore.HasIsolatedCore}
+use Rattle.pc_top.specs.{Commands.FailedOf, Commands.IsVerdictOf, Commands.infers, Commands.source_of, CoreOf.IsDerivable, CoreOf.IsUnderivable, CoreOf.HasSafeCore, Guarantees.HasDecidedCore, Guarantees.HasFrozenCore, Guarantees.HasOwnedCore, Guarantees.HasProgressingCore, IsolatedCore.HasIsolatedCore}
 
 -- The verdict on the words: a status, a text on out and a line on err.
 abbrev pub IsVerdict : Files → List Text → Verdict → Type 0
@@ -42,6 +42,19 @@ IsMadeSafe known words = OfSource HasSafeCore known (command_of words)
 -- The source has a core whose waiting messages are isolated in depth.
 abbrev pub IsMadeIsolated : (Text → Option Text) → List Text → Type 0
 IsMadeIsolated known words = OfSource HasIsolatedCore known (command_of words)
+
+-- The source has a core on which a compiler may rely in this way.
+abbrev pub IsMadeFrozen : (Text → Option Text) → List Text → Type 0
+IsMadeFrozen known words = OfSource HasFrozenCore known (command_of words)
+
+abbrev pub IsMadeOwned : (Text → Option Text) → List Text → Type 0
+IsMadeOwned known words = OfSource HasOwnedCore known (command_of words)
+
+abbrev pub IsMadeProgressing : (Text → Option Text) → List Text → Type 0
+IsMadeProgressing known words = OfSource HasProgressingCore known (command_of words)
+
+abbrev pub IsMadeDecided : (Text → Option Text) → List Text → Type 0
+IsMadeDecided known words = OfSource HasDecidedCore known (command_of words)
 
 -- The command looks for a derivation of the source, which has a core without one.
 abbrev pub HasNoDerivationOf : (Text → Option Text) → Option Asked → Type 0

@@ -9,7 +9,7 @@ use Rattle.pc_lists.specs.Lists.{Text}
 use Rattle.pc_args.specs.Asked.{check, judge, upgrade, command_of}
 use Rattle.pc_refusals.specs.Verdict.{Files, Verdict, done}
 use Rattle.pc_core_commands.specs.{Judge.accepted_text, Sends.NamesAreThere, Sends.TellsEveryRun}
-use Rattle.pc_top.specs.{CoreOf.CoreOf, CoreOf.IsDerivable, CoreOf.HasSafeCore, IsolatedCore.HasIsolatedCore, Asked.IsVerdict, Asked.HasNoDerivation}
+use Rattle.pc_top.specs.{CoreOf.CoreOf, CoreOf.IsDerivable, CoreOf.HasSafeCore, Guarantees.HasDecidedCore, Guarantees.HasFrozenCore, Guarantees.HasOwnedCore, Guarantees.HasProgressingCore, IsolatedCore.HasIsolatedCore, Asked.IsVerdict, Asked.HasNoDerivation}
 
 -- What the table of a source names exists, and it is right about every run, if it is made with a valid annotation of the
 -- source's core.
@@ -25,6 +25,14 @@ DerivableIsSafe = (bytes : List ℕ) → IsDerivable bytes → HasSafeCore bytes
 -- A source whose core has a derivation has a core in which what waits in messages is isolated in depth.
 abbrev pub DerivableIsIsolated : Type 0
 DerivableIsIsolated = (bytes : List ℕ) → IsDerivable bytes → HasIsolatedCore bytes
+
+-- A source whose core has a derivation has a core on which a compiler may rely: what is `val` is immutable for good,
+-- objects have single owners, each actor that has work can step, and arrivals decide where a schedule leads.
+pub record DerivableIsReliable : Type 0 where
+  pub frozen : (bytes : List ℕ) → IsDerivable bytes → HasFrozenCore bytes
+  pub owned : (bytes : List ℕ) → IsDerivable bytes → HasOwnedCore bytes
+  pub progresses : (bytes : List ℕ) → IsDerivable bytes → HasProgressingCore bytes
+  pub decided : (bytes : List ℕ) → IsDerivable bytes → HasDecidedCore bytes
 
 -- With status 1 the command looked for a derivation of the source, which has a core without one.
 abbrev pub RefusedIsUnderivable : Type 0

@@ -1,6 +1,7 @@
 pub mod Asked
 pub mod Commands
 pub mod IsolatedCore
+pub mod Guarantees
 pub mod CoreOf
 pub mod CoresFormed
 pub mod Exact

@@ -1,7 +1,7 @@
 //! What is proved of the verdict. Each call does nothing, and its contract is the law.
 ghost use Rattle.pc_top.specs.Laws.{RefusedIsUnderivable};
 ghost use Rattle.pc_top.specs.Laws.{DerivableIsSafe};
-ghost use Rattle.pc_top.specs.Laws.{DerivableIsIsolated};
+ghost use Rattle.pc_top.specs.Laws.{DerivableIsIsolated, DerivableIsReliable};
 ghost use Rattle.pc_top.specs.CoresFormed.{CoresAreFormed};
 ghost use Rattle.pc_top.specs.Exact.{JudgedAreExact, StatusesAreExact};
 ghost use Rattle.pc_top.specs.Failures.{FailuresAreTold, NoVerdictIsAFailure};
@@ -20,7 +20,8 @@ use pc_elab::cores_are_formed;
 use pc_explain::{accepted_has_none, explanations_are_one};
 use pc_file_spec::cores_are_one;
 use pc_grammar::files_are_read;
-use pc_isolation::{valid_is_isolated, valid_is_passed_whole};
+use pc_guarantees::{safe_progresses, valid_is_owned, valid_reads_val};
+use pc_isolation::{valid_is_isolated, valid_is_passed_whole, valid_keeps_val};
 use pc_judge::{faulted_is_not_valid, one_fault_is_first};
 use pc_lex::{faults_are_told, tokens_are_one};
 use pc_names::names_are_one;
@@ -33,7 +34,7 @@ use pc_sched::turns_are_one;
 use pc_sched_lines::lines_are_one;
 use pc_sends::held_covers;
 use pc_sub::{no_fault_where_declarations_fit, one_declaration_fails_first};
-use pc_swap::kept_are_not_apart;
+use pc_swap::{arrivals_decide, kept_are_not_apart};
 use pc_text_order::tokens_are_in_order;
 use pc_types::accepted_never_lacks;
 
@@ -154,6 +155,21 @@ pub fn derivable_sources_are_isolated()
     cores_of_sources_are_formed();
     valid_is_isolated();
     valid_is_passed_whole();
+}
+
+/// A source whose core has a derivation is one on which a compiler may rely: over every schedule, what is `val` is
+/// immutable for good, objects have single owners, each actor that has work can step, and the order in which messages
+/// arrive in each mailbox decides where a schedule leads.
+pub fn derivable_sources_are_reliable()
+    ensures { DerivableIsReliable }
+{
+    cores_of_sources_are_formed();
+    valid_is_safe();
+    valid_keeps_val();
+    valid_reads_val();
+    valid_is_owned();
+    safe_progresses();
+    arrivals_decide();
 }
 
 /// What `sends` reports of a source is right about every run: over every schedule, each frame is of a method that may

@@ -27,7 +27,7 @@ mod source;
 mod top;
 
 pub use laws::{
-    cores_of_sources_are_formed, derivable_sources_are_isolated, derivable_sources_are_safe,
+    cores_of_sources_are_formed, derivable_sources_are_isolated, derivable_sources_are_reliable, derivable_sources_are_safe,
     failures_are_told, judged_statuses_are_exact, no_verdict_is_a_failure, plays_are_runs,
     refused_sources_have_no_derivation, statuses_are_exact, tables_tell_of_every_run,
     upgraded_derivations_are_accepted, verdict_is_one, written_derivations_are_accepted,

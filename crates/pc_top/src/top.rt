@@ -3,7 +3,7 @@ ghost use Rattle.std.specs.Prelude.{◌≡◌, ◌≤◌};
 ghost use Rattle.pc_lists.specs.Lists.{Text};
 ghost use Rattle.pc_refusals.specs.Verdict.{Answer, Completes, files_change, IsAccepting};
 ghost use Rattle.pc_refusals.specs.Inner.Answering.{EndsCommand};
-ghost use Rattle.pc_top.specs.Asked.{Accepts, FailedIn, IsMadeIsolated, IsMadeSafe, IsVerdict, HasNoDerivation};
+ghost use Rattle.pc_top.specs.Asked.{Accepts, FailedIn, IsMadeDecided, IsMadeFrozen, IsMadeIsolated, IsMadeOwned, IsMadeProgressing, IsMadeSafe, IsVerdict, HasNoDerivation};
 ghost use Rattle.pc_args.specs.Asked.{command_of, texts};
 ghost use Rattle.pc_io.specs.Sink.{change};
 ghost use Rattle.pc_top.specs.Inner.Asking.{AsksSo};
@@ -12,7 +12,7 @@ ghost use Rattle.pc_top.specs.Referee.{Asks};
 
 use crate::commands::run_command;
 use crate::laws::{
-    derivable_sources_are_isolated, derivable_sources_are_safe, refused_sources_have_no_derivation,
+    derivable_sources_are_isolated, derivable_sources_are_reliable, derivable_sources_are_safe, refused_sources_have_no_derivation,
     tables_tell_of_every_run,
 };
 use pc_args::{WordsFault, read_words};
@@ -74,6 +74,28 @@ pub fn rcap<F: Files, O: Sink, E: Sink, R: Referee>(
     // taken, which hands all of it over.
     ensures isolated { IsAccepting result → IsMadeIsolated (F.bytes files.old) (texts words.now) }
 
+    // What is `val` is immutable for good. After every list of actors, an object to which fields that are not `tag`
+    // lead from a waiting `val` argument, from a field declared `val`, or from `this` of a method with receiver `val`
+    // that has begun, is written by no later step, and each of its fields holds for good what it holds. So does an
+    // object that a step reads through an expression that a derivation of the core notes as `val`.
+    ensures frozen { IsAccepting result → IsMadeFrozen (F.bytes files.old) (texts words.now) }
+
+    // Objects have single owners. After every list of actors, what fields declared `iso`, `trn` or `ref` lead to from
+    // an actor's own object, from `this` of a method with receiver `ref` that has begun, or from an object that the
+    // actor is about to write, is touched by no other actor and shown by no waiting message; while only others step,
+    // what the actor's own object leads to is unchanged. Whatever a step touches is touched by no other actor, or is
+    // only read and immutable for good. An object that two actors touch, and one of them writes, was handed over
+    // between them by messages.
+    ensures owned { IsAccepting result → IsMadeOwned (F.bytes files.old) (texts words.now) }
+
+    // No actor is stuck, and none waits for another: each is idle without a message, or takes its next step (or that
+    // step would make a text that is too long). If all are idle, nothing changes any more.
+    ensures progresses { IsAccepting result → IsMadeProgressing (F.bytes files.old) (texts words.now) }
+
+    // Two schedules with as many steps of each actor, in which each mailbox gets its messages from the same senders in
+    // the same order, lead to the same configuration.
+    ensures decided { IsAccepting result → IsMadeDecided (F.bytes files.old) (texts words.now) }
+
     // A source or a generated program that is refused with status 1 has a core, and the core has no derivation.
     ensures refused { result ≡ 1 → HasNoDerivation (F.bytes files.old) (texts words.now) }
 
@@ -112,6 +134,7 @@ pub fn rcap<F: Files, O: Sink, E: Sink, R: Referee>(
     refused_sources_have_no_derivation();
     derivable_sources_are_safe();
     derivable_sources_are_isolated();
+    derivable_sources_are_reliable();
     tables_tell_of_every_run();
     let ended = run_words(alloc, words, files, out, referee);
     finish(alloc, ended, err)

@@ -4,6 +4,7 @@ use Rattle.pc_refusals.specs.Verdict.{files_change}
 use Rattle.pc_refusals.proofs.Answers.{answer_of, completes}
 use Rattle.pc_top.specs.Asked.{IsVerdict, FailedIn}
 use Rattle.pc_top.specs.CoreOf.{HasSafeCore}
+use Rattle.pc_top.specs.Guarantees.{HasDecidedCore, HasFrozenCore, HasOwnedCore, HasProgressingCore}
 use Rattle.pc_top.specs.IsolatedCore.{HasIsolatedCore}
 use Rattle.pc_top.proofs.Asking.{asks_answer}
 use Rattle.pc_top.proofs.Verdicts.{accepted_holds, answer_accepts, answer_refuses, answer_swaps, answer_traces, answer_writes}
@@ -31,6 +32,22 @@ returns-clause-safe g c e =
 pub returns-clause-isolated : goal.returns-clause-isolated
 returns-clause-isolated g c e =
     accepted_holds HasIsolatedCore c.derivable_sources_are_isolated.ensures (g.F.Files.bytes c.args.files.now) (texts c.args.words.now) (returns-clause-accepted g c e)
+
+pub returns-clause-frozen : goal.returns-clause-frozen
+returns-clause-frozen g c e =
+    accepted_holds HasFrozenCore c.derivable_sources_are_reliable.ensures.frozen (g.F.Files.bytes c.args.files.now) (texts c.args.words.now) (returns-clause-accepted g c e)
+
+pub returns-clause-owned : goal.returns-clause-owned
+returns-clause-owned g c e =
+    accepted_holds HasOwnedCore c.derivable_sources_are_reliable.ensures.owned (g.F.Files.bytes c.args.files.now) (texts c.args.words.now) (returns-clause-accepted g c e)
+
+pub returns-clause-progresses : goal.returns-clause-progresses
+returns-clause-progresses g c e =
+    accepted_holds HasProgressingCore c.derivable_sources_are_reliable.ensures.progresses (g.F.Files.bytes c.args.files.now) (texts c.args.words.now) (returns-clause-accepted g c e)
+
+pub returns-clause-decided : goal.returns-clause-decided
+returns-clause-decided g c e =
+    accepted_holds HasDecidedCore c.derivable_sources_are_reliable.ensures.decided (g.F.Files.bytes c.args.files.now) (texts c.args.words.now) (returns-clause-accepted g c e)
 
 pub returns-clause-completes : goal.returns-clause-completes
 returns-clause-completes g c =
